@@ -1,0 +1,4 @@
+pub mod Tests
+pub mod Each
+pub mod Members
+pub mod Parts

@@ -1,0 +1,130 @@
+-- How a proof takes a test, a list of tests and a decision list apart.
+-- By cases on the tests.
+use mathlib.Core.Bool.{Bool, true, false, _&&_, _||_, not, cond, true≢false, false≢true}
+use mathlib.Core.List.{List, [], _∷_}
+use mathlib.Core.Path.{_≡_, refl, sym, subst}
+use Prim.Native.Nat.{ℕ, zero, suc, _<_}
+use native.Mathlib.Decide.{ℕ-discrete}
+use native.Mathlib.Omega.{arith}
+use lib.Dec.{T}
+use Rattle.lists.specs.Lists.{Each}
+use Rattle.lists.specs.Decide.{allOf, forBelow, implies, select}
+
+pub to-T : (b : Bool) → b ≡ true → T b
+to-T true p = tt
+to-T false p = absurd (false≢true p)
+
+pub of-T : (b : Bool) → T b → b ≡ true
+of-T true t = refl
+of-T false t = absurd t
+
+pub of-not : (b : Bool) → T (not b) → b ≡ false
+of-not true t = absurd t
+of-not false t = refl
+
+pub not-not : (b : Bool) → T (not (not b)) → T b
+not-not true t = tt
+not-not false t = t
+
+-- two tests that imply each other are equal
+pub test-eq : (a b : Bool) → (T a → T b) → (T b → T a) → a ≡ b
+test-eq true true f g = refl
+test-eq true false f g = absurd (f tt)
+test-eq false true f g = absurd (g tt)
+test-eq false false f g = refl
+
+pub and-left : (a b : Bool) → T (a && b) → T a
+and-left true b t = tt
+and-left false b t = t
+
+pub and-right : (a b : Bool) → T (a && b) → T b
+and-right true b t = t
+and-right false b t = absurd t
+
+pub both : (a b : Bool) → T a → T b → T (a && b)
+both true b s t = t
+both false b s t = s
+
+pub and-true : (a : Bool) → a && true ≡ a
+and-true true = refl
+and-true false = refl
+
+pub and-assoc : (a b c : Bool) → a && b && c ≡ a && (b && c)
+and-assoc true b c = refl
+and-assoc false b c = refl
+
+pub or-left : (a b : Bool) → T a → T (a || b)
+or-left true b t = tt
+or-left false b t = absurd t
+
+pub or-right : (a b : Bool) → T b → T (a || b)
+or-right true b t = tt
+or-right false b t = t
+
+pub or-cases : {X : Type 0} (a b : Bool) → T (a || b) → (T a → X) → (T b → X) → X
+or-cases true b t f g = f tt
+or-cases false b t f g = g t
+
+-- of a disjunction that fails, both parts fail
+pub or-none : (a b : Bool) → T (not (a || b)) → T (not a) × T (not b)
+or-none true b t = absurd t
+or-none false b t = (tt, t)
+
+-- a test's two cases, with its value in the goal, and without
+pub either : (P : Bool → Type 0) (b : Bool) → (T b → P true) → (T (not b) → P false) → P b
+either P true p q = p tt
+either P false p q = q tt
+
+pub split : {X : Type 0} (b : Bool) → (T b → X) → (T (not b) → X) → X
+split true p q = p tt
+split false p q = q tt
+
+pub of-cond : {A : Type 0} (P : A → Type 0) (b : Bool) (x y : A) → (T b → P x) → (T (not b) → P y) → P (cond b x y)
+of-cond P true x y p q = p tt
+of-cond P false x y p q = q tt
+
+pub implied : (a b : Bool) → T (implies a b) → T a → T b
+implied true b t s = t
+implied false b t s = absurd s
+
+pub to-implies : (a b : Bool) → (T a → T b) → T (implies a b)
+to-implies true b f = f tt
+to-implies false b f = tt
+
+pub holds : (bs : List Bool) → T (allOf bs) → Each T bs
+unfolding allOf
+holds [] t = tt
+holds (b ∷ bs) t = (and-left b (allOf bs) t, holds bs (and-right b (allOf bs) t))
+
+pub to-allOf : (bs : List Bool) → Each T bs → T (allOf bs)
+unfolding allOf
+to-allOf [] t = tt
+to-allOf (b ∷ bs) t = both b (allOf bs) (t .0) (to-allOf bs (t .1))
+
+pub below : (n : ℕ) (p : ℕ → Bool) → T (forBelow n p) → (k : ℕ) → k < n → T (p k)
+unfolding forBelow
+below zero p t k h = absurd (omega arith)
+below (suc n) p t k h =
+    elim (ℕ-discrete k n) [
+      | yes e ↦ subst (λ m. T (p m)) (sym e) (and-right (forBelow n p) (p n) t)
+      | no d ↦ below n p (and-left (forBelow n p) (p n) t) k (omega arith)
+    ]
+
+pub to-below : (n : ℕ) (p : ℕ → Bool) → ((k : ℕ) → k < n → T (p k)) → T (forBelow n p)
+unfolding forBelow
+to-below zero p f = tt
+to-below (suc n) p f = both (forBelow n p) (p n) (to-below n p (λ k h. f k (omega arith))) (f n (omega arith))
+
+-- to show P of a decision list's value, show it of each value under its test and the failed tests before it
+abbrev pub Cases : {A : Type 0} → (A → Type 0) → List (Bool × A) → A → Type 0
+Cases P [] a = P a
+Cases P (c ∷ cs) a = (T (c .0) → P (c .1)) × (T (not (c .0)) → Cases P cs a)
+
+at-test : {A : Type 0} (P : A → Type 0) (b : Bool) (x y : A) → (T b → P x) → (T (not b) → P y) → P (elim b [ true ↦ x | false ↦ y ])
+at-test P true x y p q = p tt
+at-test P false x y p q = q tt
+
+pub by-cases : {A : Type 0} (P : A → Type 0) (cs : List (Bool × A)) (a : A) → Cases P cs a → P (select cs a)
+unfolding select
+by-cases P [] a h = h
+by-cases P (c ∷ cs) a h = at-test P (c .0) (c .1) (select cs a) (h .0) (λ t. by-cases P cs a (h .1 t))

@@ -1,0 +1,1 @@
+// Definitions and laws on lists and numbers; no code of its own.

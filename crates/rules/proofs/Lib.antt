@@ -1,0 +1,4 @@
+pub mod Opened
+pub mod Shape
+pub mod Prefix
+pub mod Refusal

@@ -1,0 +1,69 @@
+-- "Table records": a table of rules as data.
+use mathlib.Core.Bool.{Bool, true, false, _&&_, cond}
+use mathlib.Core.List.{List, [], _∷_, _++_}
+use mathlib.Core.Option.{Option, none, some}
+use Prim.Native.Nat.{ℕ, _<_}
+use lib.Dec.{leb, eqb}
+use lib.IntN.{ℤ}
+use lib.ListN.{length, getD}
+use Rattle.lists.specs.Lists.{any, Each, greatest, orElse, optional}
+
+-- "A character is a number 0 to 65535"
+abbrev pub Characters : List ℕ → Type 0
+Characters u = Each (λ c. c < 65536) u
+
+-- the characters from lowest to highest
+pub record Range : Type 0 where
+  pub lowest : ℕ
+  pub highest : ℕ
+
+-- An output character: the sum of a constant and, for each position from 0, a coefficient (0 where no term names the position) times the
+-- character there.
+pub data Output : Type 0 where
+  sum : ℤ → List ℤ → Output
+
+-- a rule or the default: its length K, whether it is anchored, the ranges of each position, its output characters
+pub record Group : Type 0 where
+  pub size : ℕ
+  pub anchored : Bool
+  pub ranges : List (List Range)
+  pub outputs : List Output
+
+pub record Table : Type 0 where
+  pub rules : List Group
+  pub default : Option Group
+
+-- the character lies in the ranges
+abbrev pub within : ℕ → Range → Bool
+within c r = leb (r .lowest) c && leb c (r .highest)
+
+abbrev pub inRanges : List Range → ℕ → Bool
+inRanges rs c = any (within c) rs
+
+-- "default: acts as a group with K = 1 whose position 0 takes every character"
+abbrev pub everyCharacter : List Output → Group
+everyCharacter os = record { size = 1; anchored = false; ranges = (record { lowest = 0; highest = 65535 } ∷ []) ∷ []; outputs = os }
+
+-- the rules, then the default
+abbrev pub groups : Table → List Group
+groups t = t .rules ++ optional (t .default)
+
+-- rules are numbered from 0
+abbrev pub ruleAt : Table → ℕ → Group
+ruleAt t r = getD (t .rules) r (everyCharacter [])
+
+-- the default's number, above those of the 32 rules that there may be
+abbrev pub defaultNumber : ℕ
+defaultNumber = 32
+
+-- the group of a number
+unfoldable pub group : Table → ℕ → Group
+group t n = cond (eqb n defaultNumber) (orElse (everyCharacter []) (t .default)) (ruleAt t n)
+
+-- L, "the greatest K of the rules"
+unfoldable pub longest : Table → ℕ
+longest t = greatest (λ g. g .size) (t .rules)
+
+-- E, "the greatest number of output characters in a group, default included"
+unfoldable pub expansion : Table → ℕ
+expansion t = greatest (λ g. length (g .outputs)) (groups t)

@@ -1,0 +1,1 @@
+// The definitions are in specs/, their laws in proofs/.
