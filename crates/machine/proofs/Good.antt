@@ -10,6 +10,7 @@ use lib.ListN.{length, getD}
 use Rattle.lists.specs.Lists.{Each}
 use Rattle.rules.specs.Table.{Characters, Table, ruleAt, defaultNumber, longest}
 use Rattle.rules.proofs.Prefix.{fitsPrefix}
+use Rattle.machine.specs.Classes.{starts, classOf}
 use Rattle.machine.specs.States.{State, initial, acceptOf, acceptAtEndOf, states, targetOf}
 use Rattle.machine.specs.Automaton.{Automaton}
 
@@ -91,3 +92,10 @@ pub record Numbered (t : Table) : Type 0 where
       stateAt t (targetOf t (states t) (stateAt t s) c) .depth ≡ suc (stateAt t s .depth)
   pub later : (s c : ℕ) → s < length (states t) → targetOf t (states t) (stateAt t s) c ≢ 0 → s < targetOf t (states t) (stateAt t s) c
   pub no-way-on : (s c : ℕ) → acceptOf t (stateAt t s) ≢ 0 → targetOf t (states t) (stateAt t s) c ≡ 0
+
+-- what the class starts of a table are
+pub record Classed (t : Table) : Type 0 where
+  pub some-start : 0 < length (starts t)
+  pub first : getD (starts t) 0 0 ≡ 0
+  pub rising : (k : ℕ) → suc k < length (starts t) → getD (starts t) k 0 < getD (starts t) (suc k) 0
+  pub class-below : (c : ℕ) → classOf (starts t) c < length (starts t)
