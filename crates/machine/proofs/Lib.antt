@@ -1,2 +1,14 @@
 pub mod Opened
 pub mod Good
+pub mod Classes
+pub mod Sets
+pub mod Levels
+pub mod States
+pub mod Places
+pub mod Blocks
+pub mod Alike
+pub mod Write
+pub mod Words
+pub mod Sound
+pub mod Compile
+pub mod Compiled

@@ -1,4 +1,10 @@
 pub mod Opened
+pub mod Refusal
 pub mod Shape
 pub mod Prefix
-pub mod Refusal
+pub mod Seven
+pub mod Reading
+pub mod Length
+pub mod Choice
+pub mod Exact
+pub mod Direct

@@ -3,9 +3,9 @@ use Rattle.lists.specs.Lists.{pad}
 use Rattle.lists.specs.Decide.{select, allOf, forBelow}
 use Rattle.rules.specs.Refusal.{andThen}
 use Rattle.rules.specs.Table.{group, longest, expansion}
-use Rattle.rules.specs.Record.{signed, decode}
+use Rattle.rules.specs.Record.{decode}
 use Rattle.rules.specs.Value.{dot, value, fitsWord, lowestOf, highestOf, extreme, safeOutput, safe}
-use Rattle.rules.specs.Reader.{latest, latestReach, unfilled, misplaced, skipping, tooMany, changeLatest, taken, readOne, readRecords, readEnd, unread, readRules, readTable}
+use Rattle.rules.specs.Reader.{signed, latest, latestReach, unfilled, misplaced, skipping, tooMany, changeLatest, taken, readOne, readRecords, readEnd, unread, readRules, readTable}
 use Rattle.rules.specs.Meaning.{fits, best, choose, written, textOf, covered, convertFrom, convert}
 use Rattle.rules.specs.Block.{word, entry, block, wordSum, blockOutput}
 use Rattle.rules.specs.Samples.{characters, t1With, t1, t2, t3With, t3, defaultOf}

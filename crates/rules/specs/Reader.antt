@@ -2,9 +2,9 @@
 use mathlib.Core.Bool.{Bool, false, _&&_, _||_, not, cond}
 use mathlib.Core.List.{List, [], _∷_, _++_}
 use mathlib.Core.Option.{Option, none, some}
-use Prim.Native.Nat.{ℕ, zero, suc, _-_, _%_, _/_}
+use Prim.Native.Nat.{ℕ, zero, suc, _-_, _%_, _/_, _^_}
 use lib.Dec.{eqb, leb, ltb}
-use lib.IntN.{ℤ, pos}
+use lib.IntN.{ℤ, pos, subℕ}
 use lib.ListN.{length, take, drop, replicate}
 use Rattle.lists.specs.Lists.{atLast, lastD, isSome, orElse}
 use Rattle.lists.specs.Decide.{select}
@@ -78,6 +78,10 @@ changeLatest f t =
 abbrev pub addRange : ℕ → Range → List (List Range) → List (List Range)
 addRange p r ps = cond (eqb p (length ps)) (ps ++ ((r ∷ []) ∷ [])) (atLast (λ rs. rs ++ (r ∷ [])) ps)
 
+-- "signed ones two's complement": x, read as a number of n bits
+unfoldable pub signed : ℕ → ℕ → ℤ
+signed n x = cond (ltb x (2 ^ (n - 1))) (pos x) (subℕ x (2 ^ n))
+
 abbrev pub addTerm : ℕ → ℤ → Output → Output
 addTerm p a (sum c ks) = sum c (ks ++ replicate (p - length ks) (pos 0) ++ (a ∷ []))
 
@@ -93,8 +97,8 @@ taken s (rule k a) =
     let g : Group = record { size = k; anchored = a; ranges = []; outputs = [] } in
     record { table = record { rules = s .table .rules ++ (g ∷ []); default = none }; kind = 1 }
 taken s (range p r) = record { table = changeLatest (changeRanges (addRange p r)) (s .table); kind = 2 }
-taken s (output c) = record { table = changeLatest (changeOutputs (λ os. os ++ (sum c [] ∷ []))) (s .table); kind = 3 }
-taken s (term p a) = record { table = changeLatest (changeOutputs (atLast (addTerm p a))) (s .table); kind = 4 }
+taken s (output c) = record { table = changeLatest (changeOutputs (λ os. os ++ (sum (signed 32 c) [] ∷ []))) (s .table); kind = 3 }
+taken s (term p a) = record { table = changeLatest (changeOutputs (atLast (addTerm p (signed 16 a)))) (s .table); kind = 4 }
 taken s default = record { table = record { rules = s .table .rules; default = some (everyCharacter []) }; kind = 5 }
 
 -- one record, "each by 2, 3, 4, 6"

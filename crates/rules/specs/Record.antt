@@ -1,25 +1,22 @@
 -- "Table records": the record that eight bytes hold, and refusal 2.
-use mathlib.Core.Bool.{Bool, cond}
+use mathlib.Core.Bool.{Bool}
 use mathlib.Core.List.{List, [], _∷_}
 use mathlib.Core.Option.{Option, none, some}
-use Prim.Native.Nat.{ℕ, _+_, _*_, _-_, _^_}
-use lib.Dec.{eqb, leb, ltb}
-use lib.IntN.{ℤ, pos, subℕ}
+use Prim.Native.Nat.{ℕ, _+_, _*_}
+use lib.Dec.{eqb, leb}
 use lib.ListN.{getD, drop}
 use Rattle.lists.specs.Lists.{all}
 use Rattle.lists.specs.Decide.{allOf, select}
 use Rattle.rules.specs.Table.{Range}
 
+-- a rule's K and whether it is anchored; a range's position; an output character's constant, 32 bits; a term's position and coefficient,
+-- 16 bits; the default
 pub data Record : Type 0 where
   rule : ℕ → Bool → Record
   range : ℕ → Range → Record
-  output : ℤ → Record
-  term : ℕ → ℤ → Record
+  output : ℕ → Record
+  term : ℕ → ℕ → Record
   default : Record
-
--- "signed ones two's complement": x, read as a number of n bits
-unfoldable pub signed : ℕ → ℕ → ℤ
-signed n x = cond (ltb x (2 ^ (n - 1))) (pos x) (subℕ x (2 ^ n))
 
 -- "Bytes not named are zero"
 abbrev pub zeros : List ℕ → Bool
@@ -36,7 +33,7 @@ decode b =
     select (
     (allOf (eqb kind 1 ∷ leb 1 p ∷ leb p 8 ∷ leb (byte 2) 1 ∷ zeros (drop 3 b) ∷ []), some (rule p (eqb (byte 2) 1)))
     ∷ (allOf (eqb kind 2 ∷ leb p 7 ∷ zeros (byte 2 ∷ byte 3 ∷ []) ∷ leb lo hi ∷ []), some (range p (record { lowest = lo; highest = hi })))
-    ∷ (allOf (eqb kind 3 ∷ zeros (p ∷ byte 2 ∷ byte 3 ∷ []) ∷ []), some (output (signed 32 (lo + 65536 * hi))))
-    ∷ (allOf (eqb kind 4 ∷ leb p 7 ∷ zeros (byte 2 ∷ byte 3 ∷ hi ∷ []) ∷ leb 1 lo ∷ []), some (term p (signed 16 lo)))
+    ∷ (allOf (eqb kind 3 ∷ zeros (p ∷ byte 2 ∷ byte 3 ∷ []) ∷ []), some (output (lo + 65536 * hi)))
+    ∷ (allOf (eqb kind 4 ∷ leb p 7 ∷ zeros (byte 2 ∷ byte 3 ∷ hi ∷ []) ∷ leb 1 lo ∷ []), some (term p lo))
     ∷ (allOf (eqb kind 5 ∷ zeros (drop 1 b) ∷ []), some default)
     ∷ []) none

@@ -17,7 +17,7 @@ use Rattle.machine.specs.Claims.{KeepsCompiling}
 use Rattle.session.specs.Machine.{Status, Open, Closed, Stopped, Ended}
 use Rattle.session.specs.Session.{Session, consumed}
 use Rattle.session.specs.Calls.{Answer, CallOutcome, receivedBy}
-use Rattle.session.specs.Reckoning.{Call, piece, called, Served, unserved, serve, Input, noInput, ran, reckon}
+use Rattle.session.specs.Reckoning.{Call, piece, bufferOf, called, acceptedPieces, Served, unserved, serve, Input, noInput, ran, reckon}
 
 abbrev pub isStopped : Status → Bool
 isStopped Open = false
@@ -28,10 +28,12 @@ isStopped Stopped = true
 abbrev pub ranText : Table → Ended → List ℕ
 ranText t r = textOf (fromTable t .write) (r .final .log)
 
--- Demand 3: v is what the calls answered, wrote and left, i is the reckoning's input, r the plain machine's run over it.
-pub record Agrees (t : Table) (v : Served) (i : Input) (r : Ended) : Type 0 where
+-- Demand 3: v is what the calls cs answered, wrote and left, i is the reckoning's input, r the plain machine's run over it.
+pub record Agrees (t : Table) (cs : List Call) (v : Served) (i : Input) (r : Ended) : Type 0 where
   -- "Each call is accepted, or refused with its number, exactly as document 01 reckons."
   pub verdicts : v .verdicts ≡ i .verdicts
+  -- "The accepted pieces joined are the input, of n characters."
+  pub input : i .characters ≡ acceptedPieces cs (v .verdicts)
   -- "After the list the joined outputs, the session and the steps counted are those reckoned there by the plain machine on the whole input."
   pub output : v .output ≡ ranText t r
   pub status : v .session .status ≡ r .status
@@ -66,10 +68,15 @@ Demand3 =
     (cs : List Call) → Each (λ c. Characters (piece c)) cs →
     let w = compile b buffer .words in
     let i = reckon t cs noInput in
-    Agrees t (serve w cs unserved) i (ran t (i .characters) (i .ended))
+    Agrees t cs (serve w cs unserved) i (ran t (i .characters) (i .ended))
 
--- Demand 1 for feed and finish.
-pub record CallAnswers (w : List ℕ) (s : Session) (c : Call) (buffer : List ℕ) (o : CallOutcome) : Type 0 where
+-- Demand 1 for a feed or finish that found the session s and the buffer, and came to o: "an accepted answer or one of the numbered
+-- refusals"; "every other refusal changes nothing. Words beyond those written stay as found."
+pub record CallAnswers (s : Session) (buffer : List ℕ) (o : CallOutcome) : Type 0 where
   pub numbered : RefusedBy (11 ∷ 12 ∷ 13 ∷ 14 ∷ 15 ∷ []) (o .answer)
   pub unchanged : (n : ℕ) → o .answer ≡ refused n → (o .session ≡ s) × (o .output ≡ buffer)
   pub beyond : (a : Answer) → o .answer ≡ accepted a → drop (a .count) (o .output) ≡ drop (a .count) buffer
+  pub whole : length (o .output) ≡ length buffer
+
+unfoldable pub CallsAnswer : Type 0
+CallsAnswer = (w : List ℕ) (s : Session) (c : Call) → CallAnswers s (bufferOf c) (called w s c)

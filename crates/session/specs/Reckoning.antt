@@ -1,8 +1,8 @@
 -- "Demand 3 is a single claim about the whole list": a list of calls in turn, and the reckoning from the table and the calls alone.
-use mathlib.Core.Bool.{Bool, true, false, not}
+use mathlib.Core.Bool.{Bool, true, false, not, cond}
 use mathlib.Core.List.{List, [], _∷_, _++_}
 use Prim.Native.Nat.{ℕ, _+_, _*_}
-use lib.Dec.{ltb}
+use lib.Dec.{eqb, ltb}
 use lib.ListN.{length, take}
 use Rattle.lists.specs.Decide.{select}
 use Rattle.rules.specs.Refusal.{Outcome, refused, accepted}
@@ -22,9 +22,12 @@ abbrev pub piece : Call → List ℕ
 piece (ofFeed p buffer) = p
 piece (ofFinish buffer) = []
 
+abbrev pub bufferOf : Call → List ℕ
+bufferOf (ofFeed p buffer) = buffer
+bufferOf (ofFinish buffer) = buffer
+
 abbrev pub room : Call → ℕ
-room (ofFeed p buffer) = length buffer
-room (ofFinish buffer) = length buffer
+room c = length (bufferOf c)
 
 abbrev pub ends : Call → Bool
 ends (ofFeed p buffer) = false
@@ -65,6 +68,12 @@ serveCall w v c =
 unfoldable pub serve : List ℕ → List Call → Served → Served
 serve w [] v = v
 serve w (c ∷ cs) v = serve w cs (serveCall w v c)
+
+-- "The accepted pieces joined": of the calls whose verdict is 0
+abbrev pub acceptedPieces : List Call → List ℕ → List ℕ
+acceptedPieces [] vs = []
+acceptedPieces (c ∷ cs) [] = []
+acceptedPieces (c ∷ cs) (v ∷ vs) = cond (eqb v 0) (piece c) [] ++ acceptedPieces cs vs
 
 -- The reckoning: the calls' refusals, the input so far, and whether it has its end.
 pub record Input : Type 0 where
