@@ -1,0 +1,35 @@
+//! Refusals 14 and 15, which look at lengths alone.
+
+use crate::refusal::Refusal;
+
+/// The most characters that may be received: 1,099,511,627,776.
+pub const MAX_RECEIVED: u64 = 1_099_511_627_776;
+
+/// The lengths that refusals 14 and 15 compare.
+#[derive(Clone, Copy, Debug)]
+pub struct Lengths {
+    /// Characters received before the call.
+    pub received: u64,
+    /// Characters held before the call.
+    pub held: u64,
+    /// Characters of the piece; none for a finish.
+    pub piece: u64,
+    /// Places of the output buffer.
+    pub output: u64,
+}
+
+impl Lengths {
+    /// 14 for received plus piece above the limit, then 15 for an output
+    /// shorter than E times (held + piece).
+    pub fn refusal(&self, most_outputs: usize) -> Option<Refusal> {
+        let received = u128::from(self.received) + u128::from(self.piece);
+        let unread = u128::from(self.held) + u128::from(self.piece);
+        if received > u128::from(MAX_RECEIVED) {
+            Some(Refusal::TooLong)
+        } else if u128::from(self.output) < most_outputs as u128 * unread {
+            Some(Refusal::ShortOutput)
+        } else {
+            None
+        }
+    }
+}

@@ -1,0 +1,38 @@
+//! An independent version of the rollback converter, written from document 01
+//! alone, for comparison with the definitions and the code of the project.
+//!
+//! The modules in document 01's order:
+//!
+//! - [`table`]: records, and the reader that refuses by 1 to 7
+//! - [`meaning`]: exact values, and Definition 7
+//! - [`classes`], [`states`]: what a machine is made of
+//! - [`automaton`]: the interface between the machine and where its states are kept
+//! - [`words`]: the layout of the machine words and their soundness
+//! - [`machine`]: the plain machine, one counted step at a time
+//! - [`session`]: sessions, feed and finish
+//! - [`reckoning`]: what a list of calls must give, from the table and the calls alone
+//! - [`direct`], [`compile`]: direct conversion and compiling
+//! - [`refusal`], [`lengths`]: the refusals, and the two that look at lengths alone
+//!
+//! For tests and comparisons: [`builder`] writes tables, [`random`] draws
+//! numbers from a seed, [`samples`] has the example tables and random ones.
+
+#![forbid(unsafe_code)]
+#![warn(missing_docs)]
+
+pub mod automaton;
+pub mod builder;
+pub mod classes;
+pub mod compile;
+pub mod direct;
+pub mod lengths;
+pub mod machine;
+pub mod meaning;
+pub mod random;
+pub mod reckoning;
+pub mod refusal;
+pub mod samples;
+pub mod session;
+pub mod states;
+pub mod table;
+pub mod words;

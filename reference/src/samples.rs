@@ -1,0 +1,264 @@
+//! The example tables of document 01, and random tables and inputs.
+
+use crate::builder::TableBuilder;
+use crate::random::Random;
+use crate::table::{Group, Output, Range, Table, Term, MAX_OUTPUTS, MAX_RANGES, MAX_RULES};
+
+/// T1: `&#00;` writes itself; `&#`, two digits, `;` writes 10 × x2 + x3 - 528;
+/// anchored `&#` writes itself; default writes x0.
+pub fn t1() -> Vec<u8> {
+    t1_with(-528)
+}
+
+/// T1 with another constant for -528.
+pub fn t1_with(constant: i32) -> Vec<u8> {
+    let (zero, nine) = (u16::from(b'0'), u16::from(b'9'));
+    TableBuilder::new()
+        .rule(5)
+        .spelled(0, "&#00;")
+        .text("&#00;")
+        .rule(5)
+        .spelled(0, "&#")
+        .range(2, zero, nine)
+        .range(3, zero, nine)
+        .spelled(4, ";")
+        .output(constant)
+        .term(2, 10)
+        .term(3, 1)
+        .anchored(2)
+        .spelled(0, "&#")
+        .text("&#")
+        .copying_default()
+        .bytes()
+}
+
+/// T2: anchored `a` writes X, `a` writes Y, no default.
+pub fn t2() -> Vec<u8> {
+    TableBuilder::new()
+        .anchored(1)
+        .spelled(0, "a")
+        .text("X")
+        .rule(1)
+        .spelled(0, "a")
+        .text("Y")
+        .bytes()
+}
+
+/// T3: `ab` writes 1, `aba` writes 2, default x0.
+pub fn t3() -> Vec<u8> {
+    t3_with_default(0, 1)
+}
+
+/// T3 with a constant plus a coefficient times x0 for its default.
+pub fn t3_with_default(constant: i32, coefficient: i16) -> Vec<u8> {
+    TableBuilder::new()
+        .rule(2)
+        .spelled(0, "ab")
+        .text("1")
+        .rule(3)
+        .spelled(0, "aba")
+        .text("2")
+        .default_group()
+        .output(constant)
+        .term(0, coefficient)
+        .bytes()
+}
+
+/// A small table with every sort of state but T2's: anchored `a` writes X, `aa`
+/// writes Y, anchored `ab` writes Z, default x0.
+pub fn lookahead() -> Vec<u8> {
+    TableBuilder::new()
+        .anchored(1)
+        .spelled(0, "a")
+        .text("X")
+        .rule(2)
+        .spelled(0, "aa")
+        .text("Y")
+        .anchored(2)
+        .spelled(0, "ab")
+        .text("Z")
+        .copying_default()
+        .bytes()
+}
+
+/// A random table that keeps the rules for direct conversion. Its rules share a
+/// few letters and often each other's beginnings, so that they meet.
+pub fn random_table(random: &mut Random) -> Table {
+    let letters = Letters::random(random);
+    let rule_count = match random.below(20) {
+        0 => random.between(9, MAX_RULES as i64),
+        _ => random.between(1, 6),
+    };
+    let mut rules: Vec<Group> = Vec::new();
+    for _ in 0..rule_count {
+        let rule = random_rule(random, &letters, &rules);
+        rules.push(rule);
+    }
+    let has_default = !random.one_in(3);
+    Table {
+        rules,
+        default: has_default.then(|| random_outputs(random, Group::default_group())),
+    }
+}
+
+/// The letters of a random table: some characters that follow each other.
+struct Letters {
+    first: u16,
+    count: u16,
+}
+
+impl Letters {
+    /// Two to five letters, sometimes at a border of the characters.
+    fn random(random: &mut Random) -> Letters {
+        let count = random.between(2, 5) as u16;
+        let last_first = u16::MAX - (count - 1);
+        let anywhere = random.character().min(last_first);
+        let first = *random.pick(&[97, 97, 97, 0, last_first, anywhere]);
+        Letters { first, count }
+    }
+
+    /// All letters, rising.
+    fn all(&self) -> impl Iterator<Item = u16> {
+        self.first..=self.first + (self.count - 1)
+    }
+
+    /// One letter.
+    fn one(&self, random: &mut Random) -> u16 {
+        self.first + random.below(usize::from(self.count)) as u16
+    }
+}
+
+/// A random rule, anchored or not, that often begins as an earlier one.
+fn random_rule(random: &mut Random, letters: &Letters, earlier: &[Group]) -> Group {
+    let length = *random.pick(&[1, 1, 2, 2, 2, 2, 3, 3, 3, 4, 4, 5, 6, 8]);
+    let mut positions = Vec::new();
+    if !earlier.is_empty() && random.one_in(2) {
+        let like = random.pick(earlier);
+        positions.extend(like.positions.iter().take(length).cloned());
+    }
+    while positions.len() < length {
+        positions.push(random_position(random, letters));
+    }
+    if random.one_in(4) {
+        positions[random.below(length)] = random_position(random, letters);
+    }
+    let rule = Group {
+        anchored: random.one_in(3),
+        positions,
+        outputs: Vec::new(),
+    };
+    random_outputs(random, rule)
+}
+
+/// Random ranges of a position: one letter, some letters, or every character.
+fn random_position(random: &mut Random, letters: &Letters) -> Vec<Range> {
+    let ranges = match random.below(12) {
+        0 => vec![Range::ALL],
+        1..=5 => Vec::new(),
+        _ => some_letters(random, letters),
+    };
+    if ranges.is_empty() {
+        let letter = letters.one(random);
+        return vec![Range::one(letter)];
+    }
+    ranges
+}
+
+/// Ranges over about half of the letters, sometimes one right after another.
+fn some_letters(random: &mut Random, letters: &Letters) -> Vec<Range> {
+    let mut ranges: Vec<Range> = Vec::new();
+    for letter in letters.all() {
+        if random.one_in(2) {
+            continue;
+        }
+        let may_join = !random.one_in(4);
+        let last = ranges.last_mut();
+        if let Some(last) = last.filter(|last| may_join && last.high + 1 == letter) {
+            last.high = letter;
+        } else if ranges.len() < MAX_RANGES {
+            ranges.push(Range::one(letter));
+        }
+    }
+    ranges
+}
+
+/// The group with random output characters.
+fn random_outputs(random: &mut Random, mut group: Group) -> Group {
+    let count = *random.pick(&[0, 1, 1, 1, 1, 2, 2, 3, MAX_OUTPUTS]);
+    group.outputs = (0..count).map(|_| random_output(random, &group)).collect();
+    group
+}
+
+/// A random output character whose values lie in 0 to 65535, often touching one
+/// of these.
+fn random_output(random: &mut Random, group: &Group) -> Output {
+    let mut output = Output {
+        constant: 0,
+        terms: random_terms(random, group.length()),
+    };
+    let (lowest, highest) = constants(group, &output).unwrap_or_else(|| {
+        output.terms.clear();
+        (0, i32::from(u16::MAX))
+    });
+    let any = random.between(i64::from(lowest), i64::from(highest)) as i32;
+    output.constant = *random.pick(&[lowest, highest, any, any]);
+    output
+}
+
+/// The lowest and the highest constant that keep an output character's values,
+/// its own constant being 0, in 0 to 65535, if there are such.
+fn constants(group: &Group, output: &Output) -> Option<(i32, i32)> {
+    let (least, greatest) = group.extremes(output);
+    let lowest = i32::try_from(-least).ok()?;
+    let highest = i32::try_from(i64::from(u16::MAX) - greatest).ok()?;
+    (lowest <= highest).then_some((lowest, highest))
+}
+
+/// Random terms, rising strictly by position.
+fn random_terms(random: &mut Random, length: usize) -> Vec<Term> {
+    let mut terms = Vec::new();
+    for position in 0..length {
+        let small = random.between(-3, 3) as i16;
+        let any = random.character() as i16;
+        let coefficient = *random.pick(&[0, small, small, any]);
+        if coefficient != 0 {
+            terms.push(Term {
+                position,
+                coefficient,
+            });
+        }
+    }
+    terms
+}
+
+/// A random input of a length, made of words that the table's rules fit, of
+/// beginnings of such words, and of other characters.
+pub fn random_input(random: &mut Random, table: &Table, length: usize) -> Vec<u16> {
+    let mut input = Vec::new();
+    while input.len() < length {
+        if random.one_in(40) {
+            input.push(random.character());
+            continue;
+        }
+        let rule = random.pick(&table.rules);
+        let word = random_word(random, rule);
+        let kept = match random.below(3) {
+            0 => random.below(word.len()) + 1,
+            _ => word.len(),
+        };
+        input.extend(&word[..kept]);
+    }
+    input.truncate(length);
+    input
+}
+
+/// A random word that lies in the group's ranges.
+pub fn random_word(random: &mut Random, group: &Group) -> Vec<u16> {
+    let positions = group.positions.iter();
+    positions
+        .map(|ranges| {
+            let range = random.pick(ranges);
+            random.between(i64::from(range.low), i64::from(range.high)) as u16
+        })
+        .collect()
+}

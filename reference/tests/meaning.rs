@@ -1,0 +1,132 @@
+//! Definition 7 against a second reading of it, and direct conversion.
+
+use reference::builder::{characters, encode, TableBuilder};
+use reference::direct::{self, Conversion};
+use reference::meaning::{convert, Ending};
+use reference::random::Random;
+use reference::samples::{random_input, random_table};
+use reference::table::{Group, Table};
+
+/// Definition 7 read a second time: lengths rising, then rule numbers, then the
+/// default.
+fn read_again(table: &Table, input: &[u16]) -> (Vec<u16>, usize, Ending) {
+    let mut text = Vec::new();
+    let mut place = 0;
+    'places: while place < input.len() {
+        for length in 1..=8.min(input.len() - place) {
+            let word = &input[place..place + length];
+            let last = place + length == input.len();
+            for rule in &table.rules {
+                if in_ranges(rule, word) && (last || !rule.anchored) {
+                    write(rule, word, &mut text);
+                    place += length;
+                    continue 'places;
+                }
+            }
+        }
+        match &table.default {
+            Some(default) => write(default, &input[place..place + 1], &mut text),
+            None => return (text, place, Ending::Stopped),
+        }
+        place += 1;
+    }
+    (text, place, Ending::Closed)
+}
+
+/// Whether the word has the rule's length and lies in its ranges.
+fn in_ranges(rule: &Group, word: &[u16]) -> bool {
+    let mut positions = rule.positions.iter().zip(word);
+    rule.positions.len() == word.len()
+        && positions.all(|(ranges, &c)| ranges.iter().any(|r| r.low <= c && c <= r.high))
+}
+
+/// Writes the output characters' values, in wide numbers.
+fn write(group: &Group, word: &[u16], text: &mut Vec<u16>) {
+    for output in &group.outputs {
+        let mut value = i128::from(output.constant);
+        for term in &output.terms {
+            value += i128::from(term.coefficient) * i128::from(word[term.position]);
+        }
+        text.push(u16::try_from(value).expect("a character"));
+    }
+}
+
+#[test]
+fn definition_7_agrees_with_a_second_reading_and_direct_conversion_with_both() {
+    let mut random = Random::new(81);
+    let (mut closed, mut stopped_late) = (0, 0);
+    for _ in 0..4000 {
+        let table = random_table(&mut random);
+        let bytes = encode(&table);
+        for _ in 0..3 {
+            let length = random.below(30);
+            let input = random_input(&mut random, &table, length);
+            let (text, place, ending) = read_again(&table, &input);
+            let meaning = convert(&table, &input);
+            assert_eq!(meaning.text, text);
+            assert_eq!((meaning.place, meaning.ending), (place, ending));
+
+            let mut output = vec![7; table.most_outputs() * input.len() + random.below(3)];
+            let expected = Conversion {
+                ending,
+                place,
+                count: text.len(),
+            };
+            let answer = direct::convert(&bytes, &input, &mut output);
+            assert_eq!(answer, Ok(expected));
+            assert_eq!(output[..text.len()], text);
+            assert!(output[text.len()..].iter().all(|&place| place == 7));
+
+            closed += usize::from(ending == Ending::Closed);
+            stopped_late += usize::from(ending == Ending::Stopped && place > 0);
+        }
+    }
+    assert!(closed > 2000, "{closed}");
+    assert!(stopped_late > 500, "{stopped_late}");
+}
+
+/// The text that a table without faults gives.
+fn text(table: TableBuilder, input: &str) -> String {
+    let table = Table::read(&table.bytes()).unwrap();
+    String::from_utf16(&convert(&table, &characters(input)).text).unwrap()
+}
+
+#[test]
+fn the_shortest_is_chosen_then_the_lowest_number() {
+    let longer_first = TableBuilder::new()
+        .rule(2)
+        .spelled(0, "ab")
+        .text("2")
+        .rule(1)
+        .spelled(0, "a")
+        .text("1")
+        .rule(1)
+        .spelled(0, "a")
+        .text("3")
+        .copying_default();
+    assert_eq!(text(longer_first, "abab"), "1b1b");
+}
+
+#[test]
+fn an_anchored_rule_fits_at_the_last_characters_only() {
+    let anchored_first = TableBuilder::new()
+        .anchored(1)
+        .spelled(0, "a")
+        .text("X")
+        .rule(2)
+        .spelled(0, "aa")
+        .text("Y")
+        .copying_default();
+    assert_eq!(text(anchored_first.clone(), "aaa"), "YX");
+    assert_eq!(text(anchored_first, "aaaa"), "YY");
+}
+
+#[test]
+fn the_default_is_no_rule_and_loses_to_a_longer_one() {
+    let pair = TableBuilder::new()
+        .rule(2)
+        .range(0, 0, 65535)
+        .range(1, 0, 65535)
+        .copying_default();
+    assert_eq!(text(pair, "abcde"), "e");
+}

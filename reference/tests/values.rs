@@ -1,0 +1,194 @@
+//! Refusal 7 by extreme values against every word that fits.
+
+use reference::builder::encode;
+use reference::random::Random;
+use reference::refusal::Refusal;
+use reference::table::{Group, Output, Range, Table, Term};
+
+/// The value of an output character without its constant.
+fn sum(output: &Output, word: &[u16]) -> i64 {
+    let mut sum = 0;
+    for term in &output.terms {
+        sum += i64::from(term.coefficient) * i64::from(word[term.position]);
+    }
+    sum
+}
+
+/// Every word that fits the group.
+fn fitting_words(group: &Group) -> Vec<Vec<u16>> {
+    let mut words = vec![Vec::new()];
+    for ranges in &group.positions {
+        let characters: Vec<u16> = ranges.iter().flat_map(|r| r.low..=r.high).collect();
+        words = words
+            .iter()
+            .flat_map(|word| characters.iter().map(|&c| [&word[..], &[c]].concat()))
+            .collect();
+    }
+    words
+}
+
+/// Whether some output value leaves 0 to 65535 for some word.
+fn some_value_leaves(group: &Group) -> bool {
+    let words = fitting_words(group);
+    group.outputs.iter().any(|output| {
+        words.iter().any(|word| {
+            let value = i64::from(output.constant) + sum(output, word);
+            !(0..=65535).contains(&value)
+        })
+    })
+}
+
+/// Up to four ranges of up to four characters, rising.
+fn random_ranges(random: &mut Random) -> Vec<Range> {
+    let mut low = *random.pick(&[0, 97, 1000, 65500]);
+    (0..=random.below(4))
+        .map(|_| {
+            low += random.below(3) as u16;
+            let range = Range {
+                low,
+                high: low + random.below(3) as u16,
+            };
+            low = range.high + 1;
+            range
+        })
+        .collect()
+}
+
+/// Terms with coefficients of all sizes, the greatest among them.
+fn random_terms(random: &mut Random, length: usize) -> Vec<Term> {
+    let mut terms = Vec::new();
+    for position in 0..length {
+        let any = random.character() as i16;
+        let small = random.between(-2, 2) as i16;
+        let coefficient = match random.below(20) {
+            0 => i16::MIN,
+            1 => i16::MAX,
+            2 | 3 => any,
+            _ => small,
+        };
+        if coefficient != 0 {
+            terms.push(Term {
+                position,
+                coefficient,
+            });
+        }
+    }
+    terms
+}
+
+/// The group with an output character whose least or greatest value lies at a
+/// border of the characters, or just beyond it.
+fn with_output(random: &mut Random, mut group: Group) -> Group {
+    let mut output = Output {
+        constant: 0,
+        terms: random_terms(random, group.length()),
+    };
+    let words = fitting_words(&group);
+    let sums = words.iter().map(|word| sum(&output, word));
+    let least = sums.clone().min().expect("a word");
+    let greatest = sums.max().expect("a word");
+    let constant = *random.pick(&[
+        -least,
+        -least - 1,
+        -least + 1,
+        65535 - greatest,
+        65535 - greatest + 1,
+        65535 - greatest - 1,
+    ]);
+    output.constant = i32::try_from(constant).unwrap_or(i32::MIN);
+    group.outputs.push(output);
+    group
+}
+
+/// A small random rule with one or two output characters.
+fn random_group(random: &mut Random) -> Group {
+    let length = random.below(3) + 1;
+    let group = Group {
+        anchored: random.one_in(2),
+        positions: (0..length).map(|_| random_ranges(random)).collect(),
+        outputs: Vec::new(),
+    };
+    let group = with_output(random, group);
+    if random.one_in(3) {
+        return with_output(random, group);
+    }
+    group
+}
+
+/// A rule that takes `a` and writes nothing.
+fn plain_rule() -> Group {
+    Group {
+        anchored: false,
+        positions: vec![vec![Range::one(97)]],
+        outputs: Vec::new(),
+    }
+}
+
+/// Asserts that the table is refused by 7 exactly when a value leaves; answers
+/// whether it is.
+fn assert_decided(table: &Table) -> bool {
+    let leaves = table.groups().any(some_value_leaves);
+    let expected = if leaves {
+        Err(Refusal::Value)
+    } else {
+        Ok(table.clone())
+    };
+    assert_eq!(Table::read(&encode(table)), expected);
+    leaves
+}
+
+#[test]
+fn rules_are_refused_by_7_exactly_when_a_fitting_word_leaves() {
+    let mut random = Random::new(61);
+    let mut refused = 0;
+    for _ in 0..4000 {
+        let rules = (0..=random.below(2)).map(|_| random_group(&mut random));
+        let table = Table {
+            rules: rules.collect(),
+            default: None,
+        };
+        refused += usize::from(assert_decided(&table));
+    }
+    assert!((800..3200).contains(&refused), "{refused}");
+}
+
+#[test]
+fn defaults_are_refused_by_7_exactly_when_a_character_leaves() {
+    let mut random = Random::new(62);
+    let mut refused = 0;
+    for _ in 0..60 {
+        let table = Table {
+            rules: vec![plain_rule()],
+            default: Some(with_output(&mut random, Group::default_group())),
+        };
+        refused += usize::from(assert_decided(&table));
+    }
+    assert!((10..59).contains(&refused), "{refused}");
+}
+
+#[test]
+fn the_greatest_sums_do_not_overflow() {
+    let term = |coefficient| {
+        move |position| Term {
+            position,
+            coefficient,
+        }
+    };
+    for coefficient in [i16::MIN, i16::MAX] {
+        for constant in [i32::MIN, i32::MAX] {
+            let rule = Group {
+                anchored: false,
+                positions: vec![vec![Range::ALL]; 8],
+                outputs: vec![Output {
+                    constant,
+                    terms: (0..8).map(term(coefficient)).collect(),
+                }],
+            };
+            let table = Table {
+                rules: vec![rule],
+                default: None,
+            };
+            assert_eq!(Table::read(&encode(&table)), Err(Refusal::Value));
+        }
+    }
+}
