@@ -1,13 +1,13 @@
--- Statements and tests on all of a list: through appending, mapping, filtering and reading an element.
+-- Statements and tests on all of a list: through appending, mapping, filtering, reading an element and changing the last.
 -- By recursion on the list.
-use mathlib.Core.Bool.{Bool, true, false, _&&_, cond}
+use mathlib.Core.Bool.{Bool, true, false, cond}
 use mathlib.Core.List.{List, [], _∷_, _++_, map, List·Memᴰ, List·Memᴰ·head, List·Memᴰ·tail}
-use mathlib.Core.Path.{_≡_, refl, sym, ap, subst}
-use Prim.Native.Nat.{ℕ, zero, suc, _+_, _<_}
+use mathlib.Core.Path.{sym, subst}
+use Prim.Native.Nat.{ℕ, zero, suc, _<_}
 use native.Mathlib.Omega.{arith}
 use lib.Dec.{T}
 use lib.ListN.{length, getD}
-use Rattle.lists.specs.Lists.{all, Each, filter, atLast, lastD}
+use Rattle.lists.specs.Lists.{all, Each, filter, flatMap, atLast}
 use Rattle.lists.proofs.Tests.{and-left, and-right, both}
 
 pub each-append : {A : Type 0} (P : A → Type 0) (xs ys : List A) → Each P xs → Each P ys → Each P (xs ++ ys)
@@ -35,6 +35,24 @@ each-getD P [] k d a h = absurd (omega arith)
 each-getD P (x ∷ xs) zero d a h = a .0
 each-getD P (x ∷ xs) (suc k) d a h = each-getD P xs k d (a .1) (omega arith)
 
+-- what holds of the default too holds at every place
+pub each-anywhere : {A : Type 0} (P : A → Type 0) (xs : List A) (k : ℕ) (d : A) → Each P xs → P d → P (getD xs k d)
+each-anywhere P [] k d a h = h
+each-anywhere P (x ∷ xs) zero d a h = a .0
+each-anywhere P (x ∷ xs) (suc k) d a h = each-anywhere P xs k d (a .1) h
+
+pub each-both : {A : Type 0} (P Q : A → Type 0) (xs : List A) → Each P xs → Each Q xs → Each (λ x. P x × Q x) xs
+each-both P Q [] p q = tt
+each-both P Q (x ∷ xs) p q = ((p .0, q .0), each-both P Q xs (p .1) (q .1))
+
+pub each-map : {A B : Type 0} (P : B → Type 0) (f : A → B) (xs : List A) → ((x : A) → P (f x)) → Each P (map f xs)
+each-map P f [] h = tt
+each-map P f (x ∷ xs) h = (h x, each-map P f xs h)
+
+pub each-flatMap : {A B : Type 0} (P : B → Type 0) (f : A → List B) (xs : List A) → Each P (flatMap f xs) → Each (λ x. Each P (f x)) xs
+each-flatMap P f [] a = tt
+each-flatMap P f (x ∷ xs) a = (each-front P (f x) (flatMap f xs) a, each-flatMap P f xs (each-back P (f x) (flatMap f xs) a))
+
 pub each-filter : {A : Type 0} (P : A → Type 0) (p : A → Bool) (xs : List A) → Each P xs → Each P (filter p xs)
 each-filter P p [] a = tt
 each-filter P p (x ∷ xs) a = pick (p x) (each-filter P p xs (a .1))
@@ -51,17 +69,6 @@ module _ {A : Type 0} (p : A → Bool) where
   pub each-all : {P : A → Type 0} (xs : List A) → ((x : A) → P x → T (p x)) → Each P xs → T (all p xs)
   each-all [] h t = tt
   each-all (x ∷ xs) h t = both (p x) (all p xs) (h x (t .0)) (each-all xs h (t .1))
-
--- the last element
-
-pub atLast-snoc : {A : Type 0} (f : A → A) (xs : List A) (x : A) → atLast f (xs ++ x ∷ []) ≡ xs ++ f x ∷ []
-atLast-snoc f [] x = refl
-atLast-snoc f (y ∷ []) x = refl
-atLast-snoc f (y ∷ (z ∷ xs)) x = ap (λ r. y ∷ r) (atLast-snoc f (z ∷ xs) x)
-
-pub lastD-snoc : {A : Type 0} (d : A) (xs : List A) (x : A) → lastD d (xs ++ x ∷ []) ≡ x
-lastD-snoc d [] x = refl
-lastD-snoc d (y ∷ xs) x = lastD-snoc y xs x
 
 pub each-atLast : {A : Type 0} (P : A → Type 0) (f : A → A) (xs : List A) → ((x : A) → P x → P (f x)) → Each P xs → Each P (atLast f xs)
 each-atLast P f [] h a = tt

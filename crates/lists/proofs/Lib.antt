@@ -2,3 +2,4 @@ pub mod Tests
 pub mod Each
 pub mod Members
 pub mod Parts
+pub mod Sets

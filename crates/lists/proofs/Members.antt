@@ -1,6 +1,6 @@
--- Membership in filtered, mapped and joined lists, and the place at which a search finds an element.
+-- Membership in filtered, mapped and joined lists and at a place, and the test that two lists are equal.
 -- By recursion on the list or on the membership.
-use mathlib.Core.Bool.{Bool, true, false, not, cond}
+use mathlib.Core.Bool.{Bool, cond}
 use mathlib.Core.List.{List, [], _∷_, map, List·Memᴰ, List·Memᴰ·head, List·Memᴰ·tail, List·Memᴰ·not-nil, List·Memᴰ·cases-cons, Memᴰ·append-left, Memᴰ·append-right}
 use mathlib.Core.Logic.{⊎-elim}
 use mathlib.Core.Path.{_≡_, refl, ap, ap₂, subst}

@@ -1,13 +1,14 @@
--- What stands at a place of a padded list, of rows of one length, and of parts joined.
--- By recursion on the list of rows or parts.
-use mathlib.Core.List.{List, [], _∷_, _++_, map}
+-- A padded list, and what stands at a place of it, of rows of one length, and of parts joined.
+-- By recursion on the list of elements, rows or parts.
+use mathlib.Core.List.{List, [], _∷_, _++_, append-assoc}
 use mathlib.Core.Path.{_≡_, refl, ap, _∙_}
-use Prim.Native.Nat.{ℕ, zero, suc, _+_, _*_, _<_}
+use Prim.Native.Nat.{ℕ, zero, suc, _+_, _*_, _≤_, _<_}
 use native.Mathlib.Nat.{mul-zero, mul-suc, zero-add}
 use native.Mathlib.Omega.{arith}
-use lib.ListN.{length, getD, length-append, List·getD-append}
+use lib.Dec.{T, eqb}
+use lib.ListN.{length, getD, take, drop, length-append, List·getD-append}
 use lib.Seq.{getD-append-add}
-use Rattle.lists.specs.Lists.{flatMap, pad}
+use Rattle.lists.specs.Lists.{all, flatMap, pad}
 
 pub length-pad : (n : ℕ) (xs : List ℕ) → length (pad n xs) ≡ n
 unfolding pad
@@ -33,17 +34,33 @@ getD-rows f m e (x ∷ xs) (suc i) j d h k =
     ∙ getD-append-add (f x) (flatMap f xs) (m * i + j) 0
     ∙ getD-rows f m e xs i j d (omega arith) k
 
--- a part, after parts of n words
+pub take-pad : (n : ℕ) (xs : List ℕ) → length xs ≤ n → take (length xs) (pad n xs) ≡ xs
+unfolding pad
+take-pad n [] h = refl
+take-pad zero (x ∷ xs) h = absurd (omega arith)
+take-pad (suc n) (x ∷ xs) h = ap (λ ys. x ∷ ys) (take-pad n xs (omega arith))
+
+pub pad-zeros : (n : ℕ) (xs : List ℕ) → T (all (eqb 0) (drop (length xs) (pad n xs)))
+unfolding pad
+pad-zeros zero [] = tt
+pad-zeros zero (x ∷ xs) = tt
+pad-zeros (suc n) [] = pad-zeros n []
+pad-zeros (suc n) (x ∷ xs) = pad-zeros n xs
+
+-- parts joined
 abbrev pub flat : List (List ℕ) → List ℕ
 flat ps = flatMap (λ p. p) ps
 
-pub getD-part : (front : List (List ℕ)) (x : List ℕ) (back : List (List ℕ)) (n i : ℕ) → length (flat front) ≡ n → i < length x →
-    getD (flat (front ++ (x ∷ back))) (n + i) 0 ≡ getD x i 0
-getD-part [] x back n i e h = ap (λ a. getD (x ++ flat back) a 0) (omega arith) ∙ List·getD-append x (flat back) 0 i h
-getD-part (f ∷ fs) x back n i e h =
-    ap (λ a. getD (f ++ flat (fs ++ (x ∷ back))) a 0) (omega (arith, length-append f (flat fs)))
-    ∙ getD-append-add f (flat (fs ++ (x ∷ back))) (length (flat fs) + i) 0
-    ∙ getD-part fs x back (length (flat fs)) i refl h
+-- part number j, which begins where the parts before it end
+pub getD-part : (ps : List (List ℕ)) (rest : List ℕ) (j i : ℕ) → i < length (getD ps j []) →
+    getD (flat ps ++ rest) (length (flat (take j ps)) + i) 0 ≡ getD (getD ps j []) i 0
+getD-part [] rest j i h = absurd (omega arith)
+getD-part (p ∷ ps) rest zero i h = rw (append-assoc, zero-add) (List·getD-append p (flat ps ++ rest) 0 i h)
+getD-part (p ∷ ps) rest (suc j) i h =
+    rw append-assoc (
+    ap (λ a. getD (p ++ (flat ps ++ rest)) a 0) (omega (arith, length-append p (flat (take j ps))))
+    ∙ getD-append-add p (flat ps ++ rest) (length (flat (take j ps)) + i) 0
+    ∙ getD-part ps rest j i h)
 
 -- an element that is there does not depend on the default
 pub getD-there : {A : Type 0} (xs : List A) (i : ℕ) (a b : A) → i < length xs → getD xs i a ≡ getD xs i b

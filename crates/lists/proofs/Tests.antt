@@ -1,13 +1,14 @@
--- How a proof takes a test, a list of tests and a decision list apart.
+-- How a proof takes a test, a comparison of numbers, a list of tests and a decision list apart.
 -- By cases on the tests.
-use mathlib.Core.Bool.{Bool, true, false, _&&_, _||_, not, cond, true≢false, false≢true}
-use mathlib.Core.List.{List, [], _∷_}
+use mathlib.Core.Bool.{Bool, true, false, _&&_, _||_, not, cond, false≢true}
+use mathlib.Core.List.{List, [], _∷_, _++_}
+use mathlib.Core.Logic.{_≢_}
 use mathlib.Core.Path.{_≡_, refl, sym, subst}
-use Prim.Native.Nat.{ℕ, zero, suc, _<_}
+use Prim.Native.Nat.{ℕ, zero, suc, _≤_, _<_}
 use native.Mathlib.Decide.{ℕ-discrete}
 use native.Mathlib.Omega.{arith}
-use lib.Dec.{T}
-use Rattle.lists.specs.Lists.{Each}
+use lib.Dec.{T, T-not, not-T, eqb, leb, eqb→eq, eqb-refl, leb→le, le→leb}
+use Rattle.lists.specs.Lists.{any, Each}
 use Rattle.lists.specs.Decide.{allOf, forBelow, implies, select}
 
 pub to-T : (b : Bool) → b ≡ true → T b
@@ -69,6 +70,28 @@ or-cases false b t f g = g t
 pub or-none : (a b : Bool) → T (not (a || b)) → T (not a) × T (not b)
 or-none true b t = absurd t
 or-none false b t = (tt, t)
+
+pub any-more : {A : Type 0} (p : A → Bool) (xs ys : List A) → T (any p xs) → T (any p (xs ++ ys))
+any-more p [] ys t = absurd t
+any-more p (x ∷ xs) ys t =
+    or-cases (p x) (any p xs) t (or-left (p x) (any p (xs ++ ys))) (λ u. or-right (p x) (any p (xs ++ ys)) (any-more p xs ys u))
+
+-- comparisons of numbers
+
+pub eq→eqb : (m n : ℕ) → m ≡ n → T (eqb m n)
+eq→eqb m n e = subst (λ k. T (eqb m k)) e (eqb-refl m)
+
+pub neqb→ne : (m n : ℕ) → T (not (eqb m n)) → m ≢ n
+neqb→ne m n t e = T-not (eqb m n) t (eq→eqb m n e)
+
+pub ne→neqb : (m n : ℕ) → m ≢ n → T (not (eqb m n))
+ne→neqb m n h = not-T (eqb m n) (λ t. h (eqb→eq m n t))
+
+pub of-between : (lo hi x : ℕ) → T (leb lo x && leb x hi) → (lo ≤ x) × (x ≤ hi)
+of-between lo hi x t = (leb→le lo x (and-left (leb lo x) (leb x hi) t), leb→le x hi (and-right (leb lo x) (leb x hi) t))
+
+pub to-between : (lo hi x : ℕ) → lo ≤ x → x ≤ hi → T (leb lo x && leb x hi)
+to-between lo hi x a b = both (leb lo x) (leb x hi) (le→leb lo x a) (le→leb x hi b)
 
 -- a test's two cases, with its value in the goal, and without
 pub either : (P : Bool → Type 0) (b : Bool) → (T b → P true) → (T (not b) → P false) → P b

@@ -37,10 +37,10 @@ block-word t rest s r h j k =
     (λ i l. layout-part t rest 4 17222 (simp (length-append, length-pad)) i (rw length-pad l))
     r j (17222 + 75 * r) (omega arith) h (omega arith) k
 
-pub default-word : (t : Table) (rest : List ℕ) (g : Group) → Shaped t → t .default ≡ some g → (j : ℕ) → j < 75 →
+pub default-word : (t : Table) (rest : List ℕ) (g : Group) → t .default ≡ some g → (j : ℕ) → j < 75 →
     at (blockAt (words t ++ rest) 32) j ≡ at (block g) j
 unfolding parts
-default-word t rest g s e j k =
+default-word t rest g e j k =
     block-of (words t ++ rest) 19622 75 (g ∷ [])
     (λ i l.
     layout-part t rest 5 19622 (simp (length-append, length-pad)) i (rw length-pad l)

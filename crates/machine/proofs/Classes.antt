@@ -1,30 +1,27 @@
 -- A character and the start of its class lie in the same ranges; the class starts rise from 0.
 -- Each edge of a range is a start, so none lies above the class start and not above the character.
-use mathlib.Core.Bool.{Bool, _&&_, _||_, cond}
+use mathlib.Core.Bool.{_&&_, _||_, cond}
 use mathlib.Core.List.{List, [], _∷_, List·Memᴰ, List·Memᴰ·head, List·Memᴰ·tail, List·Memᴰ·not-nil, List·Memᴰ·cases-cons}
 use mathlib.Core.Logic.{⊎-elim, _≢_}
 use mathlib.Core.Path.{_≡_, refl, sym, ap₂, subst}
 use Prim.Native.Nat.{ℕ, zero, suc, pred, _+_, _≤_, _<_}
 use native.Mathlib.Omega.{arith}
-use lib.Dec.{T, T-not, leb, ltb, eqb, leb→le, le→leb, nleb→lt, ltb→lt, lt→ltb, nltb→le, eqb→eq, eqb-refl}
+use lib.Dec.{leb, ltb, eqb, leb→le, le→leb, nleb→lt, ltb→lt, lt→ltb, nltb→le, eqb→eq}
 use lib.ListN.{length, getD}
 use Rattle.lists.specs.Lists.{Each, count, fold, flatMap}
-use Rattle.lists.proofs.Tests.{split, of-cond, test-eq, of-T}
-use Rattle.lists.proofs.Each.{each-front, each-back, each-weaken, each-at, each-getD}
+use Rattle.lists.proofs.Tests.{split, of-cond, test-eq, of-T, neqb→ne}
+use Rattle.lists.proofs.Each.{each-front, each-back, each-weaken, each-at, each-getD, each-anywhere, each-flatMap}
 use Rattle.lists.proofs.Members.{mem-getD}
+use Rattle.lists.proofs.Sets.{count-length}
 use Rattle.rules.specs.Table.{Range, Table, within, inRanges, ruleAt, everyCharacter}
 use Rattle.machine.specs.Classes.{insert, edges, allEdges, starts, classOf}
-use Rattle.machine.proofs.Good.{Classed}
 
-pub each-flatMap : {A B : Type 0} (P : B → Type 0) (f : A → List B) (xs : List A) → Each P (flatMap f xs) → Each (λ x. Each P (f x)) xs
-each-flatMap P f [] a = tt
-each-flatMap P f (x ∷ xs) a = (each-front P (f x) (flatMap f xs) a, each-flatMap P f xs (each-back P (f x) (flatMap f xs) a))
-
--- what holds of the default too holds at every place
-pub each-anywhere : {A : Type 0} (P : A → Type 0) (xs : List A) (k : ℕ) (d : A) → Each P xs → P d → P (getD xs k d)
-each-anywhere P [] k d a h = h
-each-anywhere P (x ∷ xs) zero d a h = a .0
-each-anywhere P (x ∷ xs) (suc k) d a h = each-anywhere P xs k d (a .1) h
+-- what the class starts of a table are
+pub record Classed (t : Table) : Type 0 where
+  pub some-start : 0 < length (starts t)
+  pub first : getD (starts t) 0 0 ≡ 0
+  pub rising : (k : ℕ) → suc k < length (starts t) → getD (starts t) k 0 < getD (starts t) (suc k) 0
+  pub class-below : (c : ℕ) → classOf (starts t) c < length (starts t)
 
 -- each number is above those before it
 abbrev pub Rising : List ℕ → Type 0
@@ -64,7 +61,7 @@ rising-insert x (y ∷ l) r =
     (λ t. let z : x < y = ltb→lt x y t in ((z, each-weaken (λ k. y < k) (λ k. x < k) l (λ k h. omega arith) (r .0)), r))
     (λ n. of-cond Rising (eqb x y) (y ∷ l) (y ∷ insert x l) (λ _. r)
     (λ e. let z : y ≤ x = nltb→le x y n in
-    let d : x ≢ y = λ p. T-not (eqb x y) e (subst (λ k. T (eqb x k)) p (eqb-refl x)) in
+    let d : x ≢ y = neqb→ne x y e in
     (each-insert (λ k. y < k) x l (omega arith) (r .0), rising-insert x l (r .1))))
 
 module _ (t : Table) where
@@ -95,12 +92,6 @@ module _ (t : Table) where
           (insert-new e l, each-weaken (λ k. List·Memᴰ k l) (λ k. List·Memᴰ k (insert e l)) es (λ k m. insert-old e l m) (inserted es))
 
 -- a class's start, by the class's number: the last start not above the character
-
-count-length : {A : Type 0} (p : A → Bool) (l : List A) → count p l ≤ length l
-count-length p [] = omega arith
-count-length p (y ∷ l) =
-    let z : count p l ≤ length l = count-length p l in
-    of-cond (λ k. k + count p l ≤ suc (length l)) (p y) 1 0 (λ _. omega arith) (λ _. omega arith)
 
 count-over : (x : ℕ) (l : List ℕ) → Each (λ s. x < s) l → count (λ s. leb s x) l ≡ 0
 count-over x [] a = refl
@@ -144,9 +135,13 @@ last-start y (z ∷ l) x r h =
               (λ m′. let w : x < s = each-at (λ s. x < s) a m′ in absurd (omega arith)) (List·Memᴰ·cases-cons m);
         })
 
--- the class's number is there, and leads to the last start
-class-law : (l : List ℕ) (x : ℕ) → Rising l → List·Memᴰ 0 l →
-    (getD l 0 0 ≡ 0) × (classOf l x < length l) × LastStart l x (getD l (classOf l x) 0)
+-- the class's number is there
+pub class-below : (l : List ℕ) (x : ℕ) → 0 < length l → classOf l x < length l
+unfolding classOf
+class-below l x h = let z : pred (count (λ s. leb s x) l) < length l = omega (arith, count-length (λ s. leb s x) l) in z
+
+-- and leads to the last start
+class-law : (l : List ℕ) (x : ℕ) → Rising l → List·Memᴰ 0 l → (getD l 0 0 ≡ 0) × (0 < length l) × LastStart l x (getD l (classOf l x) 0)
 unfolding classOf
 class-law [] x r m = absurd (List·Memᴰ·not-nil m)
 class-law (y ∷ l) x r m =
@@ -154,8 +149,7 @@ class-law (y ∷ l) x r m =
     ⊎-elim (λ (q : 0 ≡ y). sym q) (λ m′. let i : y < 0 = each-at (λ z. y < z) (r .0) m′ in absurd (omega arith)) (List·Memᴰ·cases-cons m) in
     let i : y ≤ x = omega arith in
     let p : pred (cond (leb y x) 1 0 + count (λ s. leb s x) l) ≡ count (λ s. leb s x) l = rw (of-T (leb y x) (le→leb y x i)) (omega arith) in
-    let j : count (λ s. leb s x) l ≤ length l = count-length (λ s. leb s x) l in
-    (e, rw p (omega arith), rw p (last-start y l x r i))
+    (e, omega arith, rw p (last-start y l x r i))
 
 module _ (t : Table) where
   -- the start of a character's class
@@ -166,19 +160,19 @@ module _ (t : Table) where
   abbrev Start : ℕ → Type 0
   Start e = List·Memᴰ e (starts t)
 
-  abbrev law : (x : ℕ) → (getD (starts t) 0 0 ≡ 0) × (classOf (starts t) x < length (starts t)) × LastStart (starts t) x (startOf x)
+  abbrev law : (x : ℕ) → (getD (starts t) 0 0 ≡ 0) × (0 < length (starts t)) × LastStart (starts t) x (startOf x)
   law x = class-law (starts t) x (starts-rise t) (zero-starts t)
 
   pub classed : Classed t
   classed = record {
-    some-start = let h : classOf (starts t) 0 < length (starts t) = law 0 .1 in omega arith;
+    some-start = law 0 .1;
     first = law 0 .0;
     rising = λ k h. rising-at (starts t) k (starts-rise t) h;
-    class-below = λ c. law c .1;
+    class-below = λ c. class-below (starts t) c (law c .1);
   }
 
   pub class-member : (x : ℕ) → List·Memᴰ (startOf x) (starts t)
-  class-member x = mem-getD (starts t) (classOf (starts t) x) 0 (law x .1)
+  class-member x = mem-getD (starts t) (classOf (starts t) x) 0 (class-below (starts t) x (law x .1))
 
   -- a range whose edges are starts cannot tell a character from its class start
   same-within : (x : ℕ) → x < 65536 → (g : Range) → Each Start (edges g) → within (startOf x) g ≡ within x g

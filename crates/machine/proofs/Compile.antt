@@ -1,32 +1,27 @@
 -- Demands 1 and 2 for compiling: what it answers and leaves, and that it accepts exactly the tables that keep the rules.
--- What it answers and leaves follows from what it read, by cases; the laws of the table check are parameters.
-use mathlib.Core.Bool.{Bool}
+-- What it answers and leaves follows from what it read, by cases on the table check and on the counts of classes and states.
 use mathlib.Core.List.{List, [], _∷_, _++_}
 use mathlib.Core.Logic.{_≢_}
-use mathlib.Core.Path.{_≡_, refl, sym, subst, _∙_}
+use mathlib.Core.Path.{_≡_, refl, sym, _∙_}
 use Prim.Native.Nat.{ℕ, _≤_}
 use native.Mathlib.Omega.{arith}
-use lib.Dec.{T, T-not, eqb, ltb→lt, nltb→le, eqb→eq}
+use lib.Dec.{eqb, ltb→lt, nltb→le, eqb→eq}
 use lib.ListN.{length, drop}
 use lib.Seq.{drop-at}
-use Rattle.lists.specs.Lists.{any, pad}
-use Rattle.lists.proofs.Tests.{or-left, or-right, or-cases, of-cond, by-cases}
+use Rattle.lists.specs.Lists.{pad}
+use Rattle.lists.proofs.Tests.{or-right, any-more, of-cond, by-cases, neqb→ne}
 use Rattle.lists.proofs.Parts.{length-pad}
 use Rattle.rules.specs.Refusal.{Outcome, refused, accepted, andThen, RefusedBy}
 use Rattle.rules.specs.Table.{Table}
 use Rattle.rules.specs.Reader.{readTable}
-use Rattle.rules.specs.Claims.{Keeps}
-use Rattle.rules.proofs.Refusal.{by-then}
-use Rattle.rules.proofs.Direct.{any-more, accepted-not, table-refused, keeps-read, read-keeps}
+use Rattle.rules.proofs.Refusal.{by-then, accepted-not, refused-same, Says}
+use Rattle.rules.proofs.Direct.{table-refused, keeps-read, read-keeps}
 use Rattle.machine.specs.Classes.{starts}
 use Rattle.machine.specs.States.{states}
 use Rattle.machine.specs.Layout.{wordCount, words}
 use Rattle.machine.specs.Compile.{small, compilable, compileBy, compile}
 use Rattle.machine.specs.Claims.{KeepsCompiling, CompileAnswers, CompileAccepts}
 use Rattle.machine.proofs.Places.{length-words}
-
-refused-same : {A : Type 0} (m n : ℕ) → _≡_ {A = Outcome A} (refused m) (refused n) → m ≡ n
-refused-same m n e = cc
 
 abbrev refusals : List ℕ
 refusals = 10 ∷ 1 ∷ 2 ∷ 3 ∷ 4 ∷ 5 ∷ 6 ∷ 7 ∷ 8 ∷ 9 ∷ []
@@ -43,7 +38,7 @@ module _ (buffer : List ℕ) where
 
   unchanged-by : (o : Outcome Table) → compileBy o buffer .answer ≡ refused 10 → compileBy o buffer .words ≡ buffer
   unchanged-by (refused m) e =
-      of-cond (λ l. l ≡ buffer) (eqb m 10) buffer zeroed (λ _. refl) (λ u. absurd (T-not (eqb m 10) u (subst (λ k. T (eqb k 10)) (sym (refused-same m 10 e)) tt)))
+      of-cond (λ l. l ≡ buffer) (eqb m 10) buffer zeroed (λ _. refl) (λ u. absurd (neqb→ne m 10 u (refused-same m 10 e)))
   unchanged-by (accepted t) e = absurd (accepted-not tt 10 e)
 
   beyond-by : (o : Outcome Table) → drop wordCount (compileBy o buffer .words) ≡ drop wordCount buffer
@@ -54,8 +49,7 @@ module _ (buffer : List ℕ) where
 
 -- what the answer says
 abbrev Compilable : List ℕ → Outcome Table → Type 0
-Compilable b (refused n) = T (any (eqb n) refusals)
-Compilable b (accepted t) = KeepsCompiling b t
+Compilable b o = Says refusals (KeepsCompiling b) o
 
 compilable-says : (b : List ℕ) (room : ℕ) → Compilable b (compilable b room)
 unfolding compilable small

@@ -1,17 +1,15 @@
 -- What is asked of an automaton: of its states and outputs, of its agreement with a table's rules, and of two automata to be alike.
 -- These are the hypotheses of the machine's laws; `States` and `Words` show them of the automata made from a table and from sound words.
-use mathlib.Core.Bool.{Bool, true, false}
+use mathlib.Core.Bool.{true, false}
 use mathlib.Core.List.{List, [], _∷_, _++_}
 use mathlib.Core.Logic.{_≢_}
 use mathlib.Core.Path.{_≡_}
 use Prim.Native.Nat.{ℕ, zero, suc, _≤_, _<_}
 use lib.Dec.{T}
 use lib.ListN.{length, getD}
-use Rattle.lists.specs.Lists.{Each}
-use Rattle.rules.specs.Table.{Characters, Table, ruleAt, defaultNumber, longest}
+use Rattle.rules.specs.Table.{Characters, Table, ruleAt, defaultNumber}
 use Rattle.rules.proofs.Prefix.{fitsPrefix}
-use Rattle.machine.specs.Classes.{starts, classOf}
-use Rattle.machine.specs.States.{State, initial, acceptOf, acceptAtEndOf, states, targetOf}
+use Rattle.machine.specs.States.{State, initial, states}
 use Rattle.machine.specs.Automaton.{Automaton}
 
 -- the state after a word
@@ -35,6 +33,11 @@ pub record Good (A : Automaton) (L n : ℕ) : Type 0 where
   pub deeper : (q x : ℕ) → q < n → A .target q x ≢ 0 → depth (A .target q x) ≡ suc (depth q)
   pub shallow : (q : ℕ) → q < n → depth q ≤ L
   pub no-way-on : (q x : ℕ) → q < n → A .accept q ≢ 0 → A .target q x ≡ 0
+
+pub after-inside : (A : Automaton) (L n : ℕ) → Good A L n → (q : ℕ) (w : List ℕ) → q < n → after A q w < n
+unfolding after
+after-inside A L n G q [] h = h
+after-inside A L n G q (x ∷ w) h = after-inside A L n G (A .target q x) w (G .inside q x h)
 
 -- what may be emitted writes at most E characters
 pub record Short (A : Automaton) (E n : ℕ) : Type 0 where
@@ -79,23 +82,3 @@ pub record Writes (A B : Automaton) (t : Table) : Type 0 where
 
 abbrev pub stateAt : Table → ℕ → State
 stateAt t s = getD (states t) s (initial t)
-
--- what the numbering gives of a table's states; c is any character
-pub record Numbered (t : Table) : Type 0 where
-  pub some-state : 0 < length (states t)
-  pub first : stateAt t 0 ≡ initial t
-  pub depths : (s : ℕ) → s < length (states t) → stateAt t s .depth ≤ longest t
-  pub deep : (s : ℕ) → s < length (states t) → 0 < s → 1 ≤ stateAt t s .depth
-  pub members : (s : ℕ) → s < length (states t) → Each (λ r. r < length (t .rules)) (stateAt t s .members)
-  pub below : (s c : ℕ) → targetOf t (states t) (stateAt t s) c < length (states t)
-  pub deeper : (s c : ℕ) → targetOf t (states t) (stateAt t s) c ≢ 0 →
-      stateAt t (targetOf t (states t) (stateAt t s) c) .depth ≡ suc (stateAt t s .depth)
-  pub later : (s c : ℕ) → s < length (states t) → targetOf t (states t) (stateAt t s) c ≢ 0 → s < targetOf t (states t) (stateAt t s) c
-  pub no-way-on : (s c : ℕ) → acceptOf t (stateAt t s) ≢ 0 → targetOf t (states t) (stateAt t s) c ≡ 0
-
--- what the class starts of a table are
-pub record Classed (t : Table) : Type 0 where
-  pub some-start : 0 < length (starts t)
-  pub first : getD (starts t) 0 0 ≡ 0
-  pub rising : (k : ℕ) → suc k < length (starts t) → getD (starts t) k 0 < getD (starts t) (suc k) 0
-  pub class-below : (c : ℕ) → classOf (starts t) c < length (starts t)

@@ -11,37 +11,28 @@ use native.Mathlib.Omega.{arith}
 use lib.Dec.{T, T-not, not-T, eqb, ltb, eqb→eq, eqb-refl, ltb→lt}
 use lib.ListN.{length, getD}
 use Rattle.lists.specs.Lists.{Each, filter, flatMap, findFrom, sameList, isEmpty, orElse}
-use Rattle.lists.proofs.Tests.{either, split, of-cond, of-not, and-left, and-right, both}
-use Rattle.lists.proofs.Each.{each-append, each-weaken, each-at, each-getD, each-filter}
-use Rattle.lists.proofs.Members.{mem-filter, mem-map, mem-flatMap, mem-getD, same-list, list-same}
-use Rattle.rules.specs.Table.{Group, Table, inRanges, ruleAt, everyCharacter, longest}
-use Rattle.rules.proofs.Shape.{ShapedGroup, Shaped}
+use Rattle.lists.proofs.Tests.{either, split, of-cond, of-not, and-left, and-right, both, ne→neqb}
+use Rattle.lists.proofs.Each.{each-append, each-weaken, each-at, each-getD, each-map, each-filter}
+use Rattle.lists.proofs.Members.{mem-filter, mem-map, mem-flatMap, same-list, list-same}
+use Rattle.lists.proofs.Sets.{filter-none, each-upTo}
+use Rattle.rules.specs.Table.{Table, inRanges, ruleAt, longest}
+use Rattle.rules.proofs.Groups.{longest-le}
 use Rattle.machine.specs.Classes.{starts}
 use Rattle.machine.specs.States.{State, initial, acceptOf, longerRules, successor, sameState, inhabited, distinct, nextLevel, levels, states, targetOf}
-use Rattle.machine.proofs.Good.{stateAt, Numbered}
-use Rattle.machine.proofs.Sets.{filter-none, le-greatest, greatest-le, each-upTo}
+use Rattle.machine.proofs.Good.{stateAt}
 
--- the greatest length
-
-module _ (t : Table) where
-  pub longest-le : (r : ℕ) → r < length (t .rules) → ruleAt t r .size ≤ longest t
-  unfolding longest
-  longest-le r h = le-greatest (λ (g : Group). g .size) (t .rules) (mem-getD (t .rules) r (everyCharacter []) h)
-
-  pub longest-small : Shaped t → longest t ≤ 8
-  unfolding longest
-  longest-small S =
-      greatest-le (λ (g : Group). g .size) 8 (t .rules)
-      (each-weaken ShapedGroup (λ g. g .size ≤ 8) (t .rules) (λ g s. s .small) (S .rules))
-
-  pub rule-shaped : Shaped t → (r : ℕ) → r < length (t .rules) → ShapedGroup (ruleAt t r)
-  rule-shaped S r h = each-getD ShapedGroup (t .rules) r (everyCharacter []) (S .rules) h
-
-  pub longest-positive : Shaped t → 1 ≤ longest t
-  longest-positive S =
-      let i : 1 ≤ ruleAt t 0 .size = rule-shaped S 0 (S .some-rule) .positive in
-      let j : ruleAt t 0 .size ≤ longest t = longest-le 0 (S .some-rule) in
-      omega arith
+-- what the numbering gives of a table's states; c is any character
+pub record Numbered (t : Table) : Type 0 where
+  pub some-state : 0 < length (states t)
+  pub first : stateAt t 0 ≡ initial t
+  pub depths : (s : ℕ) → s < length (states t) → stateAt t s .depth ≤ longest t
+  pub deep : (s : ℕ) → s < length (states t) → 0 < s → 1 ≤ stateAt t s .depth
+  pub members : (s : ℕ) → s < length (states t) → Each (λ r. r < length (t .rules)) (stateAt t s .members)
+  pub below : (s c : ℕ) → targetOf t (states t) (stateAt t s) c < length (states t)
+  pub deeper : (s c : ℕ) → targetOf t (states t) (stateAt t s) c ≢ 0 →
+      stateAt t (targetOf t (states t) (stateAt t s) c) .depth ≡ suc (stateAt t s .depth)
+  pub later : (s c : ℕ) → s < length (states t) → targetOf t (states t) (stateAt t s) c ≢ 0 → s < targetOf t (states t) (stateAt t s) c
+  pub no-way-on : (s c : ℕ) → acceptOf t (stateAt t s) ≢ 0 → targetOf t (states t) (stateAt t s) c ≡ 0
 
 -- equal states, and where a state stands
 
@@ -122,7 +113,7 @@ module _ (t : Table) (qs : List State) (q : State) (c : ℕ) where
       (λ b.
       let s : State = record { depth = suc (q .depth); members = cond b (longerRules t q c) [] } in
       cond (inhabited s) (orElse 0 (findFrom 0 (sameState s) qs)) 0)
-      (of-not (eqb (acceptOf t q) 0) (not-T (eqb (acceptOf t q) 0) (λ e. h (eqb→eq (acceptOf t q) 0 e))))
+      (of-not (eqb (acceptOf t q) 0) (ne→neqb (acceptOf t q) 0 h))
 
 -- levels
 
@@ -145,10 +136,6 @@ IsRule t r = r < length (t .rules)
 -- rule r is longer than the state is deep, and takes the character next
 abbrev pub goesOn : Table → State → ℕ → ℕ → Bool
 goesOn t q c r = ltb (q .depth) (ruleAt t r .size) && inRanges (getD (ruleAt t r .ranges) (q .depth) []) c
-
-each-map : {A B : Type 0} (P : B → Type 0) (f : A → B) (xs : List A) → ((x : A) → P (f x)) → Each P (map f xs)
-each-map P f [] h = tt
-each-map P f (x ∷ xs) h = (h x, each-map P f xs h)
 
 module _ (t : Table) where
   -- a state of depth d, over rules of the table
@@ -305,8 +292,8 @@ module _ (t : Table) where
   unfolding successor
   successor-depth q c = refl
 
-  pub numbered : Shaped t → Numbered t
-  numbered S = record {
+  pub numbered : Numbered t
+  numbered = record {
     some-state = states-first .0;
     first = states-first .1;
     depths = λ s h. let z : stateAt t s .depth ≤ 0 + longest t = between s h .high in omega arith;

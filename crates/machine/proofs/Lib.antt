@@ -1,7 +1,7 @@
 pub mod Opened
 pub mod Good
 pub mod Classes
-pub mod Sets
+pub mod First
 pub mod Levels
 pub mod States
 pub mod Places
@@ -11,4 +11,3 @@ pub mod Write
 pub mod Words
 pub mod Sound
 pub mod Compile
-pub mod Compiled

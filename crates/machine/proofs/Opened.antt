@@ -1,4 +1,5 @@
 -- `unfolding machine-opened` opens the definitions of this crate, for a proof by computation.
+-- It holds nothing itself: it is a name under which they all unfold.
 use Rattle.machine.specs.Classes.{starts, classOf}
 use Rattle.machine.specs.States.{initial, acceptAtEndOf, acceptOf, successor, sameState, distinct, nextLevel, levels, states, targetOf}
 use Rattle.machine.specs.Layout.{parts, words}

@@ -1,14 +1,13 @@
 -- What the words of a table hold at each place, whatever words stand after them.
 -- A part of known length is found by the lengths of the parts before it, and a state's words in it are rows of one length.
-use mathlib.Core.List.{List, [], _∷_, _++_, map, append-assoc}
+use mathlib.Core.List.{List, [], _++_, map, append-assoc}
 use mathlib.Core.Path.{_≡_, refl, ap, _∙_}
-use Prim.Native.Nat.{ℕ, zero, suc, _+_, _*_, _≤_, _<_}
-use native.Mathlib.Nat.{zero-add}
+use Prim.Native.Nat.{ℕ, _+_, _*_, _≤_, _<_}
 use native.Mathlib.Omega.{arith}
-use lib.ListN.{length, getD, take, drop, length-append, List·getD-append, List·getD-map, length-map}
-use lib.Seq.{getD-append-add, take-append-le}
+use lib.ListN.{length, getD, take, drop, length-append, List·getD-map, length-map}
+use lib.Seq.{take-append-le}
 use Rattle.lists.specs.Lists.{flatMap, pad, isSome}
-use Rattle.lists.proofs.Parts.{length-pad, getD-pad, getD-rows, getD-there, flat}
+use Rattle.lists.proofs.Parts.{length-pad, getD-pad, getD-rows, take-pad, flat, getD-part, getD-there}
 use Rattle.rules.specs.Table.{Table, longest, expansion}
 use Rattle.rules.specs.Block.{at, bit}
 use Rattle.machine.specs.Classes.{starts}
@@ -16,24 +15,6 @@ use Rattle.machine.specs.States.{State, initial, states, acceptAtEndOf, 
 use Rattle.machine.specs.Layout.{wordCount, stateWords, targetWords, parts, words}
 use Rattle.machine.specs.Sound.{classCount, longestWord, expansionWord, ruleCount, stateCount, depthWord, acceptAtEndWord, acceptWord, targetWord}
 use Rattle.machine.proofs.Good.{stateAt}
-
-take-pad : (n : ℕ) (xs : List ℕ) → length xs ≤ n → take (length xs) (pad n xs) ≡ xs
-unfolding pad
-take-pad zero [] h = refl
-take-pad zero (x ∷ xs) h = absurd (omega arith)
-take-pad (suc n) [] h = refl
-take-pad (suc n) (x ∷ xs) h = ap (λ ys. x ∷ ys) (take-pad n xs (omega arith))
-
--- part number j, which begins where the parts before it end
-pub getD-part-number : (ps : List (List ℕ)) (rest : List ℕ) (j i : ℕ) → i < length (getD ps j []) →
-    at (flat ps ++ rest) (length (flat (take j ps)) + i) ≡ at (getD ps j []) i
-getD-part-number [] rest j i h = absurd (omega arith)
-getD-part-number (p ∷ ps) rest zero i h = rw (append-assoc, zero-add) (List·getD-append p (flat ps ++ rest) 0 i h)
-getD-part-number (p ∷ ps) rest (suc j) i h =
-    rw append-assoc (
-    ap (λ a. at (p ++ (flat ps ++ rest)) a) (omega (arith, length-append p (flat (take j ps))))
-    ∙ getD-append-add p (flat ps ++ rest) (length (flat (take j ps)) + i) 0
-    ∙ getD-part-number ps rest j i h)
 
 pub length-words : (t : Table) → length (words t) ≡ wordCount
 unfolding words parts
@@ -44,7 +25,7 @@ module _ (t : Table) (rest : List ℕ) where
   pub layout-part : (j n : ℕ) → length (flat (take j (parts t))) ≡ n → (i : ℕ) → i < length (getD (parts t) j []) →
       at (words t ++ rest) (n + i) ≡ at (getD (parts t) j []) i
   unfolding words
-  layout-part j n e i h = rw (← e) (getD-part-number (parts t) rest j i h)
+  layout-part j n e i h = rw (← e) (getD-part (parts t) rest j i h)
 
   pub layout-states : stateCount (words t ++ rest) ≡ length (states t)
   unfolding words parts

@@ -1,31 +1,30 @@
 -- The automaton made from a table reads its rules, is good, and writes no more than the table's expansion.
 -- After a word it is in the state of that word: its length, and the rules that it fits so far.
-use mathlib.Core.Bool.{Bool, true, _&&_, not, cond, false≢true}
-use mathlib.Core.List.{List, [], _∷_, _++_, append-nil, List·Memᴰ, List·Memᴰ·head, Memᴰ·append-left, Memᴰ·append-right}
-use mathlib.Core.Option.{Option, none, some}
+use mathlib.Core.Bool.{Bool, _&&_, not, cond}
+use mathlib.Core.List.{List, [], _∷_, _++_, append-nil, List·Memᴰ}
 use mathlib.Core.Path.{_≡_, refl, sym, ap, ap₂, subst, _∙_}
 use Prim.Native.Nat.{ℕ, zero, suc, _≤_, _<_}
 use native.Mathlib.Decide.{ℕ-discrete}
 use native.Mathlib.Omega.{arith}
 use lib.Dec.{T, eqb, ltb, eqb→eq, eqb-refl}
-use lib.IntN.{natAbs}
-use lib.ListN.{length, length-append, length-map}
+use lib.ListN.{length, length-append}
 use lib.Seq.{append-snoc}
-use Rattle.lists.specs.Lists.{filter, upTo, optional, orElse, isSome}
-use Rattle.lists.proofs.Tests.{and-left, and-right, both, of-not, of-cond}
-use Rattle.lists.proofs.Each.{each-front, each-back, each-weaken, each-filter}
+use Rattle.lists.specs.Lists.{filter, upTo}
+use Rattle.lists.proofs.Tests.{and-left, and-right, both, of-not}
+use Rattle.lists.proofs.Each.{each-front, each-back, each-weaken}
 use Rattle.lists.proofs.Members.{mem-filter, mem-getD}
-use Rattle.rules.specs.Table.{Characters, Group, Table, groups, ruleAt, everyCharacter, group, defaultNumber, longest, expansion}
-use Rattle.rules.specs.Value.{value}
+use Rattle.lists.proofs.Sets.{filter-filter, filter-same, filter-all, not-empty, each-upTo, mem-upTo}
+use Rattle.rules.specs.Table.{Characters, Table, ruleAt, group, defaultNumber, longest, expansion}
 use Rattle.rules.specs.Meaning.{written}
 use Rattle.rules.proofs.Prefix.{fitsPrefix, fitsPrefix-nil, fitsPrefix-snoc}
 use Rattle.rules.proofs.Shape.{Shaped}
-use Rattle.machine.specs.States.{State, firstNumber, initial, acceptOf, acceptAtEndOf, longerRules, successor, inhabited, states}
+use Rattle.rules.proofs.Groups.{rule-shaped, group-short, written-length}
+use Rattle.machine.specs.States.{State, initial, acceptOf, acceptAtEndOf, longerRules, successor, inhabited, states}
 use Rattle.machine.specs.Automaton.{fromTable}
-use Rattle.machine.proofs.Good.{after, Leads, Good, Short, Least, Done, Free, Reads, stateAt}
+use Rattle.machine.proofs.Good.{after, Leads, Good, after-inside, Short, Least, Done, Free, Reads, stateAt}
 use Rattle.machine.proofs.Classes.{startOf, class-same, class-member}
-use Rattle.machine.proofs.Sets.{filter-filter, filter-same, filter-all, not-empty, le-greatest, each-upTo, mem-upTo, first-each, least-kept}
-use Rattle.machine.proofs.Levels.{rule-shaped, IsRule, goesOn, target-found, target-there, states-closed, successor-depth, numbered}
+use Rattle.machine.proofs.First.{least-kept}
+use Rattle.machine.proofs.Levels.{IsRule, goesOn, target-found, target-there, states-closed, successor-depth, numbered}
 
 -- The state of a word: "depth d, and the set of rules with K at least d that fit" it "in their first d positions". A prefix that fits is no
 -- longer than K (`fitsPrefix-length`).
@@ -61,20 +60,6 @@ module _ (t : Table) where
       (each-weaken (IsRule t) (λ r. T (fitting [] r)) (upTo (length (t .rules))) (λ r h. fitsPrefix-nil (ruleAt t r .ranges)) (each-upTo (length (t .rules)))) in
       λ i. record { depth = 0; members = sym m i }
 
-  -- the group of a rule's number is the rule
-  pub rule-group : Shaped t → (r : ℕ) → r < length (t .rules) → group t r ≡ ruleAt t r
-  unfolding group
-  rule-group S r h =
-      of-cond (λ g. g ≡ ruleAt t r) (eqb r defaultNumber) (orElse (everyCharacter []) (t .default)) (ruleAt t r)
-      (λ v. let z : r ≡ 32 = eqb→eq r defaultNumber v in let k : length (t .rules) ≤ 32 = S .few-rules in absurd (omega arith)) (λ _. refl)
-
-  -- a group of the table writes no more than the expansion
-  group-short : (g : Group) → List·Memᴰ g (groups t) → (w : List ℕ) → length (written g w) ≤ expansion t
-  unfolding written expansion
-  group-short g m w =
-      let e : length (written g w) ≡ length (g .outputs) = length-map (g .outputs) (λ o. natAbs (value o w)) in
-      rw e (le-greatest (λ (g : Group). length (g .outputs)) (groups t) m)
-
 module _ (t : Table) (S : Shaped t) where
   -- one character on, where no rule is accepted
   state-next : (v : List ℕ) (x : ℕ) → x < 65536 → acceptOf t (stateOf t v) ≡ 0 → successor t (stateOf t v) (startOf t x) ≡ stateOf t (v ++ x ∷ [])
@@ -102,7 +87,7 @@ module _ (t : Table) (S : Shaped t) where
   state-from v (x ∷ w) q a l e = state-from (v ++ x ∷ []) w (fromTable t .target q x) (a .1) (l .1) next ∙ ap (stateOf t) (append-snoc v x w)
     where
       going : acceptOf t (stateAt t q) ≡ 0
-      going = elim (ℕ-discrete (acceptOf t (stateAt t q)) 0) [ yes p ↦ p | no n ↦ absurd (l .0 (numbered t S .no-way-on q (startOf t x) n)) ]
+      going = elim (ℕ-discrete (acceptOf t (stateAt t q)) 0) [ yes p ↦ p | no n ↦ absurd (l .0 (numbered t .no-way-on q (startOf t x) n)) ]
 
       next : stateAt t (fromTable t .target q x) ≡ stateOf t (v ++ x ∷ [])
       next =
@@ -111,7 +96,7 @@ module _ (t : Table) (S : Shaped t) where
           ∙ state-next v x (a .0) (ap (acceptOf t) (sym e) ∙ going)
 
   pub state-after : (w : List ℕ) → Characters w → Leads (fromTable t) 0 w → stateAt t (after (fromTable t) 0 w) ≡ stateOf t w
-  state-after w a l = state-from [] w 0 a l (numbered t S .first ∙ initial-is t)
+  state-after w a l = state-from [] w 0 a l (numbered t .first ∙ initial-is t)
 
   accepts : (w : List ℕ) → Characters w → Leads (fromTable t) 0 w → Least (Free t w) (fromTable t .accept (after (fromTable t) 0 w))
   unfolding fromTable acceptOf
@@ -137,10 +122,25 @@ module _ (t : Table) (S : Shaped t) where
       (λ r h v. to-done t w r h (and-left (fitting t w r) (sized t w r) v) (and-right (fitting t w r) (sized t w r) v))
       (λ r d. (d .rule, both (fitting t w r) (sized t w r) (d .takes) (done-sized t w r d))))
 
-  state-inside : (q : ℕ) (w : List ℕ) → q < length (states t) → after (fromTable t) q w < length (states t)
-  unfolding after fromTable
-  state-inside q [] h = h
-  state-inside q (x ∷ w) h = state-inside (fromTable t .target q x) w (numbered t S .below q (startOf t x))
+  no-empty-rule : (r : ℕ) → Done t [] r → ⊥
+  no-empty-rule r d =
+      let i : 1 ≤ ruleAt t r .size = rule-shaped t S r (d .rule) .positive in
+      let e : ruleAt t r .size ≡ 0 = d .size in
+      omega arith
+
+  pub table-good : Good (fromTable t) (longest t) (length (states t))
+  unfolding fromTable after initial
+  table-good = record {
+    some-state = numbered t .some-state;
+    depth = λ q. stateAt t q .depth;
+    depth-0 = ap (λ (p : State). p .depth) (numbered t .first);
+    accept-0 = least-none (Free t []) (fromTable t .accept 0) (λ r d. no-empty-rule r (d .done)) (accepts [] tt tt);
+    end-0 = least-none (Done t []) (fromTable t .acceptAtEnd 0) no-empty-rule (ends [] tt tt);
+    inside = λ q x h. numbered t .below q (startOf t x);
+    deeper = λ q x h n. numbered t .deeper q (startOf t x) n;
+    shallow = λ q h. numbered t .depths q h;
+    no-way-on = λ q x h n. numbered t .no-way-on q (startOf t x) n;
+  }
 
   -- a rule that goes on is in the successor, which is then one of the states, and deeper than state 0
   dead-end : (w : List ℕ) (x : ℕ) → Characters (w ++ x ∷ []) → Leads (fromTable t) 0 w → fromTable t .accept (after (fromTable t) 0 w) ≡ 0 →
@@ -157,53 +157,18 @@ module _ (t : Table) (S : Shaped t) where
       (not-empty (filter (fitting t (w ++ x ∷ [])) (upTo (length (t .rules))))
       (mem-filter (fitting t (w ++ x ∷ [])) (upTo (length (t .rules))) f (mem-upTo (length (t .rules)) r h))) in
       let m : List·Memᴰ (successor t (stateAt t q) c) (states t) =
-      states-closed t c (class-member t x) i (mem-getD (states t) q (initial t) (state-inside 0 w (numbered t S .some-state))) in
+      states-closed t c (class-member t x) i (mem-getD (states t) q (initial t) (after-inside (fromTable t) (longest t) (length (states t)) table-good 0 w (numbered t .some-state))) in
       let d : 0 ≡ suc (stateAt t q .depth) =
-      ap (λ (p : State). p .depth) (sym (numbered t S .first) ∙ ap (stateAt t) (sym z) ∙ target-there t (states t) (stateAt t q) c (initial t) i m)
+      ap (λ (p : State). p .depth) (sym (numbered t .first) ∙ ap (stateAt t) (sym z) ∙ target-there t (states t) (stateAt t q) c (initial t) i m)
       ∙ successor-depth t (stateAt t q) c in
       omega arith
 
   pub table-reads : Reads (fromTable t) t
   table-reads = record { accept-is = accepts; end-is = ends; dead = dead-end }
 
-  no-empty-rule : (r : ℕ) → Done t [] r → ⊥
-  no-empty-rule r d =
-      let i : 1 ≤ ruleAt t r .size = rule-shaped t S r (d .rule) .positive in
-      let e : ruleAt t r .size ≡ 0 = d .size in
-      omega arith
-
-  pub table-good : Good (fromTable t) (longest t) (length (states t))
-  unfolding fromTable after initial
-  table-good = record {
-    some-state = numbered t S .some-state;
-    depth = λ q. stateAt t q .depth;
-    depth-0 = ap (λ (p : State). p .depth) (numbered t S .first);
-    accept-0 = least-none (Free t []) (fromTable t .accept 0) (λ r d. no-empty-rule r (d .done)) (accepts [] tt tt);
-    end-0 = least-none (Done t []) (fromTable t .acceptAtEnd 0) no-empty-rule (ends [] tt tt);
-    inside = λ q x h. numbered t S .below q (startOf t x);
-    deeper = λ q x h n. numbered t S .deeper q (startOf t x) n;
-    shallow = λ q h. numbered t S .depths q h;
-    no-way-on = λ q x h n. numbered t S .no-way-on q (startOf t x) n;
-  }
-
-  rule-short : (r : ℕ) → r < length (t .rules) → (w : List ℕ) → length (written (group t r) w) ≤ expansion t
-  rule-short r h w =
-      rw (rule-group t S r h)
-      (group-short t (ruleAt t r) (Memᴰ·append-left (optional (t .default)) (mem-getD (t .rules) r (everyCharacter []) h)) w)
-
-  default-in : (o : Option Group) → isSome o ≡ true → List·Memᴰ (orElse (everyCharacter []) o) (optional o)
-  default-in none e = absurd (false≢true e)
-  default-in (some g) e = List·Memᴰ·head refl
-
-  pub table-short : Short (fromTable t) (expansion t) (length (states t))
-  unfolding fromTable acceptOf acceptAtEndOf group
-  table-short = record {
-    of-accept = λ q r h e w. rule-short r (kept (λ r. eqb (ruleAt t r .size) (stateAt t q .depth) && free t r) q r h e) w;
-    of-end = λ q r h e w. rule-short r (kept (λ r. eqb (ruleAt t r .size) (stateAt t q .depth)) q r h e) w;
-    of-default = λ e w. group-short t (orElse (everyCharacter []) (t .default)) (Memᴰ·append-right (t .rules) (default-in (t .default) e)) w;
-  }
-    where
-      kept : (f : ℕ → Bool) (q r : ℕ) → q < length (states t) → firstNumber (filter f (stateAt t q .members)) ≡ suc r → r < length (t .rules)
-      kept f q r h e =
-          first-each (IsRule t) (filter f (stateAt t q .members)) r
-          (each-filter (IsRule t) f (stateAt t q .members) (numbered t S .members q h)) e
+pub table-short : (t : Table) → Short (fromTable t) (expansion t) (length (states t))
+unfolding fromTable
+table-short t = record { of-accept = λ q r h e. short r; of-end = λ q r h e. short r; of-default = λ e. short defaultNumber }
+  where
+    short : (n : ℕ) (w : List ℕ) → length (written (group t n) w) ≤ expansion t
+    short n w = rw (written-length (group t n) w) (group-short t n)

@@ -1,18 +1,18 @@
 -- What sound words say, and that the automaton read from them is good and short.
 -- The test is taken apart into its clauses; a rule has K at least 1, so that no state of depth 0 accepts.
-use mathlib.Core.Bool.{Bool, not, cond}
+use mathlib.Core.Bool.{not, cond}
 use mathlib.Core.List.{List, [], _∷_}
 use mathlib.Core.Logic.{_≢_}
-use mathlib.Core.Path.{_≡_, refl, sym, ap, subst}
-use Prim.Native.Nat.{ℕ, zero, suc, pred, _+_, _≤_, _<_}
+use mathlib.Core.Path.{_≡_, refl, sym, subst}
+use Prim.Native.Nat.{ℕ, suc, pred, _≤_, _<_}
 use native.Mathlib.Decide.{ℕ-discrete}
 use native.Mathlib.Omega.{arith}
-use lib.Dec.{T, T-not, not-T, eqb, leb, leb→le, ltb→lt, eqb→eq}
+use lib.Dec.{T, eqb, leb→le, ltb→lt, eqb→eq}
 use lib.ListN.{length, take, drop, length-drop}
 use lib.Seq.{length-take-le}
-use Rattle.lists.specs.Lists.{count, tabFrom}
 use Rattle.lists.specs.Decide.{allOf}
-use Rattle.lists.proofs.Tests.{to-T, not-not, and-left, and-right, implied, holds, below, of-cond}
+use Rattle.lists.proofs.Tests.{to-T, not-not, implied, holds, below, of-cond, neqb→ne, ne→neqb, of-between}
+use Rattle.lists.proofs.Sets.{length-tab}
 use Rattle.rules.specs.Table.{defaultNumber}
 use Rattle.rules.specs.Block.{at, blockOutput}
 use Rattle.machine.specs.Classes.{classOf}
@@ -20,15 +20,7 @@ use Rattle.machine.specs.Layout.{wordCount}
 use Rattle.machine.specs.Sound.{classCount, longestWord, expansionWord, ruleCount, stateCount, depthWord, acceptAtEndWord, acceptWord, targetWord, blockAt, between, used, soundHeader, soundBlock, soundBlocks, namesRule, soundTarget, soundState, sound}
 use Rattle.machine.specs.Automaton.{fromWords}
 use Rattle.machine.proofs.Good.{Good, Short}
-
-pub in-between : (lo hi x : ℕ) → T (between lo hi x) → (lo ≤ x) × (x ≤ hi)
-in-between lo hi x t = (leb→le lo x (and-left (leb lo x) (leb x hi) t), leb→le x hi (and-right (leb lo x) (leb x hi) t))
-
-pub to-used : (n : ℕ) → n ≢ 0 → T (used n)
-to-used n h = not-T (eqb n 0) (λ t. h (eqb→eq n 0 t))
-
-pub of-used : (n : ℕ) → T (used n) → n ≢ 0
-of-used n t e = T-not (eqb n 0) t (subst (λ m. T (eqb m 0)) (sym e) tt)
+use Rattle.machine.proofs.Classes.{class-below}
 
 -- the words that are no state's and no block's
 pub record SoundHeader (w : List ℕ) : Type 0 where
@@ -82,7 +74,7 @@ module _ (w : List ℕ) where
   block g most anchored a t =
       let b = blockAt w g in
       let h = holds _ t in
-      let size = in-between 1 most (at b 0) (h .0) in
+      let size = of-between 1 most (at b 0) (h .0) in
       let second : at b 1 ≤ anchored = leb→le (at b 1) anchored (h .1 .0) in
       record { positive = size .0; size = size .1; anchored = omega arith; outputs = leb→le (at b 2) (expansionWord w) (h .1 .1 .0) }
 
@@ -107,31 +99,19 @@ module _ (w : List ℕ) where
       let go = acceptWord w s in
       let none = eqb s 0 in
       let deep = between 1 (longestWord w) depth in
-      let goes : go ≢ 0 → _ = λ n. holds _ (implied (used go) _ (h .1 .1 .0) (to-used go n)) in
+      let goes : go ≢ 0 → _ = λ n. holds _ (implied (used go) _ (h .1 .1 .0) (ne→neqb go 0 n)) in
       let shallow : T (cond none (eqb depth 0) deep) → depth ≤ longestWord w =
-      of-cond (λ b. T b → depth ≤ longestWord w) none (eqb depth 0) deep (λ _ e. omega (arith, eqb→eq depth 0 e)) (λ _ b. in-between 1 (longestWord w) depth b .1) in
+      of-cond (λ b. T b → depth ≤ longestWord w) none (eqb depth 0) deep (λ _ e. omega (arith, eqb→eq depth 0 e)) (λ _ b. of-between 1 (longestWord w) depth b .1) in
       let first : s ≡ 0 → T (cond none (eqb depth 0) deep) → depth ≡ 0 =
-      λ z. of-cond (λ b. T b → depth ≡ 0) none (eqb depth 0) deep (λ _ e. eqb→eq depth 0 e) (λ n. absurd (of-used s n z)) in
+      λ z. of-cond (λ b. T b → depth ≡ 0) none (eqb depth 0) deep (λ _ e. eqb→eq depth 0 e) (λ n. absurd (neqb→ne s 0 n z)) in
       record {
         first = λ z. first z (h .0);
         shallow = shallow (h .0);
-        end = λ n. names depth end (implied (used end) _ (h .1 .0) (to-used end n));
+        end = λ n. names depth end (implied (used end) _ (h .1 .0) (ne→neqb end 0 n));
         accept = λ n. names depth go (goes n .0);
-        accept-end = λ n. of-used end (goes n .1 .1 .0);
-        target = λ k b n. follows s (targetWord w s k) (implied (used (targetWord w s k)) _ (below (classCount w) _ (h .1 .1 .1 .0) k b) (to-used (targetWord w s k) n));
+        accept-end = λ n. neqb→ne end 0 (goes n .1 .1 .0);
+        target = λ k b n. follows s (targetWord w s k) (implied (used (targetWord w s k)) _ (below (classCount w) _ (h .1 .1 .1 .0) k b) (ne→neqb (targetWord w s k) 0 n));
       }
-
-count-length : {A : Type 0} (p : A → Bool) (xs : List A) → count p xs ≤ length xs
-count-length p [] = omega arith
-count-length p (x ∷ xs) = let rest = count-length p xs in of-cond (λ n. n + count p xs ≤ suc (length xs)) (p x) 1 0 (λ _. omega arith) (λ _. omega arith)
-
-pub class-below : (ss : List ℕ) (c : ℕ) → 0 < length ss → classOf ss c < length ss
-unfolding classOf
-class-below ss c h = let z : pred (count (λ s. leb s c) ss) < length ss = omega (arith, count-length (λ s. leb s c) ss) in z
-
-length-tab : {A : Type 0} (i n : ℕ) (f : ℕ → A) → length (tabFrom i n f) ≡ n
-length-tab i zero f = refl
-length-tab i (suc n) f = ap suc (length-tab (suc i) n f)
 
 -- a block writes as many characters as it says
 pub length-blockOutput : (b w : List ℕ) → length (blockOutput b w) ≡ at b 2
@@ -144,10 +124,10 @@ module _ (w : List ℕ) (sure : T (sound w)) where
   sound-header =
       let all = holds _ sure in
       let h = holds _ (all .1 .0) in
-      let states = in-between 1 256 (stateCount w) (h .0) in
-      let classes = in-between 1 64 (classCount w) (h .1 .0) in
-      let longest = in-between 1 8 (longestWord w) (h .1 .1 .0) in
-      let rules = in-between 1 32 (ruleCount w) (h .1 .1 .1 .1 .0) in
+      let states = of-between 1 256 (stateCount w) (h .0) in
+      let classes = of-between 1 64 (classCount w) (h .1 .0) in
+      let longest = of-between 1 8 (longestWord w) (h .1 .1 .0) in
+      let rules = of-between 1 32 (ruleCount w) (h .1 .1 .1 .1 .0) in
       record {
         long = leb→le wordCount (length w) (all .0);
         some-state = states .0;

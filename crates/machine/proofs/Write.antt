@@ -1,21 +1,21 @@
 -- An accepted table and its words write the same for every word that a group takes.
 -- The words hold the group's block, and refusal 7 leaves values that are characters, which a block writes exactly.
-use mathlib.Core.Bool.{true, or-false, false≢true}
+use mathlib.Core.Bool.{or-false}
 use mathlib.Core.List.{List, [], _∷_, _++_}
-use mathlib.Core.Option.{Option, none, some}
-use mathlib.Core.Path.{_≡_, refl, sym, ap, _∙_, subst}
+use mathlib.Core.Option.{some}
+use mathlib.Core.Path.{_≡_, sym, ap, _∙_}
 use Prim.Native.Nat.{ℕ, _<_}
 use native.Mathlib.Omega.{arith}
-use lib.Dec.{T, leb, le→leb}
-use Rattle.lists.specs.Lists.{Each, isSome, optional}
-use Rattle.lists.proofs.Tests.{both, and-true}
+use lib.Dec.{T}
+use Rattle.lists.specs.Lists.{Each, optional}
+use Rattle.lists.proofs.Tests.{and-true, to-between}
 use Rattle.lists.proofs.Each.{each-front, each-back, each-weaken, each-getD}
 use Rattle.rules.specs.Table.{Group, Table, everyCharacter, ruleAt}
 use Rattle.rules.specs.Value.{value, fitsWord, IsCharacter, SafeOutput, SafeTable}
 use Rattle.rules.specs.Meaning.{written}
 use Rattle.rules.proofs.Prefix.{fitsPrefix-whole}
-use Rattle.rules.proofs.Choice.{group-rule, group-default}
-use Rattle.rules.proofs.Shape.{ShapedGroup, ShapedDefault, Shaped}
+use Rattle.rules.proofs.Shape.{ShapedDefault, Shaped}
+use Rattle.rules.proofs.Groups.{rule-shaped, default-each, group-rule, group-default, some-default}
 use Rattle.rules.proofs.Exact.{block-writes}
 use Rattle.machine.specs.Layout.{words}
 use Rattle.machine.specs.Sound.{blockAt}
@@ -37,26 +37,18 @@ pub safe-rule : (t : Table) (w : List ℕ) (r : ℕ) → Shaped t → SafeTable 
 unfolding SafeTable
 safe-rule t w r s safe d =
     let g = ruleAt t r in
-    let shape = each-getD ShapedGroup (t .rules) r (everyCharacter []) (s .rules) (d .rule) in
+    let shape = rule-shaped t s r (d .rule) in
     safe-group g w (rw (fitsPrefix-whole (g .ranges) w (shape .places ∙ d .size)) (d .takes))
     (each-getD SafeGroup (t .rules) r (everyCharacter []) (each-front SafeGroup (t .rules) (optional (t .default)) safe) (d .rule))
-
--- what holds of the default, if there is one, holds of g
-of-default-group : (P : Group → Type 0) (t : Table) (g : Group) → t .default ≡ some g → Each P (optional (t .default)) → P g
-of-default-group P t g e a = subst (λ o. Each P (optional o)) e a .0
 
 pub safe-default : (t : Table) (g : Group) (x : ℕ) → Shaped t → SafeTable t → t .default ≡ some g → x < 65536 →
     Each (λ o. IsCharacter (value o (x ∷ []))) (g .outputs)
 unfolding SafeTable fitsWord
 safe-default t g x s safe e h =
-    let shape = of-default-group ShapedDefault t g e (s .default) in
+    let shape = default-each ShapedDefault t g e (s .default) in
     safe-group g (x ∷ [])
-    (rw (shape .ranges, or-false, and-true) (both (leb 0 x) (leb x 65535) (le→leb 0 x (omega arith)) (le→leb x 65535 (omega arith))))
-    (of-default-group SafeGroup t g e (each-back SafeGroup (t .rules) (optional (t .default)) safe))
-
-some-default : (o : Option Group) → isSome o ≡ true → (g : Group) × (o ≡ some g)
-some-default none e = absurd (false≢true e)
-some-default (some g) e = (g, refl)
+    (rw (shape .ranges, or-false, and-true) (to-between 0 65535 x (omega arith) (omega arith)))
+    (default-each SafeGroup t g e (each-back SafeGroup (t .rules) (optional (t .default)) safe))
 
 pub words-write : (t : Table) (rest : List ℕ) → Shaped t → SafeTable t → Writes (fromTable t) (fromWords (words t ++ rest)) t
 unfolding fromTable fromWords
@@ -64,7 +56,7 @@ words-write t rest s safe =
     record {
       of-rule =
           λ r w d.
-          let shape = each-getD ShapedGroup (t .rules) r (everyCharacter []) (s .rules) (d .rule) in
+          let shape = rule-shaped t s r (d .rule) in
           ap (λ g. written g w) (group-rule t r s (d .rule))
           ∙ sym (block-writes (ruleAt t r) w (blockAt (words t ++ rest) r) (shape .small) (shape .outputs) (sym (d .size))
           (safe-rule t w r s safe d) (block-word t rest s r (d .rule)));
@@ -72,8 +64,8 @@ words-write t rest s safe =
           λ e x h.
           let d = some-default (t .default) e in
           let g = d .0 in
-          let shape = of-default-group ShapedDefault t g (d .1) (s .default) in
+          let shape = default-each ShapedDefault t g (d .1) (s .default) in
           ap (λ a. written a (x ∷ [])) (group-default t g (d .1))
           ∙ sym (block-writes g (x ∷ []) (blockAt (words t ++ rest) 32) (omega arith) (shape .outputs) (sym (shape .size))
-          (safe-default t g x s safe (d .1) h) (default-word t rest g s (d .1)));
+          (safe-default t g x s safe (d .1) h) (default-word t rest g (d .1)));
     }

@@ -3,9 +3,9 @@ use mathlib.Core.List.{List, [], _∷_, _++_}
 use mathlib.Core.Path.{_≡_}
 use mathlib.Core.Logic.{_≢_}
 use Prim.Native.Nat.{ℕ, _≤_}
-use lib.ListN.{length, drop, take}
+use lib.ListN.{length, drop}
 use Rattle.lists.specs.Lists.{pad}
-use Rattle.rules.specs.Refusal.{Outcome, refused, accepted, RefusedBy}
+use Rattle.rules.specs.Refusal.{refused, accepted, RefusedBy}
 use Rattle.rules.specs.Table.{Table}
 use Rattle.rules.specs.Claims.{Keeps}
 use Rattle.machine.specs.Classes.{starts}

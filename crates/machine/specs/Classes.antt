@@ -1,10 +1,10 @@
 -- "Machine words": class starts and classes.
-use mathlib.Core.Bool.{Bool, cond}
+use mathlib.Core.Bool.{cond}
 use mathlib.Core.List.{List, [], _∷_}
 use Prim.Native.Nat.{ℕ, suc, pred}
 use lib.Dec.{eqb, leb, ltb}
 use Rattle.lists.specs.Lists.{count, fold, flatMap}
-use Rattle.rules.specs.Table.{Range, Group, Table}
+use Rattle.rules.specs.Table.{Range, Table}
 
 -- x put into a rising list, "without repeats"
 abbrev pub insert : ℕ → List ℕ → List ℕ

@@ -1,5 +1,4 @@
 -- "Layout, 19,697 words": the machine words of a table.
-use mathlib.Core.Bool.{Bool}
 use mathlib.Core.List.{List, [], _∷_, map}
 use Prim.Native.Nat.{ℕ}
 use lib.ListN.{length}

@@ -1,22 +1,21 @@
 -- Definition 7 chooses the shortest rule that fits, then the lowest, and no other choice is both.
 -- By recursion on the number of rules looked at: each rule that fits is weighed against the choice so far.
-use mathlib.Core.Bool.{Bool, true, false, _||_, not, false≢true}
-use mathlib.Core.List.{List, []}
+use mathlib.Core.Bool.{Bool, true, false, _||_, not}
+use mathlib.Core.List.{List}
 use mathlib.Core.Option.{Option, none, some}
-use mathlib.Core.Path.{_≡_, refl, sym, ap, subst, _∙_}
+use mathlib.Core.Path.{_≡_, refl, sym, ap, subst}
 use Prim.Native.Nat.{ℕ, zero, suc, min, _≤_, _<_}
 use native.Mathlib.Decide.{ℕ-discrete}
 use native.Mathlib.Omega.{arith}
 use lib.Dec.{T, eqb, ltb, eqb→eq, eqb-refl, ltb→lt, nltb→le}
 use lib.ListN.{length, take, length-take}
-use Rattle.lists.specs.Lists.{Each, isSome, orElse, optional}
 use Rattle.lists.proofs.Tests.{and-left, and-right, both, of-cond}
-use Rattle.lists.proofs.Each.{each-getD}
-use Rattle.rules.specs.Table.{Group, Table, everyCharacter, ruleAt, defaultNumber, group}
+use Rattle.rules.specs.Table.{Table, ruleAt}
 use Rattle.rules.specs.Value.{fitsWord}
 use Rattle.rules.specs.Meaning.{fits, better, best, orDefault, choose}
 use Rattle.rules.proofs.Prefix.{fitsWord-length}
-use Rattle.rules.proofs.Shape.{ShapedGroup, ShapedDefault, Shaped}
+use Rattle.rules.proofs.Shape.{Shaped}
+use Rattle.rules.proofs.Groups.{rule-shaped}
 
 -- rule r fits u
 pub record Fits (t : Table) (r : ℕ) (u : List ℕ) : Type 0 where
@@ -48,7 +47,7 @@ facts-fit t r u f =
 pub fits-room : (t : Table) (r : ℕ) (u : List ℕ) → Shaped t → r < length (t .rules) → Fits t r u → ruleAt t r .size ≤ length u
 fits-room t r u s h f =
     let g = ruleAt t r in
-    let p : length (g .ranges) ≡ g .size = each-getD ShapedGroup (t .rules) r (everyCharacter []) (s .rules) h .places in
+    let p : length (g .ranges) ≡ g .size = rule-shaped t s r h .places in
     let q : length (g .ranges) ≡ length (take (g .size) u) = fitsWord-length (g .ranges) (take (g .size) u) (f .match) in
     let m : length (take (g .size) u) ≡ min (g .size) (length u) = length-take (g .size) u in
     omega arith
@@ -110,23 +109,3 @@ pub choose-is : (t : Table) (u : List ℕ) (b : Option ℕ) → Chosen t (length
 unfolding choose
 choose-is t u b c =
     let n = length (t .rules) in ap (orDefault t) (chosen-unique t n u (best t n u) b (best-chosen t n u) c)
-
--- the groups of the numbers chosen
-
-pub group-rule : (t : Table) (r : ℕ) → Shaped t → r < length (t .rules) → group t r ≡ ruleAt t r
-unfolding group
-group-rule t r s h =
-    let few : length (t .rules) ≤ 32 = s .few-rules in
-    of-cond (λ g. g ≡ ruleAt t r) (eqb r defaultNumber) (orElse (everyCharacter []) (t .default)) (ruleAt t r)
-    (λ e. let p : r ≡ 32 = eqb→eq r 32 e in absurd (omega arith)) (λ e. refl)
-
-pub group-default : (t : Table) (g : Group) → t .default ≡ some g → group t defaultNumber ≡ g
-unfolding group
-group-default t g p = rw p
-
-pub default-size : (t : Table) → Shaped t → isSome (t .default) ≡ true → group t defaultNumber .size ≡ 1
-default-size t s h = of (t .default) refl h (s .default)
-  where
-    of : (d : Option Group) → t .default ≡ d → isSome d ≡ true → Each ShapedDefault (optional d) → group t defaultNumber .size ≡ 1
-    of none p h e = absurd (false≢true h)
-    of (some g) p h e = ap (λ a. a .size) (group-default t g p) ∙ e .0 .size

@@ -1,7 +1,7 @@
 -- Demands 1 and 2 for direct conversion: what it answers and leaves, and that it accepts exactly the tables that keep the rules.
 -- The table check accepts what it should by `Seven` and `Reading`, and the text fits the buffer by `Length`.
-use mathlib.Core.Bool.{Bool, not}
-use mathlib.Core.List.{List, [], _∷_, _++_}
+use mathlib.Core.Bool.{not}
+use mathlib.Core.List.{List, [], _∷_}
 use mathlib.Core.Path.{_≡_, refl, sym, ap, subst}
 use Prim.Native.Nat.{ℕ, _*_, _≤_}
 use native.Mathlib.Omega.{arith}
@@ -10,30 +10,18 @@ use lib.ListN.{length, drop, length-append, length-drop}
 use lib.Seq.{take-append-seam, drop-append-seam}
 use Rattle.lists.specs.Lists.{any}
 use Rattle.lists.specs.Decide.{select}
-use Rattle.lists.proofs.Tests.{not-not, or-left, or-right, or-cases, by-cases}
+use Rattle.lists.proofs.Tests.{not-not, any-more, by-cases}
 use Rattle.rules.specs.Refusal.{Outcome, refused, accepted, andThen, RefusedBy}
 use Rattle.rules.specs.Table.{Table, expansion}
 use Rattle.rules.specs.Value.{SafeTable, safe}
 use Rattle.rules.specs.Reader.{readRules, readTable}
 use Rattle.rules.specs.Meaning.{meaningText}
-use Rattle.rules.specs.Direct.{limit, Converted, admitted, directBy, direct}
+use Rattle.rules.specs.Direct.{limit, Converted, admitted, directBy, direct, over}
 use Rattle.rules.specs.Claims.{Keeps, DirectAnswers, DirectAccepts}
-use Rattle.rules.proofs.Refusal.{by-then}
-use Rattle.rules.proofs.Shape.{Shaped}
+use Rattle.rules.proofs.Refusal.{by-then, accepted-not, accepted-same, Says}
 use Rattle.rules.proofs.Seven.{safe-table, table-safe}
-use Rattle.rules.proofs.Reading.{recordRefusals, read-shaped, read-filled, read-refused}
+use Rattle.rules.proofs.Reading.{recordRefusals, read-filled, read-refused}
 use Rattle.rules.proofs.Length.{text-short}
-
-pub any-more : {A : Type 0} (p : A → Bool) (xs ys : List A) → T (any p xs) → T (any p (xs ++ ys))
-any-more p [] ys t = absurd t
-any-more p (x ∷ xs) ys t =
-    or-cases (p x) (any p xs) t (or-left (p x) (any p (xs ++ ys))) (λ u. or-right (p x) (any p (xs ++ ys)) (any-more p xs ys u))
-
-pub accepted-not : {A : Type 0} (a : A) (n : ℕ) → accepted a ≡ refused n → ⊥
-accepted-not a n e = let z : _≡_ {A = ℕ} 0 1 = cc in omega arith
-
-accepted-same : {A : Type 0} (x y : A) → accepted x ≡ accepted y → x ≡ y
-accepted-same x y e = cc
 
 -- the table check
 
@@ -75,14 +63,13 @@ refused-unsafe b e = subst (Checked b) e (checked b) .1 refl
 pub table-refused : (b : List ℕ) (n : ℕ) → readTable b ≡ refused n → T (any (eqb n) tableRefusals)
 table-refused b n e = subst (Checked b) e (checked b) .0
 
-pub table-shaped : (b : List ℕ) (t : Table) → readTable b ≡ accepted t → Shaped t
-table-shaped b t e = read-shaped b t (read-keeps b t e .records)
-
 -- admission
 
+abbrev directRefusals : List ℕ
+directRefusals = 1 ∷ 2 ∷ 3 ∷ 4 ∷ 5 ∷ 6 ∷ 7 ∷ 14 ∷ 15 ∷ []
+
 abbrev Admitted : List ℕ → ℕ → ℕ → Outcome Table → Type 0
-Admitted b n room (refused k) = T (any (eqb k) (1 ∷ 2 ∷ 3 ∷ 4 ∷ 5 ∷ 6 ∷ 7 ∷ 14 ∷ 15 ∷ []))
-Admitted b n room (accepted t) = Keeps b t × (expansion t * n ≤ room)
+Admitted b n room o = Says directRefusals (λ t. Keeps b t × (expansion t * n ≤ room)) o
 
 admission : (b : List ℕ) (n room : ℕ) → Admitted b n room (admitted b n room)
 unfolding admitted
@@ -99,11 +86,18 @@ keeping-admitted b n room t k l r =
       λ _. (λ u. let h = ltb→lt room (expansion t * n) u in absurd (omega arith), λ _. refl),
     ))
 
+-- the buffer, with a text that fits at its start
+pub over-whole : (text buffer : List ℕ) → length text ≤ length buffer → length (over text buffer) ≡ length buffer
+over-whole text buffer h = rw (length-append, length-drop) (omega arith)
+
+pub over-beyond : (text buffer : List ℕ) (n : ℕ) → n ≡ length text → drop n (over text buffer) ≡ drop n buffer
+over-beyond text buffer n e = rw e (drop-append-seam text (drop (length text) buffer))
+
 -- the answer, for what was admitted
 
 module _ (b input buffer : List ℕ) where
   numbered-by : (o : Outcome Table) → Admitted b (length input) (length buffer) o →
-      RefusedBy (1 ∷ 2 ∷ 3 ∷ 4 ∷ 5 ∷ 6 ∷ 7 ∷ 14 ∷ 15 ∷ []) (directBy o input buffer .answer)
+      RefusedBy directRefusals (directBy o input buffer .answer)
   numbered-by (refused k) h = h
   numbered-by (accepted t) h = tt
 
@@ -115,16 +109,13 @@ module _ (b input buffer : List ℕ) where
       drop (a .count) (directBy o input buffer .output) ≡ drop (a .count) buffer
   beyond-by (refused k) a e = refl
   beyond-by (accepted t) a e =
-      let text = meaningText t input in
-      let count : a .count ≡ length text = sym (ap (λ c. c .count) (accepted-same _ a e)) in
-      rw count (drop-append-seam text (drop (length text) buffer))
+      over-beyond (meaningText t input) buffer (a .count) (sym (ap (λ c. c .count) (accepted-same _ a e)))
 
   whole-by : (o : Outcome Table) → Admitted b (length input) (length buffer) o → length (directBy o input buffer .output) ≡ length buffer
   whole-by (refused k) h = refl
   whole-by (accepted t) h =
-      let text = meaningText t input in
       let room : expansion t * length input ≤ length buffer = h .1 in
-      rw (length-append, length-drop) (omega (arith, text-short t input))
+      over-whole (meaningText t input) buffer (omega (arith, text-short t input))
 
   accepting-by : (o : Outcome Table) (a : Converted) → Admitted b (length input) (length buffer) o → directBy o input buffer .answer ≡ accepted a → (t : Table) × Keeps b t
   accepting-by (refused k) a h e = absurd (accepted-not a k (sym e))

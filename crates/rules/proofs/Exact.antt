@@ -3,26 +3,22 @@
 use mathlib.Core.List.{List, [], _∷_, map}
 use mathlib.Core.Path.{_≡_, refl, sym, ap, ap₂, _∙_}
 use Prim.Native.Nat.{ℕ, zero, suc, _+_, _*_, _/_, _%_, _≤_, _<_}
-use native.Mathlib.Nat.{mul-zero, mul-suc, zero-mul, zero-add, add-zero, add-suc, suc-add, add-comm}
+use native.Mathlib.Nat.{mul-zero, mul-suc, zero-mul, zero-add, add-zero, add-comm}
 use native.Mathlib.Omega.{arith}
 use borrow.Author.Tests.{le-ltb}
 use lib.Dec.{leb→le}
-use lib.IntN.{ℤ, pos, negsuc, natAbs, _+ℤ_, _*ℤ_, +ℤ-idr, +ℤ-assoc, +ℤ-comm, *ℤ-zero, *ℤ-comm, sucℤ-*ℤ}
+use lib.IntN.{ℤ, pos, negsuc, natAbs, _+ℤ_, _*ℤ_, +ℤ-idr, +ℤ-assoc, *ℤ-zero, *ℤ-comm, sucℤ-*ℤ}
 use lib.ListN.{length, getD, take, drop}
 use lib.Seq.{getD-append-add, getD-take, getD-drop}
 use Rattle.lists.specs.Lists.{Each, flatMap, tabFrom}
 use Rattle.lists.proofs.Each.{each-getD}
 use Rattle.lists.proofs.Parts.{length-pad, getD-pad, getD-rows}
+use Rattle.lists.proofs.Sets.{tab-map}
 use Rattle.rules.specs.Table.{Output, sum, Group}
 use Rattle.rules.specs.Value.{dot, value, IsCharacter}
 use Rattle.rules.specs.Meaning.{written}
 use Rattle.rules.specs.Block.{word, bit, entry, block, at, wordSum, blockOutput}
-
-swap : (a c m n : ℤ) → (a +ℤ m) +ℤ (c +ℤ n) ≡ (a +ℤ c) +ℤ (m +ℤ n)
-swap a c m n =
-    +ℤ-assoc a m (c +ℤ n)
-    ∙ ap (λ x. a +ℤ x) (sym (+ℤ-assoc m c n) ∙ ap (λ x. x +ℤ n) (+ℤ-comm m c) ∙ +ℤ-assoc c m n)
-    ∙ sym (+ℤ-assoc a c (m +ℤ n))
+use Rattle.rules.proofs.Seven.{sum-swap}
 
 -- z and n differ by a multiple of 65536
 record Same (z : ℤ) (n : ℕ) : Type 0 where
@@ -43,7 +39,7 @@ same-add z y n m h k =
       over = h .over + k .over;
       eq =
           ap (λ x. z +ℤ y +ℤ x) (ap pos (omega arith))
-          ∙ sym (swap z y (pos (65536 * h .under)) (pos (65536 * k .under)))
+          ∙ sym (sum-swap z y (pos (65536 * h .under)) (pos (65536 * k .under)))
           ∙ ap₂ _+ℤ_ (h .eq) (k .eq)
           ∙ ap pos (omega arith);
     }
@@ -172,12 +168,6 @@ entry-writes (sum c ks) b w n m next few h e =
     ∙ e (suc j) (omega arith)
     ∙ getD-pad 8 (map word ks) j (omega arith))
     ∙ exact c ks w h
-
-tab-map : {A B : Type 0} (f : ℕ → B) (h : A → B) (i : ℕ) (xs : List A) (d : A) →
-    ((j : ℕ) → j < length xs → f (i + j) ≡ h (getD xs j d)) → tabFrom i (length xs) f ≡ map h xs
-tab-map f h i [] d e = refl
-tab-map f h i (x ∷ xs) d e =
-    ap₂ _∷_ (rw add-zero at (e 0 (omega arith))) (tab-map f h (suc i) xs d (λ j k. rw (suc-add, ← add-suc) (e (suc j) (omega arith))))
 
 pub block-writes : (g : Group) (w b : List ℕ) → g .size ≤ 8 → length (g .outputs) ≤ 8 → length w ≡ g .size →
     Each (λ o. IsCharacter (value o w)) (g .outputs) → ((j : ℕ) → j < 75 → at b j ≡ at (block g) j) → blockOutput b w ≡ written g w

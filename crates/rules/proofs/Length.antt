@@ -2,47 +2,13 @@
 -- Each choice is made at a character of its own, and no group writes more than E characters.
 use mathlib.Core.List.{List, [], _∷_}
 use mathlib.Core.Option.{Option, none, some}
-use mathlib.Core.Path.{_≡_}
 use Prim.Native.Nat.{ℕ, zero, suc, pred, _*_, _≤_}
 use native.Mathlib.Nat.{mul-suc}
 use native.Mathlib.Omega.{arith}
-use lib.Dec.{eqb}
-use lib.IntN.{natAbs}
-use lib.ListN.{length, getD, take, length-append, length-map}
-use Rattle.lists.specs.Lists.{Each, greatest, orElse, optional}
-use Rattle.lists.proofs.Each.{each-front, each-back}
-use Rattle.lists.proofs.Tests.{of-cond}
-use Rattle.rules.specs.Table.{Group, Table, everyCharacter, groups, ruleAt, defaultNumber, group, expansion}
-use Rattle.rules.specs.Value.{value}
+use lib.ListN.{length, take, length-append}
+use Rattle.rules.specs.Table.{Table, group, expansion}
 use Rattle.rules.specs.Meaning.{choose, written, textOf, convertBy, convertFrom, convert, meaningText}
-
-pub greatest-above : {A : Type 0} (f : A → ℕ) (xs : List A) (m : ℕ) → greatest f xs ≤ m → Each (λ x. f x ≤ m) xs
-greatest-above f [] m h = tt
-greatest-above f (x ∷ xs) m h = (omega arith, greatest-above f xs m (omega arith))
-
--- an element, or the default
-pub getD-each : {A : Type 0} (P : A → Type 0) (xs : List A) (k : ℕ) (d : A) → Each P xs → P d → P (getD xs k d)
-getD-each P [] k d a h = h
-getD-each P (x ∷ xs) zero d a h = a .0
-getD-each P (x ∷ xs) (suc k) d a h = getD-each P xs k d (a .1) h
-
-pub group-short : (t : Table) (n : ℕ) → length (group t n .outputs) ≤ expansion t
-unfolding group expansion
-group-short t n =
-    let E = greatest (λ g. length (g .outputs)) (groups t) in
-    let Short : Group → Type 0 = λ g. length (g .outputs) ≤ E in
-    let short : Each Short (groups t) = greatest-above (λ g. length (g .outputs)) (groups t) E (omega arith) in
-    of-cond Short (eqb n defaultNumber) (orElse (everyCharacter []) (t .default)) (ruleAt t n)
-    (λ _. ofDefault E (t .default) (each-back Short (t .rules) (optional (t .default)) short))
-    (λ _. getD-each Short (t .rules) n (everyCharacter []) (each-front Short (t .rules) (optional (t .default)) short) (omega arith))
-  where
-    ofDefault : (E : ℕ) (d : Option Group) → Each (λ g. length (g .outputs) ≤ E) (optional d) → length (orElse (everyCharacter []) d .outputs) ≤ E
-    ofDefault E none h = omega arith
-    ofDefault E (some g) h = h .0
-
-pub written-length : (g : Group) (w : List ℕ) → length (written g w) ≡ length (g .outputs)
-unfolding written
-written-length g w = length-map (g .outputs) (λ o. natAbs (value o w))
+use Rattle.rules.proofs.Groups.{group-short, written-length}
 
 -- what the groups of a table write
 abbrev pub writes : Table → ℕ → List ℕ → List ℕ

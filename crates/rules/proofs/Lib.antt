@@ -1,6 +1,7 @@
 pub mod Opened
 pub mod Refusal
 pub mod Shape
+pub mod Groups
 pub mod Prefix
 pub mod Seven
 pub mod Reading

@@ -1,4 +1,5 @@
 -- `unfolding rules-opened` opens the definitions of this crate, for a proof by computation.
+-- It holds nothing itself: it is a name under which they all unfold.
 use Rattle.lists.specs.Lists.{pad}
 use Rattle.lists.specs.Decide.{select, allOf, forBelow}
 use Rattle.rules.specs.Refusal.{andThen}

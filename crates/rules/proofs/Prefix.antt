@@ -3,9 +3,9 @@
 use mathlib.Core.Bool.{Bool, true, false, _&&_}
 use mathlib.Core.List.{List, [], _∷_, _++_}
 use mathlib.Core.Path.{_≡_, refl, sym, ap, subst, _∙_}
-use Prim.Native.Nat.{ℕ, zero, suc, _≤_}
+use Prim.Native.Nat.{ℕ, suc, _≤_}
 use native.Mathlib.Omega.{arith}
-use lib.Dec.{T, ltb, leb, leb·zero, leb·suc-suc}
+use lib.Dec.{T, ltb, leb·zero, leb·suc-suc}
 use lib.ListN.{length, getD}
 use Rattle.lists.proofs.Tests.{and-left, and-right, both, and-true, and-assoc}
 use Rattle.rules.specs.Table.{Range, inRanges}

@@ -11,15 +11,15 @@ use lib.Dec.{T, eqb, leb, ltb, leb→le, nleb→lt, nltb→le, eqb→eq}
 use lib.IntN.{ℤ, pos}
 use lib.ListN.{length, take, drop, length-append, length-replicate}
 use Rattle.lists.specs.Lists.{any, Each, atLast, lastD, isSome, orElse, optional}
-use Rattle.lists.proofs.Tests.{of-T, not-not, or-none, or-cases, of-cond, holds, by-cases}
-use Rattle.lists.proofs.Each.{each-append, each-weaken, each-atLast}
+use Rattle.lists.proofs.Tests.{of-T, not-not, or-none, or-cases, of-cond, holds, by-cases, neqb→ne}
+use Rattle.lists.proofs.Each.{each-append, each-weaken, each-both, each-atLast}
 use Rattle.rules.specs.Refusal.{Outcome, refused, accepted}
 use Rattle.rules.specs.Table.{Range, Output, sum, Group, Table, everyCharacter}
 use Rattle.rules.specs.Record.{Record, rule, range, output, term, default, decode}
 use Rattle.rules.specs.Reader.{signed, Reading, unread, latest, reach, latestReach, ranging, unfilled, misplaced, skipping, tooMany, changeLatest, addRange, addTerm, changeRanges, changeOutputs, taken, readOne, readRecords, readEnd, readRules}
-use Rattle.rules.proofs.Refusal.{by-then}
+use Rattle.rules.proofs.Refusal.{by-then, Says}
 use Rattle.rules.proofs.Shape.{ShapedGroup, ShapedDefault, Shaped}
-use Rattle.rules.proofs.Seven.{Ordered, FilledPosition, FilledGroup, Filled, each-both}
+use Rattle.rules.proofs.Seven.{Ordered, FilledPosition, FilledGroup, Filled}
 
 -- the last element, and those before it
 
@@ -130,7 +130,7 @@ outputs-kept h b rs (some d) k e f =
 output-more : (c : ℤ) (k : ℕ) (os : List Output) → T (not (eqb (length os) 8)) → Outputs k os → Outputs k (os ++ (sum c [] ∷ []))
 output-more c k os t h =
     let n : length os ≤ 8 = h .0 in
-    let other : length os ≢ 8 = λ e. subst (λ m. T (not (eqb m 8))) e t in
+    let other : length os ≢ 8 = neqb→ne (length os) 8 t in
     (rw length-append (omega arith), each-append (λ o. reach o ≤ k) os (sum c [] ∷ []) (h .1) (omega arith, tt))
 
 term-reach : (p k : ℕ) (a : ℤ) (o : Output) → p < k → reach o ≤ p → reach (addTerm p a o) ≤ k
@@ -216,7 +216,7 @@ unfolding taken misplaced skipping tooMany latest latestReach
 taken-kept s (rule k a) f m n o h =
     let full : Each Full (s .table .rules) = all-full s h n in
     let len : length (s .table .rules) ≤ 32 = h .few in
-    let other : length (s .table .rules) ≢ 32 = λ e. subst (λ m. T (not (eqb m 32))) e o in
+    let other : length (s .table .rules) ≢ 32 = neqb→ne (length (s .table .rules)) 32 o in
     record {
       few = rw length-append (omega arith);
       rules = each-append Begun (s .table .rules) _ (h .rules) (record { positive = f .0; small = f .1; places = omega arith; outputs = (omega arith, tt); filled = tt }, tt);
@@ -254,10 +254,8 @@ taken-kept s default f m n o h =
 abbrev pub recordRefusals : List ℕ
 recordRefusals = 1 ∷ 2 ∷ 3 ∷ 4 ∷ 5 ∷ 6 ∷ []
 
--- refused by one of these, or P of what was accepted
 abbrev Read : {A : Type 0} → (A → Type 0) → Outcome A → Type 0
-Read P (refused n) = T (any (eqb n) recordRefusals)
-Read P (accepted a) = P a
+Read P o = Says recordRefusals P o
 
 one-kept : (s : Reading) (r : Option Record) → Fields r → KeptReading s → Read KeptReading (readOne s r)
 unfolding readOne
@@ -306,7 +304,7 @@ end-kept s h =
         λ _. tt,
         λ m. (
           record {
-            some-rule = let other : length (t .rules) ≢ 0 = λ e. subst (λ k. T (not (eqb k 0))) e m in omega arith;
+            some-rule = let other : length (t .rules) ≢ 0 = neqb→ne (length (t .rules)) 0 m in omega arith;
             few-rules = h .few;
             rules = each-weaken (λ g. Begun g × Full g) ShapedGroup (t .rules) full-shaped (each-both Begun Full (t .rules) (h .rules) (all-full s h n));
             default = each-weaken Plain ShapedDefault (optional (t .default)) plain-shaped (h .default);

@@ -11,8 +11,8 @@ use lib.Dec.{T, leb, leb→le, le→leb}
 use lib.IntN.{ℤ, pos, negsuc, negℤ, _+ℤ_, _*ℤ_, +ℤ-idr, +ℤ-assoc, +ℤ-comm, +ℤ-invl, negℤ-+ℤ}
 use lib.Signed.{leZ, nonNeg}
 use Rattle.lists.specs.Lists.{all, Each}
-use Rattle.lists.proofs.Tests.{and-left, and-right, both, or-left, or-right, or-cases, of-cond}
-use Rattle.lists.proofs.Each.{all-each, each-all}
+use Rattle.lists.proofs.Tests.{and-left, and-right, both, or-left, or-right, or-cases, of-cond, of-between, to-between}
+use Rattle.lists.proofs.Each.{each-both, all-each, each-all}
 use Rattle.rules.specs.Table.{Range, Output, sum, Group, Table, within, inRanges, groups}
 use Rattle.rules.specs.Value.{dot, value, fitsWord, SafeOutput, SafeTable, lowestOf, highestOf, extreme, safeOutput, safe}
 
@@ -39,14 +39,14 @@ record _⊑_ (a b : ℤ) : Type 0 where
 ⊑-refl : (a : ℤ) → a ⊑ a
 ⊑-refl a = record { by = 0; more = sym (+ℤ-idr a) }
 
-swap : (a c m n : ℤ) → (a +ℤ m) +ℤ (c +ℤ n) ≡ (a +ℤ c) +ℤ (m +ℤ n)
-swap a c m n =
+pub sum-swap : (a c m n : ℤ) → (a +ℤ m) +ℤ (c +ℤ n) ≡ (a +ℤ c) +ℤ (m +ℤ n)
+sum-swap a c m n =
     +ℤ-assoc a m (c +ℤ n)
     ∙ ap (λ x. a +ℤ x) (sym (+ℤ-assoc m c n) ∙ ap (λ x. x +ℤ n) (+ℤ-comm m c) ∙ +ℤ-assoc c m n)
     ∙ sym (+ℤ-assoc a c (m +ℤ n))
 
 ⊑-add : {a b c d : ℤ} → a ⊑ b → c ⊑ d → (a +ℤ c) ⊑ (b +ℤ d)
-⊑-add {a} {b} {c} {d} h k = record { by = h .by + k .by; more = rw (h .more, k .more) (swap a c (pos (h .by)) (pos (k .by))) }
+⊑-add {a} {b} {c} {d} h k = record { by = h .by + k .by; more = rw (h .more, k .more) (sum-swap a c (pos (h .by)) (pos (k .by))) }
 
 -- a coefficient that is not negative, and one that is
 apart : (k m n : ℕ) → m ≤ n → k * n ≡ k * m + k * (n - m)
@@ -79,17 +79,13 @@ high-down (pos n) b h t =
     le→leb n 65535 (omega (arith, leb→le (n + h .by) 65535 s))
 
 -- a character in the ranges is between their ends
-within-ends : (c : ℕ) (r : Range) → T (within c r) → (r .lowest ≤ c) × (c ≤ r .highest)
-within-ends c r t =
-    (leb→le (r .lowest) c (and-left (leb (r .lowest) c) (leb c (r .highest)) t), leb→le c (r .highest) (and-right (leb (r .lowest) c) (leb c (r .highest)) t))
-
 between : (rs : List Range) (c : ℕ) → T (inRanges rs c) → (lowestOf rs ≤ c) × (c ≤ highestOf rs)
 unfolding lowestOf highestOf
 between [] c t = absurd t
-between (r ∷ []) c t = or-cases (within c r) false t (within-ends c r) (λ u. absurd u)
+between (r ∷ []) c t = or-cases (within c r) false t (of-between (r .lowest) (r .highest) c) (λ u. absurd u)
 between (r ∷ (s ∷ rs)) c t =
     or-cases (within c r) (inRanges (s ∷ rs) c) t
-    (λ u. let h = within-ends c r u in omega arith)
+    (λ u. let h = of-between (r .lowest) (r .highest) c u in omega arith)
     (λ u. let h = between (s ∷ rs) c u in omega arith)
 
 -- the value at the extreme word of a sign is least (true) or greatest (false)
@@ -133,15 +129,12 @@ of-min P a b p q = elim (decLe a b) [ yes h ↦ subst P (omega arith) p | no h �
 of-max : (P : ℕ → Type 0) (a b : ℕ) → P a → P b → P (max a b)
 of-max P a b p q = elim (decLe a b) [ yes h ↦ subst P (omega arith) q | no h ↦ subst P (omega arith) p ]
 
-to-within : (c : ℕ) (r : Range) → r .lowest ≤ c → c ≤ r .highest → T (within c r)
-to-within c r h k = both (leb (r .lowest) c) (leb c (r .highest)) (le→leb (r .lowest) c h) (le→leb c (r .highest) k)
-
 ends-in : (r : Range) (rs : List Range) → Each Ordered (r ∷ rs) →
     T (inRanges (r ∷ rs) (lowestOf (r ∷ rs))) × T (inRanges (r ∷ rs) (highestOf (r ∷ rs)))
 unfolding lowestOf highestOf
 ends-in r [] h =
     let o : r .lowest ≤ r .highest = h .0 in
-    (or-left (within (r .lowest) r) false (to-within (r .lowest) r (omega arith) o), or-left (within (r .highest) r) false (to-within (r .highest) r o (omega arith)))
+    (or-left (within (r .lowest) r) false (to-between (r .lowest) (r .highest) (r .lowest) (omega arith) o), or-left (within (r .highest) r) false (to-between (r .lowest) (r .highest) (r .highest) o (omega arith)))
 ends-in r (s ∷ rs) h =
     let o : r .lowest ≤ r .highest = h .0 in
     let rest = ends-in s rs (h .1) in
@@ -149,8 +142,8 @@ ends-in r (s ∷ rs) h =
     let later : (c : ℕ) → T (inRanges (s ∷ rs) c) → T (inRanges (r ∷ s ∷ rs) c) = λ c. or-right (within c r) (inRanges (s ∷ rs) c) in
     let lo = lowestOf (s ∷ rs) in
     let hi = highestOf (s ∷ rs) in (
-      of-min (λ c. T (inRanges (r ∷ s ∷ rs) c)) (r .lowest) lo (here (r .lowest) (to-within (r .lowest) r (omega arith) o)) (later lo (rest .0)),
-      of-max (λ c. T (inRanges (r ∷ s ∷ rs) c)) (r .highest) hi (here (r .highest) (to-within (r .highest) r o (omega arith))) (later hi (rest .1)),
+      of-min (λ c. T (inRanges (r ∷ s ∷ rs) c)) (r .lowest) lo (here (r .lowest) (to-between (r .lowest) (r .highest) (r .lowest) (omega arith) o)) (later lo (rest .0)),
+      of-max (λ c. T (inRanges (r ∷ s ∷ rs) c)) (r .highest) hi (here (r .highest) (to-between (r .lowest) (r .highest) (r .highest) o (omega arith))) (later hi (rest .1)),
     )
 
 extreme-fits : (sign : Bool) (ks : List ℤ) (ps : List (List Range)) → Each FilledPosition ps → T (fitsWord ps (extreme sign ks ps))
@@ -192,10 +185,6 @@ unfolding safe SafeTable
 safe-table t h =
     all-each (λ g. all (safeOutput (g .ranges)) (g .outputs)) (groups t)
     (λ g k. all-each (safeOutput (g .ranges)) (g .outputs) (safe-every (g .ranges)) k) h
-
-pub each-both : {A : Type 0} (P Q : A → Type 0) (xs : List A) → Each P xs → Each Q xs → Each (λ x. P x × Q x) xs
-each-both P Q [] p q = tt
-each-both P Q (x ∷ xs) p q = ((p .0, q .0), each-both P Q xs (p .1) (q .1))
 
 pub table-safe : (t : Table) → Filled t → SafeTable t → T (safe t)
 unfolding safe SafeTable

@@ -1,9 +1,9 @@
 -- What the table check leaves true of an accepted table: lengths within their limits, every position filled.
 -- The laws of the layers above take it as their hypothesis; `Reading` shows it of every table that is read.
-use mathlib.Core.Bool.{Bool, false}
-use mathlib.Core.List.{List, []}
+use mathlib.Core.Bool.{false}
+use mathlib.Core.List.{[]}
 use mathlib.Core.Path.{_≡_}
-use Prim.Native.Nat.{ℕ, _≤_}
+use Prim.Native.Nat.{_≤_}
 use lib.ListN.{length}
 use Rattle.lists.specs.Lists.{Each, optional}
 use Rattle.rules.specs.Table.{Group, Table, everyCharacter}

@@ -1,10 +1,9 @@
 -- Demands 1 and 2 for direct conversion, one field a sentence.
-use mathlib.Core.Logic.{_↔_}
 use mathlib.Core.List.{List, [], _∷_}
 use mathlib.Core.Path.{_≡_}
 use Prim.Native.Nat.{ℕ, _*_, _≤_}
 use lib.ListN.{length, take, drop}
-use Rattle.rules.specs.Refusal.{Outcome, refused, accepted, RefusedBy}
+use Rattle.rules.specs.Refusal.{refused, accepted, RefusedBy}
 use Rattle.rules.specs.Table.{Table, expansion}
 use Rattle.rules.specs.Value.{SafeTable}
 use Rattle.rules.specs.Reader.{readRules}

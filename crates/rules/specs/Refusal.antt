@@ -1,5 +1,4 @@
 -- "Refusals": a call is accepted, or refused by a number.
-use mathlib.Core.Bool.{Bool}
 use mathlib.Core.List.{List}
 use Prim.Native.Nat.{ℕ}
 use lib.Dec.{T, eqb}

@@ -1,38 +1,38 @@
 -- A list of calls leaves the session that the trace of the whole input tells, with the same refusals as the reckoning.
 -- Each accepted call grafts the trace of held characters and piece where the trace so far waits.
-use mathlib.Core.Bool.{Bool, true, false, _||_, not}
+use mathlib.Core.Bool.{Bool, true, false, not}
 use mathlib.Core.List.{List, [], _∷_, _++_, append-assoc, append-nil}
-use mathlib.Core.Logic.{_≢_}
 use mathlib.Core.Path.{_≡_, refl, sym, ap, subst, _∙_}
-use Prim.Native.Nat.{ℕ, zero, suc, _+_, _*_, _-_, _≤_, _<_}
+use Prim.Native.Nat.{ℕ, _+_, _*_, _≤_, _<_}
 use native.Mathlib.Omega.{arith}
-use lib.Dec.{T, ltb, nltb→le}
-use lib.ListN.{length, take, drop, length-append}
+use lib.Dec.{T, ltb}
+use lib.ListN.{length, drop, length-append}
 use lib.Seq.{take-append-seam}
 use Rattle.lists.specs.Lists.{Each, pad}
 use Rattle.lists.specs.Decide.{select}
-use Rattle.lists.proofs.Tests.{of-T, not-not, by-cases}
+use Rattle.lists.proofs.Tests.{of-T, by-cases}
 use Rattle.lists.proofs.Each.{each-append}
-use Rattle.lists.proofs.Parts.{length-pad}
+use Rattle.lists.proofs.Parts.{length-pad, take-pad}
 use Rattle.rules.specs.Refusal.{Outcome, refused, accepted}
 use Rattle.rules.specs.Table.{Characters, Table, expansion, longest}
 use Rattle.rules.specs.Meaning.{Emission, textOf, covered}
-use Rattle.rules.specs.Direct.{limit, over}
+use Rattle.rules.specs.Direct.{limit}
 use Rattle.rules.proofs.Shape.{Shaped}
 use Rattle.machine.specs.States.{states}
 use Rattle.machine.specs.Sound.{sound, longestWord, expansionWord, stateCount}
 use Rattle.machine.specs.Automaton.{Automaton, fromTable, fromWords}
 use Rattle.machine.proofs.Good.{after, Good, Reads, Alike, Writes}
-use Rattle.machine.proofs.Words.{sound-good, sound-short, sound-longest}
-use Rattle.session.specs.Machine.{Status, Open, Closed, Stopped, Ended, start, run}
-use Rattle.session.specs.Session.{Session, fresh, consumed, store, isOpen, soundSession}
-use Rattle.session.specs.Calls.{Answer, CallOutcome, admits, receivedBy, resumed, later, callBy, feed, finish}
-use Rattle.session.specs.Reckoning.{Call, ofFeed, ofFinish, piece, bufferOf, room, ends, Served, unserved, called, verdict, outputBy, serveCall, serve, Input, noInput, ran, reckoned, inputBy, reckonCall, reckon}
-use Rattle.session.proofs.Trace.{Trace, waiting, closing, stopping, accepting, defaulting, trace, cost, logOf, heldOf, stateOf, statusOf, graft}
+use Rattle.machine.proofs.Words.{sound-good, sound-longest}
+use Rattle.session.specs.Machine.{Status, Open, Closed, Stopped, Ended, start}
+use Rattle.session.specs.Session.{Session, fresh, consumed, isOpen, soundSession}
+use Rattle.session.specs.Calls.{CallOutcome, admits, receivedBy, resumed, later, callBy}
+use Rattle.session.specs.Reckoning.{Call, piece, bufferOf, room, ends, Served, unserved, verdict, outputBy, serveCall, serve, Input, noInput, ran, reckoned, inputBy, reckonCall, reckon}
+use Rattle.session.proofs.Trace.{Trace, trace, cost, logOf, heldOf, stateOf, statusOf}
 use Rattle.session.proofs.Rounds.{Joined, trace-graft, graft-open, not-open, rests-open, trace-rests, Counted, bounded, trace-ended}
 use Rattle.session.proofs.Run.{Tells, run-tells}
 use Rattle.session.proofs.Swap.{trace-alike}
-use Rattle.session.proofs.Kept.{take-pad, fresh-sound, kept-sound, sound-facts}
+use Rattle.session.proofs.Kept.{fresh-sound, kept-sound, sound-facts}
+use Rattle.session.proofs.Answers.{called-by, Passed, pass-cases}
 
 -- Logs and buffers.
 
@@ -63,12 +63,6 @@ told B t m =
 fresh-told : (B : Automaton) → fresh ≡ told B (trace B false 0 []) 0
 unfolding fresh trace statusOf stateOf heldOf logOf cost textOf covered
 fresh-told B = refl
-
-called-by : (w : List ℕ) (s : Session) (c : Call) →
-    called w s c ≡ callBy (admits w s (length (piece c)) (room c)) (fromWords w) s (piece c) (ends c) (bufferOf c)
-unfolding feed finish
-called-by w s (ofFeed p buffer) = refl
-called-by w s (ofFinish buffer) = refl
 
 -- One accepted call.
 module _ (B : Automaton) (L n : ℕ) (H : Good B L n) (small : L ≤ 8) (e : Bool) (u p : List ℕ) (o : statusOf (trace B false 0 u) ≡ Open)
@@ -136,27 +130,6 @@ unfolding select
 same-refusals Open received m n k E room f = rw (f refl)
 same-refusals Closed received m n k E room f = refl
 same-refusals Stopped received m n k E room f = refl
-
--- a call accepted so found the session open, and the piece within the limit
-accepted-open : (s : Status) (received n k E room : ℕ) (x : Unit {0}) →
-    select ((not (isOpen s), refused 13) ∷ (ltb limit (received + n), refused 14) ∷ (ltb room (E * (k + n)), refused 15) ∷ []) (accepted tt) ≡ accepted x →
-    (s ≡ Open) × (received + n ≤ limit) × (E * (k + n) ≤ room)
-accepted-open s received n k E room x e =
-    by-cases Facts _ (accepted tt) (
-      (λ _ e. absurd (never 13 e)),
-      λ a. ((λ _ e. absurd (never 14 e)), λ b. ((λ _ e. absurd (never 15 e)), λ c _. (is-open s (not-not (isOpen s) a), nltb→le limit (received + n) b, nltb→le room (E * (k + n)) c))),
-    ) e
-  where
-    Facts : Outcome (Unit {0}) → Type 0
-    Facts v = v ≡ accepted x → (s ≡ Open) × (received + n ≤ limit) × (E * (k + n) ≤ room)
-
-    never : (m : ℕ) → _≡_ {A = Outcome (Unit {0})} (refused m) (accepted x) → ⊥
-    never m e = let z : _≡_ {A = ℕ} 0 1 = cc in omega arith
-
-    is-open : (s : Status) → T (isOpen s) → s ≡ Open
-    is-open Open t = refl
-    is-open Closed t = absurd t
-    is-open Stopped t = absurd t
 
 -- what compiling gives of a table and its words
 pub record Compiled (t : Table) (w : List ℕ) : Type 0 where
@@ -244,13 +217,28 @@ module _ (t : Table) (w : List ℕ) (K : Compiled t w) where
               ∙ ap (λ l. l ++ text) (subst (λ e. v .output ≡ textOf (machine .write) (logOf (trace machine e 0 u))) p (S .output))
               ∙ out;
           kept =
-              kept-sound w (stateCount w) good-words (sound-longest w (K .sound-words)) (sound-short w (K .sound-words)) (v .session) (piece c) (ends c) (S .kept) (ap (λ (s : Session). s .status) is ∙ open-before)
+              kept-sound w (K .sound-words) (v .session) (piece c) (ends c) (S .kept) (ap (λ (s : Session). s .status) is ∙ open-before)
               (ap (λ (s : Session). length (s .held)) is ∙ length-pad 8 (heldOf before)) (omega arith);
           characters = each-append (λ x. x < 65536) u (piece c) (S .characters) chars;
         }
 
-    stands-by : (o : Outcome (Unit {0})) → reckoned t (ran t (i .characters) (i .ended)) (length (i .characters)) c ≡ o → Standing (served-by o) (inputBy o i c)
+    -- what the reckoning's answer says
+    abbrev Reckons : Outcome (Unit {0}) → Type 0
+    Reckons (refused k) = Unit {0}
+    Reckons (accepted x) =
+        let r = ran t (i .characters) (i .ended) in
+        let n = length (piece c) in
+        Passed (r .status) (length (i .characters) + n) (expansion t * (length (r .final .store) + n)) (room c)
+
+    reckons : Reckons (reckoned t (ran t (i .characters) (i .ended)) (length (i .characters)) c)
     unfolding reckoned
+    reckons =
+        let r = ran t (i .characters) (i .ended) in
+        let n = length (piece c) in
+        by-cases Reckons _ (accepted tt)
+        (pass-cases Reckons (r .status) (length (i .characters) + n) (expansion t * (length (r .final .store) + n)) (room c) tt tt tt (λ p. p))
+
+    stands-by : (o : Outcome (Unit {0})) → Reckons o → Standing (served-by o) (inputBy o i c)
     stands-by (refused k) e = record {
       verdicts = ap (λ l. l ++ (k ∷ [])) (S .verdicts);
       session = S .session;
@@ -261,8 +249,7 @@ module _ (t : Table) (w : List ℕ) (K : Compiled t w) where
     stands-by (accepted x) e =
         let u = i .characters in
         let r = ran-tells u (i .ended) in
-        let f = accepted-open (ran t u (i .ended) .status) (length u) (length (piece c)) (length (ran t u (i .ended) .final .store)) (expansion t) (room c) x e in
-        accepted-stands (i .ended) refl (ap statusOf (sym (same-trace u (i .ended) (S .characters))) ∙ sym (r .status) ∙ f .0) (f .1)
+        accepted-stands (i .ended) refl (ap statusOf (sym (same-trace u (i .ended) (S .characters))) ∙ sym (r .status) ∙ e .0) (e .1)
 
     stands-one : Standing (serveCall w v c) (reckonCall t i c)
     stands-one =
@@ -270,7 +257,7 @@ module _ (t : Table) (w : List ℕ) (K : Compiled t w) where
         let s : admits w (v .session) (length (piece c)) (room c) ≡ o =
         ap (λ z. admits w z (length (piece c)) (room c)) (S .session)
         ∙ admits-reckoned (i .characters) (i .ended) (S .characters) c (subst (λ z. T (soundSession w z)) (S .session) (S .kept)) in
-        rw (called-by w (v .session) c, s) (stands-by o refl)
+        rw (called-by w (v .session) c, s) (stands-by o reckons)
 
   stands-all : (cs : List Call) → Each (λ c. Characters (piece c)) cs → (v : Served) (i : Input) → Standing v i → Standing (serve w cs v) (reckon t cs i)
   unfolding serve reckon

@@ -2,9 +2,9 @@
 -- The calls stand as the words' trace tells (`Calls`), the table's trace is the same (`Swap`), and its log is Definition 7's (`Meaning`).
 use mathlib.Core.Bool.{Bool, true, false, _||_, not}
 use mathlib.Core.List.{List, [], _∷_, _++_, append-assoc, append-nil}
-use mathlib.Core.Logic.{_↔_, _≢_}
+use mathlib.Core.Logic.{_↔_}
 use mathlib.Core.Path.{_≡_, refl, sym, ap, subst, _∙_}
-use Prim.Native.Nat.{ℕ, zero, suc, _+_, _*_, _-_, _≤_, _<_}
+use Prim.Native.Nat.{ℕ, _-_, _<_}
 use native.Mathlib.Omega.{arith}
 use lib.Dec.{T, eqb}
 use lib.ListN.{length, drop}
@@ -13,25 +13,24 @@ use Rattle.lists.proofs.Tests.{of-not, by-cases}
 use Rattle.lists.proofs.Each.{each-append}
 use Rattle.rules.specs.Refusal.{Outcome, refused, accepted}
 use Rattle.rules.specs.Table.{Characters, Table, group, longest}
-use Rattle.rules.specs.Meaning.{Emission, written, textOf, covered, convert, meaningText, meaningPlace}
+use Rattle.rules.specs.Meaning.{Emission, written, textOf, covered, convert}
+use Rattle.rules.proofs.Groups.{longest-small}
 use Rattle.rules.proofs.Reading.{read-shaped}
 use Rattle.machine.specs.States.{states}
 use Rattle.machine.specs.Layout.{wordCount, words}
 use Rattle.machine.specs.Claims.{KeepsCompiling}
-use Rattle.machine.proofs.Classes.{classed}
-use Rattle.machine.proofs.Levels.{longest-small}
 use Rattle.machine.proofs.States.{table-good, table-reads}
 use Rattle.machine.proofs.Places.{layout-expansion}
 use Rattle.machine.proofs.Alike.{words-alike}
 use Rattle.machine.proofs.Write.{words-write}
-use Rattle.machine.proofs.Compiled.{compiled-sound}
+use Rattle.machine.proofs.Sound.{compiled-sound}
 use Rattle.machine.proofs.Compile.{compile-accepts}
 use Rattle.machine.specs.Automaton.{Automaton, fromTable, fromWords}
-use Rattle.session.specs.Machine.{Status, Open, Closed, Stopped, Ended, start}
+use Rattle.session.specs.Machine.{Status, Open, Closed, Stopped, Ended}
 use Rattle.session.specs.Session.{Session, consumed}
 use Rattle.session.specs.Calls.{receivedBy}
 use Rattle.session.specs.Reckoning.{Call, piece, Served, unserved, serve, acceptedPieces, Input, noInput, ran, reckoned, inputBy, reckonCall, reckon}
-use Rattle.session.specs.Claims.{isStopped, ranText, Agrees, Demand3}
+use Rattle.session.specs.Claims.{isStopped, Agrees, Demand3}
 use Rattle.session.proofs.Trace.{trace, cost, logOf, heldOf, statusOf}
 use Rattle.session.proofs.Rounds.{NotOpen, not-open, trace-graft, graft-stopped, ended-empty, Counted, Bounded, bounded}
 use Rattle.session.proofs.Meaning.{ending, meaning-law}
@@ -202,7 +201,7 @@ compiled b buffer t k =
       good = table-good t s;
       reads = table-reads t s;
       sound-words = compiled-sound t rest s (k .classes) (k .states);
-      alike = words-alike t rest (classed t) (k .classes) (k .states);
+      alike = words-alike t rest (k .classes) (k .states);
       writes = words-write t rest s (k .keeps .values);
       expands = layout-expansion t rest;
     }

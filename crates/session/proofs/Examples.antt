@@ -1,6 +1,5 @@
 -- The eleven lines of document 01 marked P hold, from the tables' bytes, by Definition 7 and on both automata.
 -- They are computed.
-use mathlib.Core.Bool.{Bool}
 use lib.Dec.{T}
 use Rattle.lists.specs.Lists.{all}
 use Rattle.rules.proofs.Opened.{rules-opened}

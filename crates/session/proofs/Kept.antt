@@ -6,24 +6,25 @@ use mathlib.Core.Option.{Option}
 use mathlib.Core.Path.{_≡_, refl, sym, ap, subst, _∙_}
 use Prim.Native.Nat.{ℕ, zero, suc, pred, _+_, _*_, _-_, _≤_, _<_}
 use native.Mathlib.Omega.{arith}
-use lib.Dec.{T, T-not, not-T, eqb, leb, eqb→eq, eqb-refl, leb→le, le→leb}
+use lib.Dec.{T, eqb, leb, eqb→eq, eqb-refl, leb→le, le→leb}
 use lib.ListN.{length, take, drop, length-append}
 use lib.Seq.{length-take-le}
-use Rattle.lists.specs.Lists.{all, pad}
+use Rattle.lists.specs.Lists.{all}
 use Rattle.lists.specs.Decide.{allOf}
-use Rattle.lists.proofs.Parts.{length-pad}
-use Rattle.lists.proofs.Tests.{and-left, both, holds, to-allOf, to-T}
+use Rattle.lists.proofs.Parts.{take-pad, pad-zeros}
+use Rattle.lists.proofs.Tests.{and-left, both, holds, to-allOf, to-T, neqb→ne, ne→neqb}
 use Rattle.rules.specs.Table.{defaultNumber}
 use Rattle.rules.specs.Meaning.{Emission, textOf, covered}
 use Rattle.rules.specs.Direct.{limit}
-use Rattle.machine.specs.Sound.{used, longestWord, expansionWord}
+use Rattle.machine.specs.Sound.{used, longestWord, expansionWord, stateCount, sound}
 use Rattle.machine.specs.Automaton.{Automaton, fromWords}
-use Rattle.machine.proofs.Good.{after, Leads, Good, Short}
+use Rattle.machine.proofs.Good.{after, Leads, Good, after-inside, Short}
+use Rattle.machine.proofs.Words.{sound-good, sound-short, sound-longest}
 use Rattle.session.specs.Machine.{Status, Open, Closed, Stopped, Ended, start}
 use Rattle.session.specs.Session.{Session, fresh, consumed, store, isOpen, settled, pathIf, path, isAt, soundSession}
 use Rattle.session.specs.Calls.{receivedBy, resumed, later}
 use Rattle.session.proofs.Trace.{Round, waits, closes, stops, accepts, defaults, back, onWait, onEnd, walk, Trace, lastOf, handle, trace, cost, logOf, heldOf, stateOf, statusOf}
-use Rattle.session.proofs.Walk.{settled-both, settled-hit, on-character-elim, go-none, after-inside, Takes, walk-takes}
+use Rattle.session.proofs.Walk.{settled-both, settled-hit, on-character-elim, go-none, Takes, walk-takes}
 use Rattle.session.proofs.Rounds.{NotOpen, not-open, trace-rests, rests-open, ended-empty, trace-ended, Counted, spare-of, bounded}
 use Rattle.session.proofs.Run.{Tells, run-tells, tells-unique}
 
@@ -100,7 +101,7 @@ path-leads A p q (x ∷ h) t =
     let r : ℕ = A .target p x in
     let k = path-if (used r && not (settled A r)) (path A r h) q t in
     let i = path-leads A r q h (k .1) in
-    ((λ z. T-not (eqb r 0) (and-left (used r) (not (settled A r)) (k .0)) (rw z tt), i .0), i .1)
+    ((neqb→ne r 0 (and-left (used r) (not (settled A r)) (k .0)), i .0), i .1)
 
 if-path : (b : Bool) (r : Option ℕ) (q : ℕ) → T b → T (isAt q r) → T (isAt q (pathIf b r))
 if-path true r q t k = k
@@ -120,7 +121,7 @@ module _ (A : Automaton) (L n : ℕ) (G : Good A L n) where
       let r : ℕ = A .target p x in
       let z : settled A r ≡ false = way-on r h (G .inside p x i) (l .1) s in
       if-path (used r && not (settled A r)) (path A r h) (after A r h)
-      (both (used r) (not (settled A r)) (not-T (eqb r 0) (λ t. l .0 (eqb→eq r 0 t))) (rw z tt)) (leads-path r h (G .inside p x i) (l .1) s)
+      (both (used r) (not (settled A r)) (ne→neqb r 0 (l .0)) (rw z tt)) (leads-path r h (G .inside p x i) (l .1) s)
 
   after-depth : (q : ℕ) (h : List ℕ) → q < n → Leads A q h → G .depth (after A q h) ≡ G .depth q + length h
   unfolding after
@@ -148,21 +149,6 @@ module _ (A : Automaton) (L n : ℕ) (G : Good A L n) where
       by-status Open p = leads-short (heldOf (trace A e 0 u)) (trace-open e u p .1)
       by-status Closed p = nothing (rw p tt)
       by-status Stopped p = nothing (rw p tt)
-
--- The store, padded.
-
-pub pad-zeros : (n : ℕ) (h : List ℕ) → T (all (eqb 0) (drop (length h) (pad n h)))
-unfolding pad
-pad-zeros zero [] = tt
-pad-zeros zero (x ∷ h) = tt
-pad-zeros (suc n) [] = pad-zeros n []
-pad-zeros (suc n) (x ∷ h) = pad-zeros n h
-
-pub take-pad : (n : ℕ) (h : List ℕ) → length h ≤ n → take (length h) (pad n h) ≡ h
-unfolding pad
-take-pad n [] i = refl
-take-pad zero (x ∷ h) i = absurd (omega arith)
-take-pad (suc n) (x ∷ h) i = ap (λ z. x ∷ z) (take-pad n h (omega arith))
 
 -- Soundness of a session, as facts.
 
@@ -270,10 +256,23 @@ few-sum E c d a b i j = omega arith
 abbrev told : Trace → ℕ → Ended
 told t k = record { status = statusOf t; final = record { store = heldOf t; unread = []; state = stateOf t; due = false; log = logOf t; steps = k } }
 
-module _ (w : List ℕ) (n : ℕ) (G : Good (fromWords w) (longestWord w) n) (eight : longestWord w ≤ 8) (S : Short (fromWords w) (expansionWord w) n)
-    (s : Session) (piece : List ℕ) (ended : Bool) where
+-- a call's run on a sound open session tells the trace of what is held and the piece
+pub call-tells : (w : List ℕ) → T (sound w) → (s : Session) (piece : List ℕ) (ended : Bool) → T (soundSession w s) → s .status ≡ Open →
+    Tells (start (store s) piece (s .state)) (trace (fromWords w) ended 0 (store s ++ piece)) (resumed (fromWords w) s piece ended)
+call-tells w W s piece ended sn o =
+    let v : Stands w s Open = subst (Stands w s) o (sound-facts w s sn .stands) in
+    let l = path-leads (fromWords w) 0 (s .state) (store s) (v .0) in
+    run-tells (fromWords w) (longestWord w) (stateCount w) (sound-good w W) (sound-longest w W) ended (store s) piece (s .state) (l .0) (l .1)
+
+module _ (w : List ℕ) (W : T (sound w)) (s : Session) (piece : List ℕ) (ended : Bool) where
   abbrev A : Automaton
   A = fromWords w
+
+  abbrev n : ℕ
+  n = stateCount w
+
+  abbrev G : Good A (longestWord w) n
+  G = sound-good w W
 
   abbrev t : Trace
   t = trace A ended 0 (store s ++ piece)
@@ -309,7 +308,7 @@ module _ (w : List ℕ) (n : ℕ) (G : Good (fromWords w) (longestWord w) n) (ei
       left-stands Open p =
           let r = trace-open A (longestWord w) n G ended (store s ++ piece) p in
           let z : settled A (after A 0 (heldOf t)) ≡ false = ap (settled A) (sym (r .0)) ∙ r .2 in
-          let i : length (heldOf t) ≤ 8 = omega (arith, trace-held A (longestWord w) n G ended (store s ++ piece)) in
+          let i : length (heldOf t) ≤ 8 = omega (arith, sound-longest w W, trace-held A (longestWord w) n G ended (store s ++ piece)) in
           (rw (take-pad 8 (heldOf t) i, r .0) (leads-path A (longestWord w) n G 0 (heldOf t) (G .some-state) (r .1) z), spent Open p)
       left-stands Closed p = let z = ended-empty t (rw p tt) in (z .0, ap length (z .1), omega (arith, spent Closed p))
       left-stands Stopped p = let z = ended-empty t (rw p tt) in (z .0, ap length (z .1), omega (arith, spent Stopped p))
@@ -321,8 +320,8 @@ module _ (w : List ℕ) (n : ℕ) (G : Good (fromWords w) (longestWord w) n) (ei
         few =
             subst (λ z. s .produced + length (textOf (A .write) (logOf t)) ≤ expansionWord w * z) (sym (add-up .2))
             (few-sum (expansionWord w) (consumed s) (covered (logOf t)) (s .produced) (length (textOf (A .write) (logOf t))) (f .few)
-            (trace-few A (longestWord w) (expansionWord w) n G S ended 0 (store s ++ piece)));
-        places = omega (arith, trace-held A (longestWord w) n G ended (store s ++ piece));
+            (trace-few A (longestWord w) (expansionWord w) n G (sound-short w W) ended 0 (store s ++ piece)));
+        places = omega (arith, sound-longest w W, trace-held A (longestWord w) n G ended (store s ++ piece));
         zeros = pad-zeros 8 (heldOf t);
         stands = left-stands (statusOf t) refl;
       }
@@ -333,16 +332,10 @@ module _ (w : List ℕ) (n : ℕ) (G : Good (fromWords w) (longestWord w) n) (ei
   kept-sound sn o e8 h =
       let f : SoundFacts w s = sound-facts w s sn in
       let r : Ended = resumed A s piece ended in
-      let v : Stands w s Open = subst (Stands w s) o (f .stands) in
-      let l = path-leads A 0 (s .state) (store s) (v .0) in
-      let a : Tells (start (store s) piece (s .state)) t r = run-tells A (longestWord w) n G eight ended (store s) piece (s .state) (l .0) (l .1) in
+      let a : Tells (start (store s) piece (s .state)) t r = call-tells w W s piece ended sn o in
       let k : ℕ = r .final .steps in
       let b : Tells (start (store s) piece (s .state)) t (told t k) =
       record { status = refl; state = refl; store = refl; unread = refl; log = refl; steps = a .steps; due = refl } in
       let same : told t k ≡ r = tells-unique (start (store s) piece (s .state)) t (told t k) r b a in
       subst (λ z. T (soundSession w (later s (length piece) (length (textOf (A .write) (z .final .log))) z))) same
       (facts-sound w (left k) (left-facts f o e8 k (omega (arith, a .steps)) h))
-
--- and has its eight places
-pub kept-held : (s : Session) (n written : ℕ) (r : Ended) → length (later s n written r .held) ≡ 8
-kept-held s n written r = length-pad 8 (r .final .store)

@@ -3,6 +3,7 @@ pub mod Walk
 pub mod Rounds
 pub mod Run
 pub mod Kept
+pub mod Answers
 pub mod Meaning
 pub mod Swap
 pub mod Calls

@@ -2,7 +2,6 @@
 -- A walk goes on while each rule that fits is longer than what was read; where it halts, the state tells the least that fits, or that none does.
 use mathlib.Core.Bool.{Bool, true, false, cond, true≢false}
 use mathlib.Core.List.{List, [], _∷_, _++_, append-assoc, append-nil}
-use mathlib.Core.Logic.{_≢_}
 use mathlib.Core.Option.{none, some}
 use mathlib.Core.Path.{_≡_, refl, sym, ap, subst, _∙_}
 use Prim.Native.Nat.{ℕ, zero, suc, pred, _+_, _-_, _≤_, _<_}
@@ -12,58 +11,18 @@ use lib.Dec.{T}
 use lib.ListN.{length, take, length-append}
 use lib.Seq.{take-append-seam, take-append-add}
 use Rattle.lists.specs.Lists.{isSome}
-use Rattle.lists.proofs.Each.{each-front, each-getD}
-use Rattle.rules.specs.Table.{Table, Characters, everyCharacter, ruleAt, defaultNumber, group}
+use Rattle.rules.specs.Table.{Table, Characters, ruleAt, defaultNumber, group}
 use Rattle.rules.specs.Value.{fitsWord}
 use Rattle.rules.specs.Meaning.{Conversion, choose, convertBy, convertFrom}
-use Rattle.rules.proofs.Shape.{ShapedGroup, Shaped}
+use Rattle.rules.proofs.Shape.{Shaped}
+use Rattle.rules.proofs.Groups.{rule-shaped, group-rule, default-size}
 use Rattle.rules.proofs.Prefix.{fitsPrefix, fitsPrefix-front, fitsPrefix-whole, fitsWord-prefix}
-use Rattle.rules.proofs.Choice.{Fits, fits-room, Chosen, choose-is, group-rule, default-size}
+use Rattle.rules.proofs.Choice.{Fits, fits-room, Chosen, choose-is}
 use Rattle.machine.specs.Automaton.{Automaton}
-use Rattle.machine.proofs.Good.{after, Leads, Least, Done, Free, Reads}
+use Rattle.machine.proofs.Good.{after, Least, Done, Free, Reads}
 use Rattle.session.specs.Machine.{Status, Closed, Stopped}
-use Rattle.session.proofs.Walk.{after-snoc, leads-snoc}
-use Rattle.session.proofs.Trace.{Round, waits, closes, stops, accepts, defaults, back, onCharacter, onEnd, onNothing, walk, Trace, accepting, handle, trace, logOf, statusOf}
-
--- To show P of a walk over z: S holds of z and what of it was read so far, and where the walk halts, P follows.
-pub record Along (A : Automaton) (e : Bool) (S : List ℕ → List ℕ → Type 0) (P : List ℕ → Round → Type 0) : Type 0 where
-  pub at-end : (w : List ℕ) → Leads A 0 w → S (w ++ []) w → P (w ++ []) (onNothing A e (length w) (after A 0 w))
-  pub accepted : (w : List ℕ) (x : ℕ) (u : List ℕ) → Leads A 0 w → S (w ++ x ∷ u) w → (r : ℕ) → A .accept (after A 0 w) ≡ suc r →
-      P (w ++ x ∷ u) (accepts r (length w))
-  pub onward : (w : List ℕ) (x : ℕ) (u : List ℕ) → Leads A 0 w → S (w ++ x ∷ u) w → A .accept (after A 0 w) ≡ 0 →
-      S (w ++ x ∷ u) (w ++ x ∷ [])
-  pub no-way : (w : List ℕ) (x : ℕ) (u : List ℕ) → Leads A 0 w → S (w ++ x ∷ u) w → A .accept (after A 0 w) ≡ 0 →
-      A .target (after A 0 w) x ≡ 0 → P (w ++ x ∷ u) (back (A .default) (length w))
-
-module _ (A : Automaton) (e : Bool) (S : List ℕ → List ℕ → Type 0) (P : List ℕ → Round → Type 0) (H : Along A e S P) where
-  walk-on : (w u : List ℕ) → Leads A 0 w → S (w ++ u) w → P (w ++ u) (walk A e (length w) (after A 0 w) u)
-  unfolding walk
-  walk-on w [] l s = H .at-end w l s
-  walk-on w (x ∷ u) l s =
-      by (A .accept (after A 0 w)) (A .target (after A 0 w) x) refl refl
-      (λ h i.
-      let n : length (w ++ x ∷ []) ≡ suc (length w) = omega (arith, length-append w (x ∷ [])) in
-      let m : w ++ x ∷ [] ++ u ≡ w ++ x ∷ u = append-assoc w (x ∷ []) u in
-      rw (m, after-snoc A 0 w x, n) at (walk-on (w ++ x ∷ []) u (leads-snoc A 0 w x l h) (rw m (H .onward w x u l s i))))
-    where
-      by : (g q : ℕ) → A .accept (after A 0 w) ≡ g → A .target (after A 0 w) x ≡ q →
-          (A .target (after A 0 w) x ≢ 0 → A .accept (after A 0 w) ≡ 0 → P (w ++ x ∷ u) (walk A e (suc (length w)) (A .target (after A 0 w) x) u)) →
-          P (w ++ x ∷ u) (onCharacter g q (A .default) (length w) (λ p. walk A e (suc (length w)) p u))
-      by (suc r) q pg pq f = H .accepted w x u l s r pg
-      by zero (suc q) pg pq f = rw pq at (f (omega arith) pg)
-      by zero zero pg pq f = H .no-way w x u l s pg pq
-
-  pub walk-along : (z : List ℕ) → S z [] → P z (walk A e 0 0 z)
-  unfolding after
-  walk-along z s = walk-on [] z tt s
-
-pub characters-front : (w v : List ℕ) → Characters (w ++ v) → Characters w
-characters-front w v c = each-front (λ x. x < 65536) w v c
-
--- what the accept of the state after w tells, where v follows
-pub accept-least : (A : Automaton) (t : Table) → Reads A t → (w v : List ℕ) → Characters (w ++ v) → Leads A 0 w →
-    {g : ℕ} → A .accept (after A 0 w) ≡ g → Least (Free t w) g
-accept-least A t R w v c l p = subst (Least (Free t w)) p (R .accept-is w (characters-front w v c) l)
+use Rattle.session.proofs.Walk.{Along, walk-along, characters-front, accept-least}
+use Rattle.session.proofs.Trace.{Round, waits, closes, stops, accepts, defaults, back, onEnd, walk, Trace, accepting, handle, trace, logOf, statusOf}
 
 -- what a round has to do with the choice; the flag tells if there is a default
 abbrev Picks : Table → Bool → List ℕ → Round → Type 0
@@ -86,7 +45,7 @@ module _ (t : Table) (s : Shaped t) (w v : List ℕ) where
   word-whole : (r : ℕ) → r < length (t .rules) → ruleAt t r .size ≡ length w →
       fitsWord (ruleAt t r .ranges) (take (ruleAt t r .size) (w ++ v)) ≡ fitsPrefix (ruleAt t r .ranges) w
   word-whole r h p =
-      let n : length (ruleAt t r .ranges) ≡ ruleAt t r .size = each-getD ShapedGroup (t .rules) r (everyCharacter []) (s .rules) h .places in
+      let n : length (ruleAt t r .ranges) ≡ ruleAt t r .size = rule-shaped t s r h .places in
       ap (fitsWord (ruleAt t r .ranges)) (ap (λ m. take m (w ++ v)) p ∙ take-append-seam w v) ∙ fitsPrefix-whole (ruleAt t r .ranges) w (n ∙ p)
 
   fit-done : (r : ℕ) → r < length (t .rules) → ruleAt t r .size ≡ length w → Fits t r (w ++ v) → Done t w r

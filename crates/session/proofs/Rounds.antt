@@ -212,6 +212,11 @@ Counted Open m c h = c + h ≡ m
 Counted Closed m c h = c ≡ m
 Counted Stopped m c h = c < m
 
+pub counted-most : (s : Status) (m c h : ℕ) → Counted s m c h → c ≤ m
+counted-most Open m c h p = omega arith
+counted-most Closed m c h p = omega arith
+counted-most Stopped m c h p = omega arith
+
 counted-more : (s : Status) (w r : List ℕ) (m c h : ℕ) → length (w ++ r) ≡ m → Counted s (length r) c h → Counted s m (length w + c) h
 counted-more Open w r m c h k p = omega (arith, length-append w r)
 counted-more Closed w r m c h k p = omega (arith, length-append w r)

@@ -1,9 +1,9 @@
--- The machine, step by step, does what the trace of its store and unread characters tells.
+-- The machine, step by step, does what the trace of its store and unread characters tells; its fuel is enough.
 -- By recursion on a bound of the steps: each step is one of the paper's cases, and in each the trace of what is left tells the rest.
 use mathlib.Core.Bool.{Bool, true, false}
 use mathlib.Core.List.{List, [], _∷_, _++_, append-assoc, append-nil}
 use mathlib.Core.Logic.{_≢_}
-use mathlib.Core.Path.{_≡_, refl, sym, ap, _∙_}
+use mathlib.Core.Path.{_≡_, refl, sym, ap, subst, _∙_}
 use Prim.Native.Nat.{ℕ, zero, suc, pred, _+_, _*_, _≤_, _<_}
 use native.Mathlib.Nat.{zero-add, mul-le-mul-right}
 use native.Mathlib.Omega.{arith}
@@ -20,7 +20,7 @@ use Rattle.session.specs.Machine.{Configuration, Status, Open, Closed, S
 use Rattle.session.specs.Session.{settled}
 use Rattle.session.proofs.Trace.{Round, waits, closes, stops, accepts, defaults, back, walk, Trace, waiting, closing, stopping, accepting, defaulting, handle, trace, cost, logOf, heldOf, stateOf, statusOf}
 use Rattle.session.proofs.Walk.{settled-both, Span, walk-span, walk-resume, after-snoc, leads-snoc}
-use Rattle.session.proofs.Rounds.{trace-round, bounded}
+use Rattle.session.proofs.Rounds.{trace-round, not-open, trace-rests, rests-open, trace-ended, bounded}
 
 abbrev pub at : List ℕ → List ℕ → ℕ → List Emission → ℕ → Configuration
 at w u q l s = record { store = w; unread = u; state = q; due = false; log = l; steps = s }
@@ -107,6 +107,22 @@ pub record Tells (c : Configuration) (t : Trace) (r : Ended) : Type 0 where
   pub log : r .final .log ≡ c .log ++ logOf t
   pub steps : r .final .steps + length (c .store) ≡ c .steps + cost t
   pub due : r .final .due ≡ false
+
+-- the trace and the first configuration leave nothing open
+pub tells-unique : (c : Configuration) (t : Trace) (r r′ : Ended) → Tells c t r → Tells c t r′ → r ≡ r′
+tells-unique c t r r′ a b =
+    let p : r .final .steps ≡ r′ .final .steps = omega arith in
+    λ i. record {
+      status = (a .status ∙ sym (b .status)) i;
+      final = record {
+        store = (a .store ∙ sym (b .store)) i;
+        unread = (a .unread ∙ sym (b .unread)) i;
+        state = (a .state ∙ sym (b .state)) i;
+        due = (a .due ∙ sym (b .due)) i;
+        log = (a .log ∙ sym (b .log)) i;
+        steps = p i;
+      };
+    }
 
 -- What becomes of the telling by an emission, a read, and at the run's end.
 
@@ -329,29 +345,39 @@ module _ (A : Automaton) (L n : ℕ) (G : Good A L n) where
   tells false (suc b) (suc m) w [] q l s t ld p tr few fuel = open-case b (tells false b) m w q l s t ld p tr few fuel (settled A q) refl
   tells true (suc b) (suc m) w [] q l s t ld p tr few fuel = end-case b (tells true b) m w q l s t ld p tr few fuel (A .acceptAtEnd q) refl
 
-  -- the same with the fuel that always suffices
-  pub run-tells : L ≤ 8 → (e : Bool) (w u : List ℕ) (q : ℕ) → Leads A 0 w → q ≡ after A 0 w →
-      Tells (start w u q) (trace A e 0 (w ++ u)) (run A e (start w u q))
-  unfolding run
-  run-tells h e w u q ld p =
-      let m : ℕ = 11 * (length w + length u + 1) in
+  -- the same with fuel that always suffices
+  fuel-tells : L ≤ 8 → (e : Bool) (w u : List ℕ) (q : ℕ) → Leads A 0 w → q ≡ after A 0 w → (m : ℕ) → 11 * (length w + length u + 1) ≤ m →
+      Tells (start w u q) (trace A e 0 (w ++ u)) (steps A e m (start w u q))
+  fuel-tells h e w u q ld p m enough =
       let eleven : L + 3 ≤ 11 = omega arith in
       let few : cost (trace A e 0 (w ++ u)) < m + length w =
       omega (arith, bounded A L n G e (w ++ u) .whole, mul-le-mul-right (length (w ++ u)) eleven, length-append w u) in
       tells e m m w u q [] 0 (trace A e 0 (w ++ u)) ld p refl few few
 
--- the trace and the first configuration leave nothing open
-pub tells-unique : (c : Configuration) (t : Trace) (r r′ : Ended) → Tells c t r → Tells c t r′ → r ≡ r′
-tells-unique c t r r′ a b =
-    let p : r .final .steps ≡ r′ .final .steps = omega arith in
-    λ i. record {
-      status = (a .status ∙ sym (b .status)) i;
-      final = record {
-        store = (a .store ∙ sym (b .store)) i;
-        unread = (a .unread ∙ sym (b .unread)) i;
-        state = (a .state ∙ sym (b .state)) i;
-        due = (a .due ∙ sym (b .due)) i;
-        log = (a .log ∙ sym (b .log)) i;
-        steps = p i;
-      };
-    }
+  pub run-tells : L ≤ 8 → (e : Bool) (w u : List ℕ) (q : ℕ) → Leads A 0 w → q ≡ after A 0 w →
+      Tells (start w u q) (trace A e 0 (w ++ u)) (run A e (start w u q))
+  unfolding run
+  run-tells h e w u q ld p = fuel-tells h e w u q ld p (11 * (length w + length u + 1)) (omega arith)
+
+  -- more fuel changes nothing
+  pub fuel-enough : L ≤ 8 → (e : Bool) (w u : List ℕ) (q : ℕ) → Leads A 0 w → q ≡ after A 0 w → (m : ℕ) → 11 * (length w + length u + 1) ≤ m →
+      steps A e m (start w u q) ≡ run A e (start w u q)
+  fuel-enough h e w u q ld p m enough =
+      tells-unique (start w u q) (trace A e 0 (w ++ u)) (steps A e m (start w u q)) (run A e (start w u q)) (fuel-tells h e w u q ld p m enough)
+      (run-tells h e w u q ld p)
+
+  -- a run that ends open is waiting
+  pub run-waits : L ≤ 8 → (w u : List ℕ) (q : ℕ) → Leads A 0 w → q ≡ after A 0 w → run A false (start w u q) .status ≡ Open →
+      step A false (run A false (start w u q) .final) ≡ halt Open (run A false (start w u q) .final)
+  run-waits h w u q ld p o =
+      let t : Trace = trace A false 0 (w ++ u) in
+      let c : Configuration = run A false (start w u q) .final in
+      let a : Tells (start w u q) t (run A false (start w u q)) = run-tells h false w u q ld p in
+      let rests = rests-open A t (trace-rests A L n G 0 (w ++ u)) (sym (a .status) ∙ o) in
+      let is : at (c .store) [] (c .state) (c .log) (c .steps) ≡ c =
+      λ i. record { store = c .store; unread = sym (a .unread) i; state = c .state; due = sym (a .due) i; log = c .log; steps = c .steps } in
+      subst (λ d. step A false d ≡ halt Open d) is (step-wait A (c .store) (c .state) (c .log) (c .steps) (ap (settled A) (a .state) ∙ rests .2))
+
+  -- with the end known no run ends open
+  pub run-ends : L ≤ 8 → (w u : List ℕ) (q : ℕ) → Leads A 0 w → q ≡ after A 0 w → run A true (start w u q) .status ≢ Open
+  run-ends h w u q ld p o = not-open (statusOf (trace A true 0 (w ++ u))) (trace-ended A 0 (w ++ u)) (sym (run-tells h true w u q ld p .status) ∙ o)

@@ -14,8 +14,7 @@ use Rattle.machine.specs.Automaton.{Automaton}
 use Rattle.machine.proofs.Good.{after, Leads, Good, Least, Done, Free, Reads, Alike, Writes}
 use Rattle.session.specs.Session.{settled}
 use Rattle.session.proofs.Trace.{Round, waits, closes, stops, accepts, defaults, back, onCharacter, onWait, onEnd, onNothing, walk, Trace, waiting, closing, stopping, accepting, defaulting, handle, trace, logOf}
-use Rattle.session.proofs.Walk.{settled-both}
-use Rattle.session.proofs.Meaning.{Along, walk-along, characters-front, accept-least}
+use Rattle.session.proofs.Walk.{settled-both, Along, walk-along, characters-front, accept-least}
 
 on-character-alike : (g q : ℕ) (b : Bool) (d : ℕ) (f f′ : ℕ → Round) → f q ≡ f′ q → onCharacter g q b d f ≡ onCharacter g q b d f′
 on-character-alike (suc r) q b d f f′ h = refl

@@ -1,16 +1,18 @@
--- Laws of one walk: resumed in the middle, over a longer input, how far it reaches, and where it waits.
+-- Laws of one walk: resumed in the middle, over a longer input, how far it reaches, where it waits, and how to show something of it.
 -- By recursion on the input, by cases on a state's accept and target.
 use mathlib.Core.Bool.{Bool, true, false}
-use mathlib.Core.List.{List, [], _∷_, _++_}
+use mathlib.Core.List.{List, [], _∷_, _++_, append-assoc}
 use mathlib.Core.Logic.{_≢_}
-use mathlib.Core.Path.{_≡_, refl, sym, ap, _∙_}
+use mathlib.Core.Path.{_≡_, refl, sym, ap, subst, _∙_}
 use Prim.Native.Nat.{ℕ, zero, suc, _+_, _≤_, _<_}
 use native.Mathlib.Nat.{add-zero}
 use native.Mathlib.Omega.{arith}
 use lib.Dec.{T, eqb, eqb→eq, eqb·suc-zero}
-use lib.ListN.{length}
+use lib.ListN.{length, length-append}
+use Rattle.lists.proofs.Each.{each-front}
+use Rattle.rules.specs.Table.{Characters, Table}
 use Rattle.machine.specs.Automaton.{Automaton}
-use Rattle.machine.proofs.Good.{after, Leads, Good}
+use Rattle.machine.proofs.Good.{after, Leads, Good, Least, Free, Reads}
 use Rattle.session.specs.Session.{settled}
 use Rattle.session.proofs.Trace.{Round, waits, closes, stops, accepts, defaults, back, onCharacter, onWait, onEnd, onNothing, walk}
 
@@ -65,11 +67,6 @@ module _ (A : Automaton) (L n : ℕ) (G : Good A L n) where
       split : (g : ℕ) → A .accept q ≡ g → g ≡ 0
       split zero e = refl
       split (suc r) e = absurd (t (G .no-way-on q x h (omega arith)))
-
-  pub after-inside : (q : ℕ) (w : List ℕ) → q < n → after A q w < n
-  unfolding after
-  after-inside q [] h = h
-  after-inside q (x ∷ w) h = after-inside (A .target q x) w (G .inside q x h)
 
   pub walk-resume : (e : Bool) (d q : ℕ) (w u : List ℕ) → q < n → Leads A q w → walk A e d q (w ++ u) ≡ walk A e (d + length w) (after A q w) u
   unfolding walk after
@@ -247,3 +244,43 @@ module _ (A : Automaton) (L n : ℕ) (G : Good A L n) where
       (walk-depth e (suc d) (A .target q x) u (G .inside q x h) (G .deeper q x h t ∙ ap suc p)))
       (λ b. omega arith)
       (omega arith)
+
+-- To show P of a walk over z: S holds of z and what of it was read so far, and where the walk halts, P follows.
+pub record Along (A : Automaton) (e : Bool) (S : List ℕ → List ℕ → Type 0) (P : List ℕ → Round → Type 0) : Type 0 where
+  pub at-end : (w : List ℕ) → Leads A 0 w → S (w ++ []) w → P (w ++ []) (onNothing A e (length w) (after A 0 w))
+  pub accepted : (w : List ℕ) (x : ℕ) (u : List ℕ) → Leads A 0 w → S (w ++ x ∷ u) w → (r : ℕ) → A .accept (after A 0 w) ≡ suc r →
+      P (w ++ x ∷ u) (accepts r (length w))
+  pub onward : (w : List ℕ) (x : ℕ) (u : List ℕ) → Leads A 0 w → S (w ++ x ∷ u) w → A .accept (after A 0 w) ≡ 0 →
+      S (w ++ x ∷ u) (w ++ x ∷ [])
+  pub no-way : (w : List ℕ) (x : ℕ) (u : List ℕ) → Leads A 0 w → S (w ++ x ∷ u) w → A .accept (after A 0 w) ≡ 0 →
+      A .target (after A 0 w) x ≡ 0 → P (w ++ x ∷ u) (back (A .default) (length w))
+
+module _ (A : Automaton) (e : Bool) (S : List ℕ → List ℕ → Type 0) (P : List ℕ → Round → Type 0) (H : Along A e S P) where
+  walk-on : (w u : List ℕ) → Leads A 0 w → S (w ++ u) w → P (w ++ u) (walk A e (length w) (after A 0 w) u)
+  unfolding walk
+  walk-on w [] l s = H .at-end w l s
+  walk-on w (x ∷ u) l s =
+      by (A .accept (after A 0 w)) (A .target (after A 0 w) x) refl refl
+      (λ h i.
+      let n : length (w ++ x ∷ []) ≡ suc (length w) = omega (arith, length-append w (x ∷ [])) in
+      let m : w ++ x ∷ [] ++ u ≡ w ++ x ∷ u = append-assoc w (x ∷ []) u in
+      rw (m, after-snoc A 0 w x, n) at (walk-on (w ++ x ∷ []) u (leads-snoc A 0 w x l h) (rw m (H .onward w x u l s i))))
+    where
+      by : (g q : ℕ) → A .accept (after A 0 w) ≡ g → A .target (after A 0 w) x ≡ q →
+          (A .target (after A 0 w) x ≢ 0 → A .accept (after A 0 w) ≡ 0 → P (w ++ x ∷ u) (walk A e (suc (length w)) (A .target (after A 0 w) x) u)) →
+          P (w ++ x ∷ u) (onCharacter g q (A .default) (length w) (λ p. walk A e (suc (length w)) p u))
+      by (suc r) q pg pq f = H .accepted w x u l s r pg
+      by zero (suc q) pg pq f = rw pq at (f (omega arith) pg)
+      by zero zero pg pq f = H .no-way w x u l s pg pq
+
+  pub walk-along : (z : List ℕ) → S z [] → P z (walk A e 0 0 z)
+  unfolding after
+  walk-along z s = walk-on [] z tt s
+
+pub characters-front : (w v : List ℕ) → Characters (w ++ v) → Characters w
+characters-front w v c = each-front (λ x. x < 65536) w v c
+
+-- what the accept of the state after w tells, where v follows
+pub accept-least : (A : Automaton) (t : Table) → Reads A t → (w v : List ℕ) → Characters (w ++ v) → Leads A 0 w →
+    {g : ℕ} → A .accept (after A 0 w) ≡ g → Least (Free t w) g
+accept-least A t R w v c l p = subst (Least (Free t w)) p (R .accept-is w (characters-front w v c) l)

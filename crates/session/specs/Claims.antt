@@ -7,7 +7,7 @@ use Prim.Native.Nat.{ℕ, _+_, _*_, _≤_}
 use lib.Dec.{T}
 use lib.ListN.{length, drop}
 use Rattle.lists.specs.Lists.{Each, pad}
-use Rattle.rules.specs.Refusal.{Outcome, refused, accepted, RefusedBy}
+use Rattle.rules.specs.Refusal.{refused, accepted, RefusedBy}
 use Rattle.rules.specs.Table.{Characters, Table, longest}
 use Rattle.rules.specs.Meaning.{textOf, covered, convert, meaningText, meaningPlace}
 use Rattle.machine.specs.Layout.{wordCount}

@@ -1,5 +1,5 @@
 -- "Examples": the eleven lines marked P, as rows, and the test of a row.
-use mathlib.Core.Bool.{Bool, true, false, _&&_}
+use mathlib.Core.Bool.{Bool, true, false}
 use mathlib.Core.List.{List, [], _∷_}
 use Prim.Native.Nat.{ℕ, _*_}
 use Prim.Native.String.{String}
