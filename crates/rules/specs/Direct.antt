@@ -42,6 +42,10 @@ directBy (accepted t) input buffer =
       output = over text buffer;
     }
 
+-- the table check alone
+abbrev pub checked : List ℕ → Outcome (Unit {0})
+checked b = andThen (readTable b) (λ t. accepted tt)
+
 -- table, input, output buffer as found
 unfoldable pub direct : List ℕ → List ℕ → List ℕ → DirectOutcome
 direct b input buffer = directBy (admitted b (length input) (length buffer)) input buffer

@@ -7,4 +7,7 @@ pub mod Meaning
 pub mod Block
 pub mod Direct
 pub mod Claims
+pub mod Flat
+pub mod Summary
+pub mod Answers
 pub mod Samples

@@ -1,1 +1,8 @@
-// The definitions are in specs/, their laws in proofs/.
+// Tables of rules: the table check and direct conversion.
+pub mod convert;
+pub mod load;
+pub mod output;
+pub mod pattern;
+pub mod reader;
+pub mod record;
+pub mod safe;

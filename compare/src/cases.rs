@@ -1,0 +1,302 @@
+//! Random conversions: tables, sound and damaged, with inputs and buffers.
+
+use reference::builder::{encode, encode_records};
+use reference::random::Random;
+use reference::samples::{random_input, random_table, t1, t2, t3};
+use reference::table::{
+    Range, Record, Table, Term, MAX_OUTPUTS, MAX_RANGES, MAX_RULES, RECORD_BYTES,
+};
+
+/// What direct conversion takes.
+#[derive(Clone, Debug, PartialEq, Eq)]
+pub struct Case {
+    /// The table's bytes.
+    pub table: Vec<u8>,
+    /// The input.
+    pub input: Vec<u16>,
+    /// The output buffer as found.
+    pub output: Vec<u16>,
+}
+
+/// The cases that a seed gives, without end.
+pub fn cases(seed: u64) -> impl Iterator<Item = Case> {
+    let mut random = Random::new(seed);
+    std::iter::repeat_with(move || Case::random(&mut random))
+}
+
+impl Case {
+    /// A random case: of every three tables about one is sound, and the others
+    /// are damaged in one to three ways.
+    fn random(random: &mut Random) -> Case {
+        let base = base_table(random);
+        let length = match random.below(50) {
+            0 => random.below(600),
+            _ => random.below(30),
+        };
+        let input = random_input(random, &base, length);
+        let mut table = encode(&base);
+        if !random.one_in(3) {
+            for _ in 0..random.between(1, 3) {
+                damage(random, &mut table);
+            }
+        }
+        let most_outputs = Table::read(&table).unwrap_or(base).most_outputs();
+        let room = room(random, most_outputs * input.len());
+        let first = random.character();
+        Case {
+            table,
+            input,
+            output: pattern(first, room),
+        }
+    }
+}
+
+/// A sound table: a random one, or sometimes one of document 01.
+fn base_table(random: &mut Random) -> Table {
+    if !random.one_in(8) {
+        return random_table(random);
+    }
+    let example = random.pick(&[t1, t2, t3]);
+    Table::read(&example()).expect("document 01 accepts its examples")
+}
+
+/// The length of an output buffer of which so much is needed: too short, exact
+/// or longer.
+fn room(random: &mut Random, needed: usize) -> usize {
+    match random.below(8) {
+        0 => needed.saturating_sub(1),
+        1 => random.below(needed + 1),
+        2..=4 => needed,
+        _ => needed + random.below(9),
+    }
+}
+
+/// Numbers to fill a buffer with, each unlike those beside it.
+pub fn pattern(first: u16, length: usize) -> Vec<u16> {
+    let next = |&last: &u16| Some(last.wrapping_mul(25173).wrapping_add(13849));
+    std::iter::successors(Some(first), next)
+        .take(length)
+        .collect()
+}
+
+/// Damages a table in one way.
+fn damage(random: &mut Random, table: &mut Vec<u8>) {
+    match random.below(16) {
+        0 => flip(random, table),
+        1 => put_byte(random, table),
+        2 => table.truncate(random.below(table.len() + 1)),
+        3 => table.extend((0..random.below(RECORD_BYTES)).map(|_| 0)),
+        4..=8 => change_order(random, table),
+        9..=11 => change_field(random, table),
+        12..=13 => crowd(random, table),
+        _ => touch_border(random, table),
+    }
+}
+
+/// Flips one bit.
+fn flip(random: &mut Random, table: &mut [u8]) {
+    if !table.is_empty() {
+        table[random.below(table.len())] ^= 1 << random.below(8);
+    }
+}
+
+/// Puts any byte in the place of one.
+fn put_byte(random: &mut Random, table: &mut [u8]) {
+    if !table.is_empty() {
+        table[random.below(table.len())] = random.number() as u8;
+    }
+}
+
+/// Cuts, drops, doubles, swaps or moves whole records, or keeps the last group
+/// alone.
+fn change_order(random: &mut Random, table: &mut Vec<u8>) {
+    let mut records: Vec<[u8; RECORD_BYTES]> = table.as_chunks().0.to_vec();
+    if records.is_empty() {
+        return;
+    }
+    let (one, other) = (random.below(records.len()), random.below(records.len()));
+    match random.below(7) {
+        0 => records.truncate(one),
+        1 => drop(records.remove(one)),
+        2 => records.insert(one, records[one]),
+        3 => records.insert(one, records[other]),
+        4 => records.swap(one, other),
+        5 => records.swap(one, one.saturating_sub(1)),
+        _ => drop(records.drain(..last_group(&records))),
+    }
+    *table = records.concat();
+}
+
+/// Where the last group begins.
+fn last_group(records: &[[u8; RECORD_BYTES]]) -> usize {
+    let opens = |record: &[u8; RECORD_BYTES]| matches!(record[0], 1 | 5);
+    records.iter().rposition(opens).unwrap_or(0)
+}
+
+/// The records of a table that are of no unknown kind, up to the first that is.
+fn decoded(table: &[u8]) -> Vec<Record> {
+    let records = table.as_chunks().0.iter();
+    records
+        .map_while(|bytes| Record::decode(bytes).ok())
+        .collect()
+}
+
+/// Changes a field of a record, often by a little.
+fn change_field(random: &mut Random, table: &mut Vec<u8>) {
+    let mut records = decoded(table);
+    if !records.is_empty() {
+        let place = random.below(records.len());
+        records[place] = changed(random, records[place]);
+        *table = encode_records(&records);
+    }
+}
+
+/// The record with another field; a rule of length 1 for the default, which has
+/// none.
+fn changed(random: &mut Random, record: Record) -> Record {
+    let first = random.one_in(3);
+    match record {
+        Record::Rule { length, anchored } if first => Record::Rule {
+            length,
+            anchored: !anchored,
+        },
+        Record::Rule { length, anchored } => Record::Rule {
+            length: near(random, length),
+            anchored,
+        },
+        Record::Range { position, range } if first => Record::Range {
+            position: near(random, position),
+            range,
+        },
+        Record::Range { position, range } => Record::Range {
+            position,
+            range: changed_range(random, range),
+        },
+        Record::Output { constant } => Record::Output {
+            constant: *random.pick(&[
+                constant.wrapping_sub(1),
+                constant.wrapping_add(1),
+                constant.wrapping_add(65536),
+                constant.wrapping_neg(),
+            ]),
+        },
+        Record::Term(term) if first => Record::Term(Term {
+            position: near(random, term.position),
+            ..term
+        }),
+        Record::Term(term) => Record::Term(Term {
+            coefficient: near_character(random, term.coefficient as u16) as i16,
+            ..term
+        }),
+        Record::Default => Record::Rule {
+            length: 1,
+            anchored: false,
+        },
+    }
+}
+
+/// The range with another lowest or highest character.
+fn changed_range(random: &mut Random, range: Range) -> Range {
+    if random.one_in(2) {
+        Range {
+            low: near_character(random, range.low),
+            ..range
+        }
+    } else {
+        Range {
+            high: near_character(random, range.high),
+            ..range
+        }
+    }
+}
+
+/// A number a little below or above, or any byte.
+fn near(random: &mut Random, number: usize) -> usize {
+    match random.below(8) {
+        0 => random.below(256),
+        1..=3 => number.wrapping_sub(1),
+        _ => number + 1,
+    }
+}
+
+/// The character before or after, or any.
+fn near_character(random: &mut Random, character: u16) -> u16 {
+    match random.below(4) {
+        0 => random.character(),
+        1 => character.wrapping_sub(1),
+        _ => character.wrapping_add(1),
+    }
+}
+
+/// Brings a number up to its limit or one above it: rules, ranges of a position
+/// or output characters.
+fn crowd(random: &mut Random, table: &mut Vec<u8>) {
+    let mut records = decoded(table);
+    if records.is_empty() {
+        return;
+    }
+    let more = random.below(2);
+    let place = random.below(records.len());
+    let added = match records[place] {
+        Record::Range { position, range } => rising(position, range, MAX_RANGES + more),
+        Record::Output { .. } => vec![records[place]; MAX_OUTPUTS + more],
+        Record::Rule { .. } => small_rules(MAX_RULES + more),
+        Record::Term(_) | Record::Default => return,
+    };
+    records.splice(place..=place, added);
+    *table = encode_records(&records);
+}
+
+/// So many ranges of one position, each of a character, from a range's lowest.
+fn rising(position: usize, range: Range, count: usize) -> Vec<Record> {
+    let characters = (range.low..=u16::MAX).step_by(2).take(count);
+    characters
+        .map(|character| Record::Range {
+            position,
+            range: Range::one(character),
+        })
+        .collect()
+}
+
+/// So many rules of one character each, without output.
+fn small_rules(count: usize) -> Vec<Record> {
+    let rule = Record::Rule {
+        length: 1,
+        anchored: false,
+    };
+    let range = |character| Record::Range {
+        position: 0,
+        range: Range::one(character),
+    };
+    (0..count as u16)
+        .flat_map(|character| [rule, range(character)])
+        .collect()
+}
+
+/// Moves the constant of an output character so that its least or its greatest
+/// value comes to lie at 0 or 65535 or one beyond, other groups disregarded.
+fn touch_border(random: &mut Random, table: &mut Vec<u8>) {
+    let Ok(mut read) = Table::read(table) else {
+        return;
+    };
+    let groups = read.rules.iter_mut().chain(&mut read.default);
+    let mut groups: Vec<_> = groups.filter(|group| !group.outputs.is_empty()).collect();
+    if groups.is_empty() {
+        return;
+    }
+    let group = random.below(groups.len());
+    let group = &mut groups[group];
+    let place = random.below(group.outputs.len());
+    let (least, greatest) = group.extremes(&group.outputs[place]);
+    let moved = *random.pick(&[
+        -least,
+        -least - 1,
+        i64::from(u16::MAX) - greatest,
+        i64::from(u16::MAX) - greatest + 1,
+    ]);
+    let constant = i64::from(group.outputs[place].constant) + moved;
+    if let Ok(constant) = i32::try_from(constant) {
+        group.outputs[place].constant = constant;
+        *table = encode(&read);
+    }
+}

@@ -1,0 +1,198 @@
+//! Every example of document 01 that direct conversion has, through the C face,
+//! with its answers copied from the document.
+
+use compare::cases::pattern;
+use compare::face::{check, check_null, convert, convert_null, converted, OK, STOPPED};
+use reference::builder::{characters, TableBuilder};
+use reference::samples::{t1, t1_with, t2, t3, t3_with_default};
+
+/// Converts an input into a long buffer and looks at all that the call leaves:
+/// the answer, the place, the count, the text and the rest of the buffer.
+fn expect(table: &[u8], input: &[u16], text: &[u16], code: u32, end: usize) {
+    let found = pattern(7, 8 * input.len() + 20);
+    let mut output = found.clone();
+    let (mut place, mut count) = (u64::MAX, u64::MAX);
+    let answer = convert(table, input, &mut output, &mut place, &mut count);
+    assert_eq!((answer, place), (code, end as u64), "{input:?}");
+    assert_eq!(count, text.len() as u64, "{input:?}");
+    assert_eq!(output[..text.len()], *text, "{input:?}");
+    assert_eq!(output[text.len()..], found[text.len()..], "{input:?}");
+}
+
+/// An input that is converted to its end.
+fn expect_closed(table: &[u8], input: &str, text: &str) {
+    let (input, text) = (characters(input), characters(text));
+    expect(table, &input, &text, OK, input.len());
+}
+
+/// A call that is refused and changes nothing.
+fn expect_refused(table: &[u8], input: &[u16], room: usize, number: u32) {
+    let found = pattern(7, room);
+    let mut output = found.clone();
+    let (mut place, mut count) = (17, 19);
+    let answer = convert(table, input, &mut output, &mut place, &mut count);
+    assert_eq!((answer, place, count), (number, 17, 19));
+    assert_eq!(output, found);
+}
+
+#[test]
+fn the_lines_marked_p_that_convert() {
+    expect_closed(&t1(), "&&#00;&#38;&#", "&&#00;&&#");
+    expect_closed(&t1(), "", "");
+    expect_closed(&t1(), "&#", "&#");
+    expect_closed(&t1(), "&#4", "&#4");
+    expect_closed(&t2(), "a", "X");
+    expect_closed(&t2(), "aa", "YX");
+    expect(&t2(), &characters("ab"), &characters("Y"), STOPPED, 1);
+    expect_closed(&t3(), "aba", "1a");
+}
+
+#[test]
+fn the_lines_marked_p_about_values() {
+    assert_eq!(check(&t1_with(-529)), 7);
+    expect_refused(&t1_with(-529), &characters("&#38;"), 25, 7);
+    assert_eq!(check(&t3_with_default(65535, -1)), OK);
+    expect(
+        &t3_with_default(65535, -1),
+        &[0, 65535, 97],
+        &[65535, 0, 65535 - 97],
+        OK,
+        3,
+    );
+    assert_eq!(check(&t3_with_default(1, 1)), 7);
+    expect_refused(&t3_with_default(1, 1), &[97], 1, 7);
+}
+
+#[test]
+fn the_example_tables_are_accepted() {
+    for table in [t1(), t2(), t3()] {
+        assert_eq!(check(&table), OK);
+    }
+}
+
+#[test]
+fn the_text_of_the_programs_example() {
+    expect(&t1(), &characters("A&#38;"), &[0x0041, 0x0026], OK, 6);
+}
+
+#[test]
+fn the_shortest_match_is_preferred_and_a_rollback_moves_on_by_one() {
+    expect_closed(&t3(), "abaaba", "1a1a");
+    expect_closed(&t1(), "&&#65;&#6&#66;", "&A&#6B");
+}
+
+/// One rule of eight positions with four single characters each, 1, 3, 5, … 63:
+/// 65 classes.
+fn table_of_65_classes() -> Vec<u8> {
+    (0..32)
+        .fold(TableBuilder::new().rule(8), |table, number| {
+            let character = 2 * number as u16 + 1;
+            table.range(number / 4, character, character)
+        })
+        .bytes()
+}
+
+/// 32 rules of length 8 with first characters of their own: 257 states.
+fn table_of_257_states() -> Vec<u8> {
+    let rule = |table: TableBuilder, first: u16| {
+        let table = table.rule(8).range(0, first, first);
+        (1..8).fold(table, |table, position| table.range(position, 0, 65535))
+    };
+    (0..32).fold(TableBuilder::new(), rule).bytes()
+}
+
+#[test]
+fn the_limits_on_classes_and_states_do_not_apply_to_direct_conversion() {
+    for table in [table_of_65_classes(), table_of_257_states()] {
+        assert_eq!(check(&table), OK);
+        expect(&table, &[], &[], OK, 0);
+    }
+    let word = [1, 9, 17, 25, 33, 41, 49, 57];
+    expect(&table_of_65_classes(), &word, &[], OK, 8);
+    expect(
+        &table_of_65_classes(),
+        &[&word[..], &[1]].concat(),
+        &[],
+        STOPPED,
+        8,
+    );
+    expect(&table_of_257_states(), &[31; 17], &[], STOPPED, 16);
+}
+
+/// A rule of length 1.
+fn rule() -> TableBuilder {
+    TableBuilder::new().rule(1).spelled(0, "a")
+}
+
+#[test]
+fn each_refusal_of_the_table_answers_its_number_and_changes_nothing() {
+    let tables = [
+        vec![1],
+        TableBuilder::new().rule(1).range(0, 98, 97).bytes(),
+        TableBuilder::new().output(1).bytes(),
+        TableBuilder::new().rule(1).bytes(),
+        TableBuilder::new().copying_default().bytes(),
+        (0..9).fold(rule(), TableBuilder::output).bytes(),
+        rule().output(65536).bytes(),
+    ];
+    for (table, number) in tables.iter().zip(1..) {
+        assert_eq!(check(table), number);
+        expect_refused(table, &[97], 8, number);
+        expect_refused(table, &[], 0, number);
+    }
+}
+
+#[test]
+fn refusal_15_an_output_shorter_than_e_times_the_input() {
+    // T1's E is 5, the bound of refusal 15 whatever the text's length is.
+    let input = characters("aaa");
+    expect_refused(&t1(), &input, 0, 15);
+    expect_refused(&t1(), &input, 14, 15);
+    let mut output = [7; 15];
+    let answer = converted(&t1(), &input, &mut output).unwrap();
+    assert_eq!((answer.place, answer.count), (3, 3));
+    assert_eq!(output[..4], [97, 97, 97, 7]);
+}
+
+#[test]
+fn order_7_then_15() {
+    expect_refused(&t1_with(-529), &characters("aaa"), 0, 7);
+}
+
+#[test]
+fn empty_buffers() {
+    assert_eq!(check(&[]), 5);
+    expect_refused(&[], &[], 0, 5);
+    expect_refused(&[], &[97], 3, 5);
+    for table in [t1(), t2(), t3()] {
+        let (mut place, mut count) = (17, 19);
+        assert_eq!(convert(&table, &[], &mut [], &mut place, &mut count), OK);
+        assert_eq!((place, count), (0, 0));
+    }
+}
+
+#[test]
+fn empty_buffers_may_have_null_pointers() {
+    let (mut place, mut count) = (17, 19);
+    assert_eq!(check_null(), 5);
+    assert_eq!(convert_null(&[], &mut place, &mut count), 5);
+    assert_eq!((place, count), (17, 19));
+    assert_eq!(convert_null(&t1(), &mut place, &mut count), OK);
+    assert_eq!((place, count), (0, 0));
+}
+
+#[test]
+fn a_table_without_output_writes_nothing_into_an_empty_buffer() {
+    let table = rule().bytes();
+    let (mut place, mut count) = (17, 19);
+    assert_eq!(
+        convert(&table, &[97; 9], &mut [], &mut place, &mut count),
+        OK
+    );
+    assert_eq!((place, count), (9, 0));
+    assert_eq!(
+        convert(&table, &[97, 98], &mut [], &mut place, &mut count),
+        STOPPED
+    );
+    assert_eq!((place, count), (1, 0));
+}

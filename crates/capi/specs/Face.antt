@@ -1,0 +1,25 @@
+-- What the C functions answer and leave for each outcome of the table check and of direct conversion.
+use mathlib.Core.Bool.{cond}
+use Prim.Native.Nat.{ℕ}
+use Rattle.rules.specs.Refusal.{Outcome, refused, accepted}
+use Rattle.rules.specs.Direct.{Converted}
+
+-- 0 for a table that is accepted; "A refusal answers its number"
+abbrev pub checkCode : Outcome (Unit {0}) → ℕ
+checkCode (refused n) = n
+checkCode (accepted u) = 0
+
+-- "answers closed or stopped": 0 for closed, 64, which no refusal has, for stopped; "A refusal answers its number"
+abbrev pub codeOf : Outcome Converted → ℕ
+codeOf (refused n) = n
+codeOf (accepted c) = cond (c .closed) 0 64
+
+-- "the place", or what was found: "every other refusal changes nothing"
+abbrev pub placeOf : Outcome Converted → ℕ → ℕ
+placeOf (refused n) found = found
+placeOf (accepted c) found = c .place
+
+-- "the output count", or what was found
+abbrev pub countOf : Outcome Converted → ℕ → ℕ
+countOf (refused n) found = found
+countOf (accepted c) found = c .count

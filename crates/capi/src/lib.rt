@@ -1,0 +1,56 @@
+// The C face of direct conversion: each answer as a number, place and count through pointers. include/cobbletwill.h declares these functions.
+ghost use mathlib.Core.Path.{_≡_};
+ghost use Rattle.rules.specs.Direct.{checked, direct};
+ghost use Rattle.capi.specs.Face.{checkCode, codeOf, placeOf, countOf};
+use rules::convert::Conversion;
+use rules::convert::Verdict;
+use rules::convert::check;
+use rules::convert::convert;
+
+// 0 for a table that keeps the rules, else the number of its refusal, 1 to 7.
+#[no_mangle]
+pub extern "C" fn cobbletwill_check(table: &[u8]) -> u32
+    ensures { λ r. ⌜ r ≡ checkCode (checked (now (table .entry))) ⌝ }
+{
+    let verdict = check(table);
+    match verdict {
+        Verdict::Accepted => 0,
+        Verdict::Refused(number) => number as u32,
+    }
+}
+
+// 0 for closed and 64 for stopped, with the place and the output count set; else the number of the refusal, 1 to 7, 14 or 15, and nothing changed.
+#[no_mangle]
+pub extern "C" fn cobbletwill_convert(
+    table: &[u8],
+    input: &[u16],
+    output: &mut [u16],
+    place: &mut u64,
+    count: &mut u64,
+) -> u32
+    ensures answer { λ r. ⌜ r ≡ codeOf (direct (now (table .entry)) (now (input .entry)) (now (output .entry)) .answer) ⌝ }
+    ensures output { λ _. ⌜ now (output .exit) ≡ direct (now (table .entry)) (now (input .entry)) (now (output .entry)) .output ⌝ }
+    ensures place { λ _. ⌜ now (place .exit) ≡ placeOf (direct (now (table .entry)) (now (input .entry)) (now (output .entry)) .answer) (now (place .entry)) ⌝ }
+    ensures count { λ _. ⌜ now (count .exit) ≡ countOf (direct (now (table .entry)) (now (input .entry)) (now (output .entry)) .answer) (now (count .entry)) ⌝ }
+{
+    let conversion = convert(table, input, output);
+    match conversion {
+        Conversion::Closed {
+            place: reached,
+            count: written,
+        } => {
+            *place = reached as u64;
+            *count = written as u64;
+            0
+        }
+        Conversion::Stopped {
+            place: reached,
+            count: written,
+        } => {
+            *place = reached as u64;
+            *count = written as u64;
+            64
+        }
+        Conversion::Refused(number) => number as u32,
+    }
+}

@@ -1,0 +1,5 @@
+pub mod Tests
+pub mod Each
+pub mod Members
+pub mod Parts
+pub mod Sets

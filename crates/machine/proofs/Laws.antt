@@ -1,0 +1,13 @@
+pub mod Opened
+pub mod Good
+pub mod Classes
+pub mod First
+pub mod Levels
+pub mod States
+pub mod Places
+pub mod Blocks
+pub mod Alike
+pub mod Write
+pub mod Words
+pub mod Sound
+pub mod Compile

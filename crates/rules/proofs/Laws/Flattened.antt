@@ -1,0 +1,152 @@
+-- The table check as it is run gives the definition's answer, and leaves the arrays of the table that is read.
+-- Record by record, by `admit-right`; what holds of every reading on the way holds of the table.
+use mathlib.Core.List.{List, [], _∷_, _++_, map}
+use mathlib.Core.Option.{Option, none, some}
+use mathlib.Core.Path.{_≡_, refl, sym, ap, ap₂, subst, _∙_}
+use Prim.Native.Nat.{ℕ, zero, suc, _+_, _*_, _/_, _≤_, _<_}
+use native.Mathlib.Nat.{add-zero}
+use native.Mathlib.Omega.{arith}
+use lib.Dec.{eqb}
+use lib.ListN.{length, getD, take, drop, replicate, take-append-drop}
+use Rattle.lists.specs.Lists.{pad, Each, optional}
+use Rattle.lists.specs.Decide.{select}
+use Rattle.lists.proofs.Laws.Tests.{by-cases}
+use Rattle.lists.proofs.Laws.Each.{each-append, each-front, each-back, each-weaken, each-getD}
+use Rattle.rules.specs.Refusal.{Outcome, refused, accepted, andThen}
+use Rattle.rules.specs.Table.{Group, Table, groups}
+use Rattle.rules.specs.Record.{Record, decode}
+use Rattle.rules.specs.Reader.{Reading, unread, latest, unfilled, readOne, readRecords, readEnd, readRules}
+use Rattle.rules.specs.Block.{at, block}
+use Rattle.rules.specs.Summary.{started, gap, admit, Arrays, arraysBy, Taken, takeOn, takeBy, takeRecords}
+use Rattle.rules.specs.Flat.{rows, slotWords, rangeWords, blockWords, constantWords, Flat}
+use Rattle.rules.specs.declared.reader.Reader.{Reader}
+use Rattle.rules.proofs.Laws.Refusal.{by-then}
+use Rattle.rules.proofs.Laws.Shape.{ShapedGroup, ShapedDefault, Shaped}
+use Rattle.rules.proofs.Laws.Narrow.{NarrowGroup, Narrow}
+use Rattle.rules.proofs.Laws.Rows.{pad-none, rowsOf, length-rowsOf, length-rows, rows-at, each-rowsOf, each-rows}
+use Rattle.rules.proofs.Laws.Stored.{slotRow, rangeRow}
+use Rattle.rules.proofs.Laws.Represents.{summary, flat, Read, unread-read}
+use Rattle.rules.proofs.Laws.Decoding.{decode-fits}
+use Rattle.rules.proofs.Laws.Admitted.{Alike, admit-right}
+
+-- what the check as run has taken in, beside what the definition has read
+abbrev pub TakenRight : Taken → Outcome Reading → Type 0
+TakenRight m (refused k) = m .answer ≡ refused k
+TakenRight m (accepted s) = (m .answer ≡ accepted (summary s)) × (m .arrays ≡ flat (s .table)) × Read s
+
+onward : (s : Reading) (x : Record) (old : Arrays) (f : Reader → Arrays → Taken) (g : Reading → Outcome Reading) →
+    ((s′ : Reading) → Read s′ → TakenRight (f (summary s′) (flat (s′ .table))) (g s′)) →
+    (a : Outcome Reader) (o : Outcome Reading) → Alike s x a o → TakenRight (takeOn a (arraysBy (summary s) x (flat (s .table))) old f) (andThen o g)
+unfolding andThen
+onward s x old f g h a (refused k) r = ap (λ a. takeOn a (arraysBy (summary s) x (flat (s .table))) old f .answer) r
+onward s x old f g h a (accepted s′) r =
+    subst (λ m. TakenRight m (g s′)) (sym (ap₂ (λ a m. takeOn a m old f) (r .0) (r .1))) (h s′ (r .2))
+
+-- one record, and those after it
+first-right : (s : Reading) (b : List ℕ) (f : Reader → Arrays → Taken) (g : Reading → Outcome Reading) → Each (λ x. x < 256) b → Read s →
+    ((s′ : Reading) → Read s′ → TakenRight (f (summary s′) (flat (s′ .table))) (g s′)) →
+    (o : Option Record) → decode b ≡ o → TakenRight (takeBy (summary s) o (flat (s .table)) f) (andThen (readOne s o) g)
+unfolding readOne andThen
+first-right s b f g e h rest none p = refl
+first-right s b f g e h rest (some x) p =
+    onward s x (flat (s .table)) f g rest (admit (summary s) x) (readOne s (some x)) (admit-right s x h (decode-fits b e x p))
+
+pub records-right : (n : ℕ) (b : List ℕ) (s : Reading) → Each (λ x. x < 256) b → Read s → TakenRight (takeRecords n b (summary s) (flat (s .table))) (readRecords n b s)
+unfolding takeRecords readRecords
+records-right zero b s e h = (refl, refl, h)
+records-right (suc n) b s e h =
+    let parts : Each (λ x. x < 256) (take 8 b ++ drop 8 b) = subst (Each (λ x. x < 256)) (sym (take-append-drop 8 b)) e in
+    first-right s (take 8 b) (λ r′ m′. takeRecords n (drop 8 b) r′ m′) (λ s′. readRecords n (drop 8 b) s′)
+    (each-front (λ x. x < 256) (take 8 b) (drop 8 b) parts) h
+    (λ s′. records-right n (drop 8 b) s′ (each-back (λ x. x < 256) (take 8 b) (drop 8 b) parts)) (decode (take 8 b)) refl
+
+-- the arrays of the empty table
+abbrev pub emptied : Arrays
+emptied = record { slots = pad 264 []; ranges = pad 2112 []; blocks = pad 2475 []; constants = pad 264 [] }
+
+pub unread-emptied : flat (unread .table) ≡ emptied
+unfolding unread rows slotWords rangeWords blockWords constantWords
+unread-emptied =
+    let a = sym (pad-none 256 8) in
+    let b = sym (pad-none 2048 64) in
+    let c = sym (pad-none 2400 75) in
+    λ i. record { slots = a i; ranges = b i; blocks = c i; constants = a i }
+
+pub pad-zeros : (n : ℕ) → pad n [] ≡ replicate n 0
+unfolding pad
+pad-zeros zero = refl
+pad-zeros (suc n) = ap (λ l. 0 ∷ l) (pad-zeros n)
+
+pub take-right : (n : ℕ) (b : List ℕ) → Each (λ x. x < 256) b → TakenRight (takeRecords n b started emptied) (readRecords n b unread)
+unfolding unread
+take-right n b e = subst (λ m. TakenRight (takeRecords n b started m) (readRecords n b unread)) unread-emptied (records-right n b unread e unread-read)
+
+-- at the table's end
+
+pub unfilled-gap : (s : Reading) → unfilled s ≡ gap (summary s)
+unfolding unfilled latest
+unfilled-gap s = refl
+
+pub end-right : (s : Reading) → readEnd s ≡ select ((gap (summary s), refused 4) ∷ (eqb (summary s .rules) 0, refused 5) ∷ []) (accepted (s .table))
+unfolding readEnd unfilled latest
+end-right s = refl
+
+-- what is read
+
+abbrev IfNarrow : Outcome Table → Type 0
+IfNarrow (refused n) = Unit {0}
+IfNarrow (accepted t) = Narrow t
+
+end-narrow : (s : Reading) → Read s → IfNarrow (readEnd s)
+unfolding readEnd
+end-narrow s h = by-cases IfNarrow _ (accepted (s .table)) (λ _. tt, λ _. (λ _. tt, λ _. h .narrow))
+
+rules-narrow : (b : List ℕ) → Each (λ x. x < 256) b → IfNarrow (readRules b)
+unfolding readRules
+rules-narrow b e =
+    let all = take-right (length b / 8) b e in
+    by-cases IfNarrow _ _ (
+      λ _. tt,
+      λ _.
+          by-then IfNarrow (readRecords (length b / 8) b unread) readEnd (λ n p. tt)
+          (λ s p. end-narrow s (subst (TakenRight (takeRecords (length b / 8) b started emptied)) p all .2)),
+    )
+
+pub read-narrow : (b : List ℕ) (t : Table) → Each (λ x. x < 256) b → readRules b ≡ accepted t → Narrow t
+read-narrow b t e p = subst IfNarrow p (rules-narrow b e)
+
+-- the arrays of a table
+
+block-size : (g : Group) → getD (block g) 0 0 ≡ g .size
+unfolding block pad
+block-size g = refl
+
+block-outputs : (g : Group) → getD (block g) 2 0 ≡ length (g .outputs)
+unfolding block pad
+block-outputs g = refl
+
+-- number j of each block is within a limit where it is so of each group
+block-number : (t : Table) (j most : ℕ) → j < 75 → Each (λ g. getD (block g) j 0 ≤ most) (groups t) → (g : ℕ) → g < 33 → at (blockWords t) (75 * g + j) ≤ most
+unfolding blockWords
+block-number t j most k a g h =
+    subst (λ x. x ≤ most) (sym (rows-at 75 block t g j h k))
+    (each-getD (λ l. getD l j 0 ≤ most) (rowsOf block (t .rules) (t .default)) g [] (each-rowsOf (λ l. getD l j 0 ≤ most) block t (omega arith) a) (subst (λ m. g < m) (sym (length-rowsOf block (t .rules) (t .default))) h))
+
+shaped-each : (P : Group → Type 0) (t : Table) → Shaped t → ((g : Group) → ShapedGroup g → P g) → ((g : Group) → ShapedDefault g → P g) → Each P (groups t)
+shaped-each P t s f d = each-append P (t .rules) (optional (t .default)) (each-weaken ShapedGroup P (t .rules) f (s .rules)) (each-weaken ShapedDefault P (optional (t .default)) d (s .default))
+
+pub flat-flat : (t : Table) → Shaped t → Narrow t → Flat (slotWords t) (rangeWords t) (blockWords t)
+unfolding slotWords rangeWords blockWords
+flat-flat t s n =
+    record {
+      slots-length = length-rows 8 slotRow t;
+      ranges-length = length-rows 64 rangeRow t;
+      blocks-length = length-rows 75 block t;
+      few = λ p h. each-getD (λ x. x ≤ 4) (slotWords t) p 0 (each-rows (λ x. x ≤ 4) 8 slotRow t (omega arith) (each-weaken NarrowGroup (λ g. Each (λ x. x ≤ 4) (slotRow g)) (groups t) (λ g w. lengths (g .ranges) (w .few)) n)) (rw length-rows h);
+      size = λ g h. subst (λ i. at (blockWords t) i ≤ 8) (add-zero (75 * g)) (block-number t 0 8 (omega arith) (shaped-each (λ g. getD (block g) 0 0 ≤ 8) t s (λ g k. rw block-size (k .small)) (λ g k. rw (block-size, k .size) (omega arith))) g h);
+      outputs = block-number t 2 8 (omega arith) (shaped-each (λ g. getD (block g) 2 0 ≤ 8) t s (λ g k. rw block-outputs (k .outputs)) (λ g k. rw block-outputs (k .outputs)));
+    }
+  where
+    lengths : {A : Type 0} (xs : List (List A)) → Each (λ rs. length rs ≤ 4) xs → Each (λ x. x ≤ 4) (map length xs)
+    lengths [] a = tt
+    lengths (x ∷ xs) a = (a .0, lengths xs (a .1))

@@ -1,0 +1,92 @@
+-- `pattern::in_ranges` meets its contract. The invariant: the character lies in the ranges where it lies in those from number k on.
+-- The measure is what is left of them. Assumes nothing.
+use mathlib.Core.Bool.{_||_}
+use mathlib.Core.Path.{_≡_, sym, _∙_}
+use Prim.Native.Nat.{_≤_, _+_, _-_}
+use native.Mathlib.Omega.{arith}
+use Rattle.rules.specs.Table.{inRanges}
+use Rattle.rules.specs.Block.{at}
+use Rattle.rules.specs.Flat.{rangesAt}
+use Rattle.rules.proofs.Laws.Choosing.{inFrom, inFrom-start, inFrom-next, inFrom-end}
+use Rattle.rules.proofs.pattern.in_ranges.Statement.{statement}
+use Rattle.rules.proofs.pattern.in_ranges.Tie as tie
+
+abbrev Inv-loop : tie.InvT-loop
+Inv-loop slots ranges place c count k₀ k =
+    (k ≤ at slots place) × (inRanges (rangesAt slots ranges place) c ≡ inFrom slots ranges place c k)
+
+abbrev μ-loop : tie.MeasureT-loop
+μ-loop slots ranges place c count k₀ k = at slots place - k
+
+mul-count : tie.Need-mul-count Inv-loop μ-loop
+mul-count c = omega arith
+
+shared-slice-read-count : tie.Need-shared-slice-read-count Inv-loop μ-loop
+shared-slice-read-count c = omega arith
+
+cast-count : tie.Need-cast-count Inv-loop μ-loop
+cast-count c = omega arith
+
+loop-holds : tie.Need-loop-holds Inv-loop μ-loop
+loop-holds c = (omega arith, inFrom-start _ _ _ _)
+
+mul-in-range : tie.Need-mul-in-range Inv-loop μ-loop
+mul-in-range c = omega arith
+
+mul-in-range-2 : tie.Need-mul-in-range-2 Inv-loop μ-loop
+mul-in-range-2 c = omega arith
+
+add-in-range : tie.Need-add-in-range Inv-loop μ-loop
+add-in-range c = omega arith
+
+in-range-requires : tie.Need-in-range-requires Inv-loop μ-loop
+in-range-requires c κs = omega arith
+
+-- the range that the turn looks at, and those after it
+turn : (c : tie.After-in-range Inv-loop μ-loop) →
+    let l = c .before .before in
+    let a = l .before .before .before .before .args in
+    inRanges (rangesAt (a .slots .now) (a .ranges .now) (a .place)) (a .c)
+    ≡ c .in-range .result || inFrom (a .slots .now) (a .ranges .now) (a .place) (a .c) (l .loop .k + 1)
+turn c =
+    let l = c .before .before in
+    let a = l .before .before .before .before .args in
+    l .loop .inv .1 ∙ inFrom-next (a .slots .now) (a .ranges .now) (a .place) (a .c) (l .loop .k) (c .in-range .result) (omega arith) (c .in-range .ensures)
+
+returns : tie.Need-returns Inv-loop μ-loop
+returns c = sym (turn (c .before) ∙ rw (c .if1 .taken))
+
+add-k : tie.Need-add-k Inv-loop μ-loop
+add-k c = omega arith
+
+loop-less : tie.Need-loop-less Inv-loop μ-loop
+loop-less c = omega arith
+
+loop-again : tie.Need-loop-again Inv-loop μ-loop
+loop-again c = (omega arith, turn (c .before) ∙ rw (c .if1 .left))
+
+returns-2 : tie.Need-returns-2 Inv-loop μ-loop
+returns-2 c =
+    let l = c .before in
+    let a = l .before .before .before .before .args in
+    sym (l .loop .inv .1 ∙ inFrom-end (a .slots .now) (a .ranges .now) (a .place) (a .c) (l .loop .k) (omega arith))
+
+pub in-ranges-spec : {M : Type 1} → statement M
+in-ranges-spec =
+    tie.close
+    (tie.spec
+    Inv-loop
+    μ-loop
+    mul-count
+    shared-slice-read-count
+    cast-count
+    loop-holds
+    mul-in-range
+    mul-in-range-2
+    add-in-range
+    in-range-requires
+    returns
+    add-k
+    loop-less
+    loop-again
+    returns-2)

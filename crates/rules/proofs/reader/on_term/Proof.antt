@@ -1,0 +1,77 @@
+-- `rules::reader::on_term` meets its contract: at each `return` the tests that led there say what `admit` answers.
+-- The tests that a term has passed give its place in the group's block.
+use mathlib.Core.Bool.{false}
+use mathlib.Core.Path.{_≡_, refl, sym, _∙_, subst}
+use Prim.Native.Nat.{_≤_, _<_}
+use borrow.Author.Needs.{needs}
+use native.Mathlib.Omega.{arith}
+use native.Mathlib.Numerals.{sub-one}
+use Rattle.lists.specs.Decide.{select}
+use Rattle.rules.specs.Summary.{admit}
+use Rattle.rules.proofs.Laws.Stepping.{fails, termMisplaced, TermComes, term-comes, group-below}
+use Rattle.rules.proofs.reader.on_term.Statement.{statement}
+use Rattle.rules.proofs.reader.on_term.Tie as tie
+
+-- the function's entry
+abbrev entered : tie.Else1 → tie.Start
+entered c = c .before .before .before
+
+placed : (c : tie.Else1) → let x = entered c .args in termMisplaced (x .reader) (x .position) ≡ false
+placed c = sym (c .before .term-misplaced .ensures) ∙ c .if1 .left
+
+comes : (c : tie.Else1) → let x = entered c .args in TermComes (x .reader) (x .position)
+comes c = term-comes _ _ (fails _ (placed c))
+
+some-output : (c : tie.Else1) → 1 ≤ entered c .args .reader .outputs
+some-output c = entered c .pre .0 .writing (comes c .writing)
+
+term-misplaced-requires : tie.Need-term-misplaced-requires
+term-misplaced-requires c κs = search needs
+
+returns : tie.Need-returns
+unfolding admit select
+returns c = simp (sym (c .before .term-misplaced .ensures) ∙ c .if1 .taken) (refl, refl)
+
+group-number-requires : tie.Need-group-number-requires
+group-number-requires c κs = entered c .pre .0 .grouped (comes c .begun)
+
+sub-put-term : tie.Need-sub-put-term
+sub-put-term c = omega (arith, some-output (c .before))
+
+put-term-requires : tie.Need-put-term-requires
+put-term-requires c κs =
+    let d = c .before .before in
+    let s = entered d in
+    let inside : s .args .position < s .args .reader .size = comes d .inside in
+    let small : s .args .reader .size ≤ 8 = s .pre .0 .size in
+    let few : s .args .reader .outputs ≤ 8 = s .pre .0 .outputs in
+    let one : 1 ≤ s .args .reader .outputs = some-output d in
+    let below = subst (λ k. k < 33) (sym (c .before .group-number .ensures)) (group-below (s .args .reader) (s .pre .0 .rules)) in
+    ((below, omega arith, omega arith), search needs)
+
+add-t9 : tie.Need-add-t9
+add-t9 c = search needs
+
+same-length : tie.Need-same-length
+same-length c = search needs
+
+returns-2 : tie.Need-returns-2
+unfolding admit select
+returns-2 c =
+    let written = c .before .before in
+    let numbered = written .before .before in
+    let one = placed (numbered .before) in
+    (simp one, written .put-term .ensures ∙ simp (one, numbered .group-number .ensures, sub-one))
+
+pub on-term-spec : {M : Type 1} → statement M
+on-term-spec =
+    tie.close
+    (tie.spec
+    term-misplaced-requires
+    returns
+    group-number-requires
+    sub-put-term
+    put-term-requires
+    add-t9
+    same-length
+    returns-2)

@@ -1,0 +1,149 @@
+// Direct conversion.
+ghost use mathlib.Core.Bool.{true};
+ghost use mathlib.Core.Path.{_≡_};
+ghost use Prim.Native.Nat.{ℕ, _*_, _≤_, _<_};
+ghost use lib.ListN.{length};
+ghost use Rattle.rules.specs.Refusal.{accepted};
+ghost use Rattle.rules.specs.Block.{at};
+ghost use Rattle.rules.specs.Meaning.{covered};
+ghost use Rattle.rules.specs.Flat.{Flat, expansionAt, flatConversion, flatText, flatDirect};
+ghost use Rattle.rules.specs.Direct.{over, checked, direct};
+ghost use Rattle.rules.specs.Answers.{conversionOf, checkOf};
+use crate::load::Load;
+use crate::load::load_table;
+use crate::output::write_group;
+use crate::pattern::Choice;
+use crate::pattern::choose_at;
+
+// The place where a conversion ended and the characters written, or the refusal.
+pub enum Conversion {
+    Closed { place: usize, count: usize },
+    Stopped { place: usize, count: usize },
+    Refused(u8),
+}
+
+// The table check's answer.
+pub enum Verdict {
+    Accepted,
+    Refused(u8),
+}
+
+// E: the greatest number of output characters of the first `rules` groups, and of group 32 where there is a default.
+fn expansion(blocks: &[u16], rules: usize, defaulted: bool) -> usize
+    requires { ⌜ (length (now blocks) ≡ 2475) × (rules ≤ 32) ⌝ }
+    ensures { λ r. ⌜ r ≡ expansionAt (now (blocks .entry)) rules defaulted ⌝ }
+{
+    let mut most: usize = 0;
+    if defaulted {
+        most = blocks[2402] as usize;
+    }
+    let mut group = 0;
+    while group < rules {
+        let count = blocks[75 * group + 2] as usize;
+        if most < count {
+            most = count;
+        }
+        group += 1;
+    }
+    most
+}
+
+// The conversion of an input by a table's arrays, where each group has characters and the text has room.
+pub fn convert_flat(
+    slots: &[u16],
+    ranges: &[u16],
+    blocks: &[u16],
+    rules: usize,
+    defaulted: bool,
+    input: &[u16],
+    output: &mut [u16],
+) -> Conversion
+    requires { ⌜ Flat (now slots) (now ranges) (now blocks) ⌝ }
+    requires { ⌜ rules ≤ 32 ⌝ }
+    requires { ⌜ ((g : ℕ) → g < rules → 1 ≤ at (now blocks) (75 * g)) ⌝ }
+    requires { ⌜ (defaulted ≡ true → at (now blocks) 2400 ≡ 1) ⌝ }
+    requires { ⌜ length (flatText (now blocks) (flatConversion (now slots) (now ranges) (now blocks) rules defaulted (now input) .log)) ≤ length (now output) ⌝ }
+    ensures answer { λ r. ⌜ (
+        let whole = flatConversion (now (slots .entry)) (now (ranges .entry)) (now (blocks .entry)) rules defaulted (now (input .entry)) in
+        conversionOf r
+        ≡ accepted (record { closed = whole .closed; place = covered (whole .log); count = length (flatText (now (blocks .entry)) (whole .log)) })) ⌝ }
+    ensures text { λ _. ⌜ (
+        let whole = flatConversion (now (slots .entry)) (now (ranges .entry)) (now (blocks .entry)) rules defaulted (now (input .entry)) in
+        now (output .exit) ≡ over (flatText (now (blocks .entry)) (whole .log)) (now (output .entry))) ⌝ }
+{
+    let mut place = 0;
+    let mut count = 0;
+    while place < input.len() {
+        let Choice::Group(group) = choose_at(slots, ranges, blocks, rules, defaulted, input, place)
+        else {
+            return Conversion::Stopped { place, count };
+        };
+        count = write_group(blocks, group, input, place, output, count);
+        place += blocks[75 * group] as usize;
+    }
+    Conversion::Closed { place, count }
+}
+
+// Refusals 14 and 15, then the conversion.
+fn convert_loaded(
+    slots: &[u16],
+    ranges: &[u16],
+    blocks: &[u16],
+    rules: usize,
+    defaulted: bool,
+    input: &[u16],
+    output: &mut [u16],
+) -> Conversion
+    requires { ⌜ Flat (now slots) (now ranges) (now blocks) ⌝ }
+    requires { ⌜ rules ≤ 32 ⌝ }
+    requires { ⌜ ((g : ℕ) → g < rules → 1 ≤ at (now blocks) (75 * g)) ⌝ }
+    requires { ⌜ (defaulted ≡ true → at (now blocks) 2400 ≡ 1) ⌝ }
+    requires { ⌜ length (flatText (now blocks) (flatConversion (now slots) (now ranges) (now blocks) rules defaulted (now input) .log))
+        ≤ expansionAt (now blocks) rules defaulted * length (now input) ⌝ }
+    ensures answer { λ r. ⌜ conversionOf r
+        ≡ flatDirect (now (slots .entry)) (now (ranges .entry)) (now (blocks .entry)) rules defaulted (now (input .entry)) (now (output .entry)) .answer ⌝ }
+    ensures text { λ _. ⌜ now (output .exit)
+        ≡ flatDirect (now (slots .entry)) (now (ranges .entry)) (now (blocks .entry)) rules defaulted (now (input .entry)) (now (output .entry)) .output ⌝ }
+{
+    if 1099511627776 < input.len() {
+        return Conversion::Refused(14);
+    }
+    if output.len() < expansion(blocks, rules, defaulted) * input.len() {
+        return Conversion::Refused(15);
+    }
+    convert_flat(slots, ranges, blocks, rules, defaulted, input, output)
+}
+
+// Direct conversion of an input by a table, into an output buffer.
+pub fn convert(table: &[u8], input: &[u16], output: &mut [u16]) -> Conversion
+    ensures answer { λ r. ⌜ conversionOf r ≡ direct (now (table .entry)) (now (input .entry)) (now (output .entry)) .answer ⌝ }
+    ensures output { λ _. ⌜ now (output .exit) ≡ direct (now (table .entry)) (now (input .entry)) (now (output .entry)) .output ⌝ }
+{
+    let mut slots = [0u16; 264];
+    let mut ranges = [0u16; 2112];
+    let mut blocks = [0u16; 2475];
+    let loaded = load_table(table, &mut slots, &mut ranges, &mut blocks);
+    match loaded {
+        Load::Refused(n) => Conversion::Refused(n),
+        Load::Accepted { rules, defaulted } => {
+            convert_loaded(&slots, &ranges, &blocks, rules, defaulted, input, output)
+        }
+    }
+}
+
+// The table check alone.
+pub fn check(table: &[u8]) -> Verdict
+    ensures { λ r. ⌜ checkOf r ≡ checked (now (table .entry)) ⌝ }
+{
+    let mut slots = [0u16; 264];
+    let mut ranges = [0u16; 2112];
+    let mut blocks = [0u16; 2475];
+    let loaded = load_table(table, &mut slots, &mut ranges, &mut blocks);
+    match loaded {
+        Load::Refused(n) => Verdict::Refused(n),
+        Load::Accepted {
+            rules: _,
+            defaulted: _,
+        } => Verdict::Accepted,
+    }
+}

@@ -1,0 +1,132 @@
+// Definition 7's choice, on the flat arrays.
+ghost use mathlib.Core.Path.{_≡_};
+ghost use mathlib.Core.Bool.{_&&_};
+ghost use Prim.Native.Nat.{ℕ, _+_, _*_, _≤_, _<_};
+ghost use lib.Dec.{leb};
+ghost use lib.ListN.{length, take, drop};
+ghost use Rattle.lists.specs.Lists.{tabFrom};
+ghost use Rattle.rules.specs.Table.{inRanges};
+ghost use Rattle.rules.specs.Block.{at};
+ghost use Rattle.rules.specs.Value.{fitsWord};
+ghost use Rattle.rules.specs.Meaning.{fits, choose};
+ghost use Rattle.rules.specs.Flat.{rangesAt, groupAt, tableAt, Flat};
+ghost use Rattle.rules.specs.Answers.{choiceOf};
+
+// The number of the group chosen, or nothing where no rule fits and there is no default.
+pub enum Choice {
+    Group(usize),
+    Nothing,
+}
+
+// The character lies in the range whose two numbers start at `i`.
+fn in_range(ranges: &[u16], i: usize, c: u16) -> bool
+    requires { ⌜ i + 2 ≤ length (now ranges) ⌝ }
+    ensures { λ r. ⌜ r ≡ leb (at (now (ranges .entry)) i) c && leb c (at (now (ranges .entry)) (i + 1)) ⌝ }
+{
+    if ranges[i] <= c {
+        return c <= ranges[i + 1];
+    }
+    false
+}
+
+// The character lies in the ranges of a place: position p of group g has place 8 g + p.
+pub fn in_ranges(slots: &[u16], ranges: &[u16], place: usize, c: u16) -> bool
+    requires { ⌜ (place < length (now slots)) × (8 * place + 8 ≤ length (now ranges)) × (at (now slots) place ≤ 4) ⌝ }
+    ensures { λ r. ⌜ r ≡ inRanges (rangesAt (now (slots .entry)) (now (ranges .entry)) place) c ⌝ }
+{
+    let count = slots[place] as usize;
+    let mut k: usize = 0;
+    while k < count {
+        if in_range(ranges, 8 * place + 2 * k, c) {
+            return true;
+        }
+        k += 1;
+    }
+    false
+}
+
+// The `size` characters from `from` on lie in the ranges of as many places from `place` on.
+fn positions_fit(
+    slots: &[u16],
+    ranges: &[u16],
+    place: usize,
+    size: usize,
+    input: &[u16],
+    from: usize,
+) -> bool
+    requires { ⌜ (place + size ≤ length (now slots)) × (8 * length (now slots) ≤ length (now ranges)) × (from + size ≤ length (now input)) ⌝ }
+    requires { ⌜ ((p : ℕ) → p < length (now slots) → at (now slots) p ≤ 4) ⌝ }
+    ensures { λ r. ⌜ r ≡ fitsWord (tabFrom 0 size (λ p. rangesAt (now (slots .entry)) (now (ranges .entry)) (place + p))) (take size (drop from (now (input .entry)))) ⌝ }
+{
+    let mut p: usize = 0;
+    while p < size {
+        if !in_ranges(slots, ranges, place + p, input[from + p]) {
+            return false;
+        }
+        p += 1;
+    }
+    true
+}
+
+// The group fits the input from `at` on.
+pub fn fits_at(
+    slots: &[u16],
+    ranges: &[u16],
+    blocks: &[u16],
+    group: usize,
+    input: &[u16],
+    at: usize,
+) -> bool
+    requires { ⌜ Flat (now slots) (now ranges) (now blocks) ⌝ }
+    requires { ⌜ (group < 33) × (at ≤ length (now input)) ⌝ }
+    ensures { λ r. ⌜ r ≡ fits (groupAt (now (slots .entry)) (now (ranges .entry)) (now (blocks .entry)) group) (drop at (now (input .entry))) ⌝ }
+{
+    let size = blocks[75 * group] as usize;
+    let left = input.len() - at;
+    if left < size {
+        return false;
+    }
+    if blocks[75 * group + 1] == 1 {
+        if size < left {
+            return false;
+        }
+    }
+    positions_fit(slots, ranges, 8 * group, size, input, at)
+}
+
+// The group chosen for the input from `at` on. A rule that is no shorter than the best so far can't win, and is not tried.
+pub fn choose_at(
+    slots: &[u16],
+    ranges: &[u16],
+    blocks: &[u16],
+    rules: usize,
+    defaulted: bool,
+    input: &[u16],
+    at: usize,
+) -> Choice
+    requires { ⌜ Flat (now slots) (now ranges) (now blocks) ⌝ }
+    requires { ⌜ (rules ≤ 32) × (at ≤ length (now input)) ⌝ }
+    ensures { λ r. ⌜ choiceOf r ≡ choose (tableAt (now (slots .entry)) (now (ranges .entry)) (now (blocks .entry)) rules defaulted) (drop at (now (input .entry))) ⌝ }
+{
+    // none so far: above every rule and every length
+    let mut best: usize = rules;
+    let mut least: usize = 9;
+    let mut r: usize = 0;
+    while r < rules {
+        let size = blocks[75 * r] as usize;
+        if size < least {
+            if fits_at(slots, ranges, blocks, r, input, at) {
+                best = r;
+                least = size;
+            }
+        }
+        r += 1;
+    }
+    if best < rules {
+        return Choice::Group(best);
+    }
+    if defaulted {
+        return Choice::Group(32);
+    }
+    Choice::Nothing
+}

@@ -1,0 +1,85 @@
+/*
+ * Cobbletwill: direct conversion of text under a table of rules.
+ *
+ * Document 01 says what tables, characters and direct conversion are. The
+ * functions are those of the crate `capi`, in target/staticlib/libcapi.a, which
+ * `rt staticlib capi` writes for x86-64 Linux.
+ *
+ * A buffer is a pointer to its first element and then its number of elements.
+ * With the number 0 the pointer is not used and may be null. A buffer that is
+ * written must not overlap another one. Nothing is kept after a call, no memory
+ * is taken from a heap, and calls on buffers of their own may run at once.
+ */
+#ifndef COBBLETWILL_H
+#define COBBLETWILL_H
+
+#include <stddef.h>
+#include <stdint.h>
+
+#ifdef __cplusplus
+extern "C" {
+#endif
+
+/* The answers of both functions. A refusal answers its number. */
+enum {
+    /* The table is accepted; the conversion closed at the input's end. */
+    COBBLETWILL_OK = 0,
+
+    /* 1: the table's length is no multiple of 8. */
+    COBBLETWILL_TABLE_LENGTH = 1,
+    /* 2: unknown kind, a field outside its own range, a byte that must be zero
+     * and isn't, lowest above highest. */
+    COBBLETWILL_FIELD = 2,
+    /* 3: a record where its kind can't come, a position not below K, ranges or
+     * terms out of order. */
+    COBBLETWILL_PLACE = 3,
+    /* 4: a position skipped, or unfilled when the ranges end. */
+    COBBLETWILL_UNFILLED = 4,
+    /* 5: no rule. */
+    COBBLETWILL_NO_RULE = 5,
+    /* 6: a 33rd rule, fifth range of a position, ninth output character. */
+    COBBLETWILL_TOO_MANY = 6,
+    /* 7: an output value may leave 0 to 65535. */
+    COBBLETWILL_VALUE = 7,
+    /* 14: an input above 1,099,511,627,776 characters. */
+    COBBLETWILL_TOO_LONG = 14,
+    /* 15: an output buffer shorter than E times the input, E being the greatest
+     * number of output characters in a group of the table. 8 times the input
+     * is enough for every table. */
+    COBBLETWILL_SHORT_OUTPUT = 15,
+
+    /* No rule fits and there is no default: the conversion stopped. */
+    COBBLETWILL_STOPPED = 64
+};
+
+/*
+ * The table check. `table` has `table_length` bytes, in records of 8.
+ *
+ * Answers 0 for a table that direct conversion accepts, else the first refusal
+ * of 1 to 7 in document 01's order.
+ */
+uint32_t cobbletwill_check(const uint8_t *table, size_t table_length);
+
+/*
+ * Direct conversion. `table` has `table_length` bytes, `input` has
+ * `input_length` characters of 16 bits, `output` has room for `output_length`
+ * characters. `place` and `count` each point to one number.
+ *
+ * Answers 0 where the input's end was reached, or 64 where the conversion
+ * stopped before it. Then `*place` is the place where it ended (at 0, the
+ * number of characters of the input), `*count` is the number of characters
+ * written from the start of `output`, and the rest of `output` is as found.
+ *
+ * Else answers the first refusal of 1 to 7, 14, 15 in this order, and `output`,
+ * `*place` and `*count` are as found.
+ */
+uint32_t cobbletwill_convert(const uint8_t *table, size_t table_length,
+                             const uint16_t *input, size_t input_length,
+                             uint16_t *output, size_t output_length,
+                             uint64_t *place, uint64_t *count);
+
+#ifdef __cplusplus
+}
+#endif
+
+#endif
