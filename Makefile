@@ -5,7 +5,7 @@ test:
 	@bash .ci/run
 
 demo:
-	@echo "The program is not built yet: table check and direct conversion are, and are called through the C face."
+	@echo "The program is not built yet: table check, direct conversion and compiling are, and are called through the C face."
 	@echo "Document 01's examples run through it in compare/tests/examples.rs, as part of make test."
 
 bench:

@@ -1,8 +1,9 @@
 /*
- * Cobbletwill: direct conversion of text under a table of rules.
+ * Cobbletwill: conversion of text under a table of rules, and compiling such a
+ * table into machine words.
  *
- * Document 01 says what tables, characters and direct conversion are. The
- * functions are those of the crate `capi`, in target/staticlib/libcapi.a, which
+ * Document 01 says what tables, characters, direct conversion and machine words
+ * are. The functions are those of the crate `capi`, in target/staticlib/libcapi.a, which
  * `rt staticlib capi` writes for x86-64 Linux.
  *
  * A buffer is a pointer to its first element and then its number of elements.
@@ -20,9 +21,14 @@
 extern "C" {
 #endif
 
-/* The answers of both functions. A refusal answers its number. */
+/* The machine words of a table: 19,697 of 16 bits. */
+enum { COBBLETWILL_WORDS = 19697 };
+
+/* The answers of the check, of conversion and of compiling. A refusal answers
+ * its number. */
 enum {
-    /* The table is accepted; the conversion closed at the input's end. */
+    /* The table is accepted; the conversion closed at the input's end; the
+     * table is compiled. */
     COBBLETWILL_OK = 0,
 
     /* 1: the table's length is no multiple of 8. */
@@ -41,6 +47,12 @@ enum {
     COBBLETWILL_TOO_MANY = 6,
     /* 7: an output value may leave 0 to 65535. */
     COBBLETWILL_VALUE = 7,
+    /* 8: a 65th class of characters (compiling only). */
+    COBBLETWILL_CLASSES = 8,
+    /* 9: a 257th state (compiling only). */
+    COBBLETWILL_STATES = 9,
+    /* 10: under 19,697 words for compiling. */
+    COBBLETWILL_SHORT_WORDS = 10,
     /* 14: an input above 1,099,511,627,776 characters. */
     COBBLETWILL_TOO_LONG = 14,
     /* 15: an output buffer shorter than E times the input, E being the greatest
@@ -77,6 +89,45 @@ uint32_t cobbletwill_convert(const uint8_t *table, size_t table_length,
                              const uint16_t *input, size_t input_length,
                              uint16_t *output, size_t output_length,
                              uint64_t *place, uint64_t *count);
+
+/*
+ * Compiling. `table` has `table_length` bytes, in records of 8. `words` has room
+ * for `words_length` words, of which the first 19,697 (COBBLETWILL_WORDS) are
+ * written; those beyond stay as found.
+ *
+ * Answers 0 for a table that is compiled; the words are then its machine words,
+ * words not in use being 0. Else answers the first refusal in this order:
+ *
+ *   10  fewer than 19,697 words: `words` is as found
+ *    1  the table's length is no multiple of 8
+ *   then record by record, from the first, the first of
+ *    2  unknown kind, a field outside its own range, a byte that must be zero
+ *       and isn't, lowest above highest
+ *    3  a record where its kind can't come, a position not below K, ranges or
+ *       terms out of order
+ *    4  a position skipped, or unfilled when the ranges end
+ *    6  a 33rd rule, fifth range of a position, ninth output character
+ *   then for the whole table
+ *    4  a position unfilled at the table's end
+ *    5  no rule
+ *    7  an output value may leave 0 to 65535
+ *    8  a 65th class
+ *    9  a 257th state
+ *
+ * Refused by 1 to 9, the first 19,697 words are 0.
+ */
+uint32_t cobbletwill_compile(const uint8_t *table, size_t table_length,
+                             uint16_t *words, size_t words_length);
+
+/*
+ * The test of words. `words` has `words_length` words, which are only read; at
+ * most the first 19,697 are looked at, and of these only the ones in use.
+ *
+ * Answers 1 for sound words, on which a machine may run, and 0 for words that
+ * are not sound or fewer than 19,697. Words that cobbletwill_compile has
+ * written with the answer 0 are sound.
+ */
+uint32_t cobbletwill_is_sound(const uint16_t *words, size_t words_length);
 
 #ifdef __cplusplus
 }

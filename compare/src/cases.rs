@@ -1,10 +1,11 @@
-//! Random conversions: tables, sound and damaged, with inputs and buffers.
+//! Random tables, sound and damaged, alone for compiling and with inputs and
+//! buffers for direct conversion; tables at the limits of compiling.
 
-use reference::builder::{encode, encode_records};
+use reference::builder::{encode, encode_records, TableBuilder};
 use reference::random::Random;
 use reference::samples::{random_input, random_table, t1, t2, t3};
 use reference::table::{
-    Range, Record, Table, Term, MAX_OUTPUTS, MAX_RANGES, MAX_RULES, RECORD_BYTES,
+    Group, Range, Record, Table, Term, MAX_LENGTH, MAX_OUTPUTS, MAX_RANGES, MAX_RULES, RECORD_BYTES,
 };
 
 /// What direct conversion takes.
@@ -34,12 +35,7 @@ impl Case {
             _ => random.below(30),
         };
         let input = random_input(random, &base, length);
-        let mut table = encode(&base);
-        if !random.one_in(3) {
-            for _ in 0..random.between(1, 3) {
-                damage(random, &mut table);
-            }
-        }
+        let table = damaged(random, &base);
         let most_outputs = Table::read(&table).unwrap_or(base).most_outputs();
         let room = room(random, most_outputs * input.len());
         let first = random.character();
@@ -49,6 +45,83 @@ impl Case {
             output: pattern(first, room),
         }
     }
+}
+
+/// The tables that a seed gives for compiling, without end: damaged as those of
+/// [`cases`], and one of every four near the limits of classes and states.
+pub fn tables(seed: u64) -> impl Iterator<Item = Vec<u8>> {
+    let mut random = Random::new(seed);
+    std::iter::repeat_with(move || {
+        let base = match random.below(4) {
+            0 => near_limits(&mut random),
+            _ => base_table(&mut random),
+        };
+        damaged(&mut random, &base)
+    })
+}
+
+/// 32 rules, of which each has a first character of its own, every second from
+/// `first`, and then any characters; all are of length 8 but for the last.
+/// From 0 the classes are 64, from 1 they are 65; with a last rule of length 7
+/// the states are 256, with one of 8 they are 257.
+pub fn large_table(first: u16, last_length: usize) -> Vec<u8> {
+    let lengths = [&[MAX_LENGTH; MAX_RULES - 1][..], &[last_length]].concat();
+    let rule = |table: TableBuilder, (length, first): (usize, u16)| {
+        let table = table.rule(length).range(0, first, first);
+        (1..length).fold(table, |table, position| table.range(position, 0, u16::MAX))
+    };
+    let rules = lengths.into_iter().zip((first..).step_by(2));
+    rules.fold(TableBuilder::new(), rule).bytes()
+}
+
+/// A random table with about 64 classes and 256 states, in the manner of
+/// [`large_table`]: some rules share a first character or are shorter, and some
+/// positions begin a class.
+fn near_limits(random: &mut Random) -> Table {
+    let count = MAX_RULES - *random.pick(&[0, 0, 0, 1, 2]);
+    let first = usize::from(random.one_in(4));
+    let rules = (0..count)
+        .map(|number| {
+            let number = match random.below(200) {
+                0 => random.below(count),
+                _ => number,
+            };
+            let length = MAX_LENGTH - usize::from(random.one_in(60));
+            let mut positions = vec![vec![Range::one((first + 2 * number) as u16)]];
+            positions.resize_with(length, || vec![any_or_low(random)]);
+            Group {
+                anchored: random.one_in(5),
+                positions,
+                outputs: Vec::new(),
+            }
+        })
+        .collect();
+    Table {
+        rules,
+        default: random.one_in(2).then(Group::default_group),
+    }
+}
+
+/// Every character, or rarely those up to one.
+fn any_or_low(random: &mut Random) -> Range {
+    match random.below(600) {
+        0 => Range {
+            high: random.character(),
+            ..Range::ALL
+        },
+        _ => Range::ALL,
+    }
+}
+
+/// The bytes of a table, in two of three times damaged in one to three ways.
+fn damaged(random: &mut Random, base: &Table) -> Vec<u8> {
+    let mut table = encode(base);
+    if !random.one_in(3) {
+        for _ in 0..random.between(1, 3) {
+            damage(random, &mut table);
+        }
+    }
+    table
 }
 
 /// A sound table: a random one, or sometimes one of document 01.

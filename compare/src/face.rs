@@ -5,7 +5,8 @@ use std::ptr::{null, null_mut};
 use reference::direct::Conversion;
 use reference::meaning::Ending;
 
-/// The answer for a table that is accepted, and for a conversion that closed.
+/// The answer for a table that is accepted or compiled, and for a conversion
+/// that closed.
 pub const OK: u32 = 0;
 /// The answer for a conversion that stopped.
 pub const STOPPED: u32 = 64;
@@ -25,6 +26,15 @@ mod c {
             place: *mut u64,
             count: *mut u64,
         ) -> u32;
+
+        pub fn cobbletwill_compile(
+            table: *const u8,
+            table_length: usize,
+            words: *mut u16,
+            words_length: usize,
+        ) -> u32;
+
+        pub fn cobbletwill_is_sound(words: *const u16, words_length: usize) -> u32;
     }
 }
 
@@ -58,6 +68,32 @@ pub fn convert(
             count,
         )
     }
+}
+
+/// Compiling: 0 with the words of the table, or the number of a refusal.
+pub fn compile(table: &[u8], words: &mut [u16]) -> u32 {
+    // SAFETY: each pointer and length are those of a slice, and what is written
+    // is borrowed for this call alone.
+    unsafe { c::cobbletwill_compile(table.as_ptr(), table.len(), words.as_mut_ptr(), words.len()) }
+}
+
+/// The test of words: 1 for sound words, else 0.
+pub fn is_sound(words: &[u16]) -> u32 {
+    // SAFETY: the pointer and the length are those of a slice, which the
+    // function only reads.
+    unsafe { c::cobbletwill_is_sound(words.as_ptr(), words.len()) }
+}
+
+/// As [`compile`] of an empty table into no words, whose pointers are null.
+pub fn compile_null() -> u32 {
+    // SAFETY: with the length 0 a pointer is not used.
+    unsafe { c::cobbletwill_compile(null(), 0, null_mut(), 0) }
+}
+
+/// As [`is_sound`] of no words, whose pointer is null.
+pub fn is_sound_null() -> u32 {
+    // SAFETY: with the length 0 the pointer is not used.
+    unsafe { c::cobbletwill_is_sound(null(), 0) }
 }
 
 /// The table check of an empty table whose pointer is null.

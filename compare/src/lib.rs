@@ -1,8 +1,9 @@
 //! The proved library, called through its C face, beside the independent
-//! version of direct conversion in `reference`.
+//! version of direct conversion, compiling and the test of words in `reference`.
 //!
-//! - [`face`]: the two functions of `include/cobbletwill.h`, safe to call
+//! - [`face`]: the functions of `include/cobbletwill.h`, safe to call
 //! - [`cases`]: random tables, sound and damaged, with inputs and buffers
+//! - [`damage`]: damaged machine words
 //!
 //! `tests/` compares the two; the program `bench` times them.
 
@@ -10,4 +11,5 @@
 #![warn(missing_docs)]
 
 pub mod cases;
+pub mod damage;
 pub mod face;

@@ -1,25 +1,37 @@
-//! Times direct conversion under T1: the proved library against the independent
-//! version, in one run, on inputs of 1 MiB (2^20 characters). Prints a table for
-//! docs/PERFORMANCE.md.
+//! Times the proved library against the independent version, in one run: direct
+//! conversion under T1 on inputs of 1 MiB (2^20 characters), and compiling.
+//! Prints tables for docs/PERFORMANCE.md.
 
 use std::hint::black_box;
 use std::time::{Duration, Instant};
 
+use compare::cases::large_table;
 use compare::face;
 use reference::builder::characters;
+use reference::compile;
 use reference::direct;
 use reference::random::Random;
 use reference::samples::t1;
 use reference::table::Table;
+use reference::words::WORDS;
 
 /// Characters of an input.
 const LENGTH: usize = 1 << 20;
 /// Runs of each conversion, of which the best counts.
 const RUNS: usize = 25;
-/// What every place of the output buffer holds before a run.
+/// Runs of each compiling, of which the best counts.
+const COMPILINGS: usize = 2000;
+/// What every place of a buffer holds before a run.
 const FILL: u16 = 0xa5a5;
 
 fn main() {
+    conversions();
+    println!();
+    compilings();
+}
+
+/// Times direct conversion.
+fn conversions() {
     let table = t1();
     let most_outputs = Table::read(&table).expect("T1 is accepted").most_outputs();
     println!(
@@ -45,6 +57,48 @@ fn main() {
             library.as_secs_f64() / reference.as_secs_f64()
         );
     }
+}
+
+/// Times compiling.
+fn compilings() {
+    println!("Compiling, best of {COMPILINGS} runs, in microseconds a table.");
+    println!("Both write into one buffer of {WORDS} words, which is filled before each run, outside the time.");
+    println!();
+    println!("| table | library | reference | library / reference |");
+    println!("|---|---:|---:|---:|");
+    let tables = [
+        ("T1: 10 classes, 9 states", t1()),
+        ("64 classes, 256 states", large_table(0, 7)),
+    ];
+    for (name, table) in tables {
+        let [library, reference] = best_compiling(&table);
+        println!(
+            "| {name} | {:.1} | {:.1} | {:.2} |",
+            library.as_secs_f64() * 1e6,
+            reference.as_secs_f64() * 1e6,
+            library.as_secs_f64() / reference.as_secs_f64()
+        );
+    }
+}
+
+/// The best times of compiling by the library and by the independent version,
+/// whose runs take turns and whose words are compared.
+fn best_compiling(table: &[u8]) -> [Duration; 2] {
+    let mut best = [Duration::MAX; 2];
+    let (mut words, mut expected) = (vec![FILL; WORDS], vec![FILL; WORDS]);
+    for _ in 0..COMPILINGS {
+        words.fill(FILL);
+        let (library, time) = timed(|| face::compile(black_box(table), &mut words));
+        best[0] = best[0].min(time);
+
+        expected.fill(FILL);
+        let (reference, time) = timed(|| compile::compile(black_box(table), &mut expected));
+        best[1] = best[1].min(time);
+
+        assert_eq!((library, reference), (face::OK, Ok(())));
+        assert!(words == expected, "the words differ");
+    }
+    best
 }
 
 /// The inputs with their names.

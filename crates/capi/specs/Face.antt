@@ -1,10 +1,10 @@
--- What the C functions answer and leave for each outcome of the table check and of direct conversion.
-use mathlib.Core.Bool.{cond}
+-- What the C functions answer and leave for each outcome of the table check, compiling, direct conversion and the test of words.
+use mathlib.Core.Bool.{Bool, cond}
 use Prim.Native.Nat.{ℕ}
 use Rattle.rules.specs.Refusal.{Outcome, refused, accepted}
 use Rattle.rules.specs.Direct.{Converted}
 
--- 0 for a table that is accepted; "A refusal answers its number"
+-- 0 for a table that the check or compiling accepts; "A refusal answers its number"
 abbrev pub checkCode : Outcome (Unit {0}) → ℕ
 checkCode (refused n) = n
 checkCode (accepted u) = 0
@@ -23,3 +23,7 @@ placeOf (accepted c) found = c .place
 abbrev pub countOf : Outcome Converted → ℕ → ℕ
 countOf (refused n) found = found
 countOf (accepted c) found = c .count
+
+-- 1 for "Sound words", 0 for words that are not
+abbrev pub soundCode : Bool → ℕ
+soundCode sound = cond sound 1 0

@@ -1,7 +1,12 @@
-// The C face of direct conversion: each answer as a number, place and count through pointers. include/cobbletwill.h declares these functions.
+// The C face: each answer as a number, place and count through pointers. include/cobbletwill.h declares these functions.
 ghost use mathlib.Core.Path.{_≡_};
 ghost use Rattle.rules.specs.Direct.{checked, direct};
-ghost use Rattle.capi.specs.Face.{checkCode, codeOf, placeOf, countOf};
+ghost use Rattle.machine.specs.Compile as Spec;
+ghost use Rattle.machine.specs.Sound.{sound};
+ghost use Rattle.capi.specs.Face.{checkCode, codeOf, placeOf, countOf, soundCode};
+use machine::compile::Compiled;
+use machine::compile::compile;
+use machine::sound_words::is_sound;
 use rules::convert::Conversion;
 use rules::convert::Verdict;
 use rules::convert::check;
@@ -53,4 +58,28 @@ pub extern "C" fn cobbletwill_convert(
         }
         Conversion::Refused(number) => number as u32,
     }
+}
+
+// 0 with the words of the table; else the number of the refusal, 1 to 9 with the 19,697 words zero, or 10 with nothing changed.
+#[no_mangle]
+pub extern "C" fn cobbletwill_compile(table: &[u8], words: &mut [u16]) -> u32
+    ensures answer { λ r. ⌜ r ≡ checkCode (Spec.compile (now (table .entry)) (now (words .entry)) .answer) ⌝ }
+    ensures words { λ _. ⌜ now (words .exit) ≡ Spec.compile (now (table .entry)) (now (words .entry)) .words ⌝ }
+{
+    let compiled = compile(table, words);
+    match compiled {
+        Compiled::Accepted => 0,
+        Compiled::Refused(number) => number as u32,
+    }
+}
+
+// 1 for sound words, 0 for words that no machine runs on.
+#[no_mangle]
+pub extern "C" fn cobbletwill_is_sound(words: &[u16]) -> u32
+    ensures { λ r. ⌜ r ≡ soundCode (sound (now (words .entry))) ⌝ }
+{
+    if is_sound(words) {
+        return 1;
+    }
+    0
 }

@@ -3,6 +3,8 @@ pub mod Good
 pub mod Classes
 pub mod First
 pub mod Levels
+pub mod Adding
+pub mod Exploring
 pub mod States
 pub mod Places
 pub mod Blocks
@@ -11,3 +13,12 @@ pub mod Write
 pub mod Words
 pub mod Sound
 pub mod Compile
+pub mod Sets
+pub mod Gathering
+pub mod Checking
+pub mod Reading
+pub mod Meeting
+pub mod Noting
+pub mod Building
+pub mod Looking
+pub mod Compiling

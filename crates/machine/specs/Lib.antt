@@ -5,3 +5,8 @@ pub mod Compile
 pub mod Sound
 pub mod Automaton
 pub mod Claims
+pub mod Build
+pub mod Noted
+pub mod Gathered
+pub mod Readings
+pub mod Compiled

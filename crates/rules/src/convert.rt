@@ -29,7 +29,7 @@ pub enum Verdict {
 }
 
 // E: the greatest number of output characters of the first `rules` groups, and of group 32 where there is a default.
-fn expansion(blocks: &[u16], rules: usize, defaulted: bool) -> usize
+pub fn expansion(blocks: &[u16], rules: usize, defaulted: bool) -> usize
     requires { ⌜ (length (now blocks) ≡ 2475) × (rules ≤ 32) ⌝ }
     ensures { λ r. ⌜ r ≡ expansionAt (now (blocks .entry)) rules defaulted ⌝ }
 {

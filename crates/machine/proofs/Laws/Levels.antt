@@ -36,14 +36,14 @@ pub record Numbered (t : Table) : Type 0 where
 
 -- equal states, and where a state stands
 
-same-state : (p q : State) → T (sameState p q) → p ≡ q
+pub same-state : (p q : State) → T (sameState p q) → p ≡ q
 unfolding sameState
 same-state p q t =
     let d : p .depth ≡ q .depth = eqb→eq (p .depth) (q .depth) (and-left (eqb (p .depth) (q .depth)) (sameList (p .members) (q .members)) t) in
     let m : p .members ≡ q .members = same-list (p .members) (q .members) (and-right (eqb (p .depth) (q .depth)) (sameList (p .members) (q .members)) t) in
     λ i. record { depth = d i; members = m i }
 
-state-same : (p q : State) → p ≡ q → T (sameState p q)
+pub state-same : (p q : State) → p ≡ q → T (sameState p q)
 unfolding sameState
 state-same p q e =
     subst (λ q. T (eqb (p .depth) (q .depth) && sameList (p .members) (q .members))) e
@@ -58,7 +58,7 @@ mem-distinct (p ∷ qs) {q} m =
     (λ n. List·Memᴰ·tail (mem-filter (λ x. not (sameState p x)) (distinct qs) n (mem-distinct qs r))))
     (List·Memᴰ·cases-cons m)
 
-each-distinct : (P : State → Type 0) (qs : List State) → Each P qs → Each P (distinct qs)
+pub each-distinct : (P : State → Type 0) (qs : List State) → Each P qs → Each P (distinct qs)
 unfolding distinct
 each-distinct P [] a = tt
 each-distinct P (q ∷ qs) a = (a .0, each-filter P (λ p. not (sameState q p)) (distinct qs) (each-distinct P qs (a .1)))
@@ -118,7 +118,7 @@ module _ (t : Table) (qs : List State) (q : State) (c : ℕ) where
 -- levels
 
 -- each state is at least as deep as those before it
-abbrev Deepening : List State → Type 0
+abbrev pub Deepening : List State → Type 0
 Deepening [] = Unit {0}
 Deepening (q ∷ qs) = Each (λ p. q .depth ≤ p .depth) qs × Deepening qs
 
@@ -139,9 +139,9 @@ goesOn t q c r = ltb (q .depth) (ruleAt t r .size) && inRanges (getD (ruleAt t r
 
 module _ (t : Table) where
   -- a state of depth d, over rules of the table
-  record Level (d : ℕ) (q : State) : Type 0 where
-    depth : q .depth ≡ d
-    members : Each (IsRule t) (q .members)
+  pub record Level (d : ℕ) (q : State) : Type 0 where
+    pub depth : q .depth ≡ d
+    pub members : Each (IsRule t) (q .members)
 
   -- of a depth from d to d + n
   record Between (d n : ℕ) (q : State) : Type 0 where
@@ -172,7 +172,7 @@ module _ (t : Table) where
     level-then d n qs ps (a .1) b o,
   )
 
-  level-initial : Level 0 (initial t)
+  pub level-initial : Level 0 (initial t)
   unfolding initial
   level-initial = record { depth = refl; members = each-upTo (length (t .rules)) }
 
@@ -186,7 +186,7 @@ module _ (t : Table) where
   }
 
   -- at the greatest depth no rule goes on
-  last-level : (q : State) (c : ℕ) → Level (longest t) q → T (inhabited (successor t q c)) → ⊥
+  pub last-level : (q : State) (c : ℕ) → Level (longest t) q → T (inhabited (successor t q c)) → ⊥
   unfolding successor
   last-level q c l =
       of-cond (λ m. T (not (isEmpty m)) → ⊥) (eqb (acceptOf t q) 0) (longerRules t q c) []
@@ -204,10 +204,10 @@ module _ (t : Table) where
 
   module _ (ss : List ℕ) where
     -- the successors of the states of a level
-    abbrev onward : List State → List State
+    abbrev pub onward : List State → List State
     onward qs = flatMap (λ q. map (successor t q) ss) qs
 
-    level-next : (d : ℕ) (qs : List State) → Each (Level d) qs → Each (Level (suc d)) (nextLevel t ss qs)
+    pub level-next : (d : ℕ) (qs : List State) → Each (Level d) qs → Each (Level (suc d)) (nextLevel t ss qs)
     unfolding nextLevel
     level-next d qs a = each-distinct (Level (suc d)) (filter inhabited (onward qs)) (each-filter (Level (suc d)) inhabited (onward qs) (next qs a))
       where
@@ -280,7 +280,7 @@ module _ (t : Table) where
   unfolding states
   states-first = levels-first (starts t) (longest t) (initial t) (initial t)
 
-  states-deepen : Deepening (states t)
+  pub states-deepen : Deepening (states t)
   unfolding states
   states-deepen = levels-deepen (starts t) (longest t) 0 (initial t ∷ []) (level-initial, tt)
 

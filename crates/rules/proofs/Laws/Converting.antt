@@ -145,7 +145,7 @@ module _ (t : Table) (s : Shaped t) where
 
   -- the expansion
 
-  expansion-flat : expansionAt (blockWords t) (length (t .rules)) (isSome (t .default)) ≡ expansion t
+  pub expansion-flat : expansionAt (blockWords t) (length (t .rules)) (isSome (t .default)) ≡ expansion t
   unfolding expansion
   expansion-flat =
       let F = expansionAt (blockWords t) (length (t .rules)) (isSome (t .default)) in
@@ -282,10 +282,10 @@ pub record Ready (slots ranges blocks : List ℕ) (n : ℕ) (d : Bool) (input : 
 module _ (b : List ℕ) where
   -- a table that is read keeps what the laws above ask
   module _ (t : Table) (e : readTable b ≡ accepted t) (bytes : Each (λ x. x < 256) b) where
-    is-shaped : Shaped t
+    pub is-shaped : Shaped t
     is-shaped = read-shaped b t (read-keeps b t e .records)
 
-    is-narrow : Narrow t
+    pub is-narrow : Narrow t
     is-narrow = read-narrow b t bytes (read-keeps b t e .records)
 
     is-safe : SafeTable t
@@ -308,7 +308,7 @@ module _ (b : List ℕ) where
 
   module _ (r : Load) (slots ranges blocks : List ℕ) (l : LoadedBy (readTable b) r slots ranges blocks) where
     module _ (n : ℕ) (d : Bool) (e : r ≡ Load.Accepted n d) where
-      of-read : (P : List ℕ → List ℕ → List ℕ → ℕ → Bool → Type 0) →
+      pub of-read : (P : List ℕ → List ℕ → List ℕ → ℕ → Bool → Type 0) →
           ((t : Table) → readTable b ≡ accepted t → P (slotWords t) (rangeWords t) (blockWords t) (length (t .rules)) (isSome (t .default))) → P slots ranges blocks n d
       of-read P f = of-loaded P (readTable b) n d slots ranges blocks (subst (λ x. LoadedBy (readTable b) x slots ranges blocks) e l) f
 
@@ -323,7 +323,7 @@ module _ (b : List ℕ) where
       loaded-checked = of-read (λ s r k n d. accepted tt ≡ checked b) (λ t e. rw e refl)
 
     module _ (n : ℕ) (e : r ≡ Load.Refused n) where
-      is-refused : readTable b ≡ refused n
+      pub is-refused : readTable b ≡ refused n
       is-refused = loaded-refused (readTable b) n slots ranges blocks (subst (λ x. LoadedBy (readTable b) x slots ranges blocks) e l)
 
       pub refused-direct : (input buffer : List ℕ) → (refused n ≡ direct b input buffer .answer) × (buffer ≡ direct b input buffer .output)

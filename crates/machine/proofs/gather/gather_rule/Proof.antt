@@ -1,0 +1,96 @@
+-- `gather::gather_rule` meets its contract. The invariant: the edges of the first p positions are gathered.
+-- The measure is the positions left. Assumes nothing.
+use mathlib.Core.Path.{_≡_}
+use Prim.Native.Nat.{_<_, _≤_, _+_, _-_, _*_}
+use native.Mathlib.Omega.{arith}
+use borrow.Author.Needs.{needs}
+use lib.ListN.{length}
+use Rattle.lists.specs.Lists.{flatMap, tabFrom}
+use Rattle.rules.specs.Block.{at}
+use Rattle.rules.specs.Flat.{patternAt, rangesAt}
+use Rattle.machine.specs.Classes.{edges}
+use Rattle.machine.specs.Gathered.{Gathers}
+use Rattle.machine.proofs.Laws.Gathering.{gathers-next}
+use Rattle.machine.proofs.gather.gather_rule.Statement.{statement}
+use Rattle.machine.proofs.gather.gather_rule.Tie as tie
+
+abbrev Inv-loop : tie.InvT-loop
+Inv-loop slots ranges blocks rule words₀ count size met₀ p₀ words met p =
+    (p ≤ size) × (length words ≡ length words₀) × Gathers (flatMap (flatMap edges) (tabFrom 0 p (λ j. rangesAt slots ranges (8 * rule + j)))) words₀ count words met
+
+abbrev μ-loop : tie.MeasureT-loop
+μ-loop slots ranges blocks rule words₀ count size met₀ p₀ words met p = size - p
+
+-- a rule has at most eight positions
+few : (s : tie.Start Inv-loop μ-loop) → at (s .args .blocks .now) (75 * s .args .rule) ≤ 8
+few s = s .pre .0 .0 .size (s .args .rule) (omega arith)
+
+mul-size : tie.Need-mul-size Inv-loop μ-loop
+mul-size c = search needs
+
+mul-size-2 : tie.Need-mul-size-2 Inv-loop μ-loop
+mul-size-2 c = search needs
+
+shared-slice-read-size : tie.Need-shared-slice-read-size Inv-loop μ-loop
+shared-slice-read-size c = search needs
+
+cast-size : tie.Need-cast-size Inv-loop μ-loop
+cast-size c = omega (arith, few (c .before .before .before .before .before))
+
+loop-holds : tie.Need-loop-holds Inv-loop μ-loop
+loop-holds c = search needs
+
+mul-gather-place : tie.Need-mul-gather-place Inv-loop μ-loop
+mul-gather-place c = search needs
+
+add-gather-place : tie.Need-add-gather-place Inv-loop μ-loop
+add-gather-place c = omega (arith, few (c .before .before .before .before .before .before .before))
+
+gather-place-requires : tie.Need-gather-place-requires Inv-loop μ-loop
+gather-place-requires c κs =
+    let s = c .before .before .before .before .before .before .before .before in
+    let h : 8 * s .args .rule + c .before .before .loop .p < 264 = omega (arith, few s) in
+    ((h, s .pre .0 .0 .slots-length, s .pre .0 .0 .ranges-length, s .pre .0 .0 .few (8 * s .args .rule + c .before .before .loop .p) h), (search needs, search needs))
+
+add-p : tie.Need-add-p Inv-loop μ-loop
+add-p c = omega (arith, few (c .before .before .before .before .before .before .before .before .before .before .before))
+
+loop-less : tie.Need-loop-less Inv-loop μ-loop
+loop-less c = search needs
+
+loop-again : tie.Need-loop-again Inv-loop μ-loop
+loop-again c =
+    let l = c .before .before .before .before .before in
+    let a = l .before .before .before .before .before .before .args in
+    (search needs, search needs, gathers-next (flatMap edges) (λ j. rangesAt (a .slots .now) (a .ranges .now) (8 * a .rule + j)) (l .loop .p) (l .loop .inv .2) (c .before .before .gather-place .ensures))
+
+same-length : tie.Need-same-length Inv-loop μ-loop
+same-length c = search needs
+
+returns : tie.Need-returns Inv-loop μ-loop
+unfolding patternAt
+returns c =
+    let l = c .before in
+    let a = l .before .before .before .before .before .before .args in
+    let e : l .loop .p ≡ at (a .blocks .now) (75 * a .rule) = search needs in
+    rw e at (l .loop .inv .2)
+
+pub gather-rule-spec : {M : Type 1} → statement M
+gather-rule-spec =
+    tie.close
+    (tie.spec
+    Inv-loop
+    μ-loop
+    mul-size
+    mul-size-2
+    shared-slice-read-size
+    cast-size
+    loop-holds
+    mul-gather-place
+    add-gather-place
+    gather-place-requires
+    add-p
+    loop-less
+    loop-again
+    same-length
+    returns)

@@ -1,0 +1,67 @@
+-- `gather::gather_starts` meets its contract. The invariant: the edges of the rules before this one are gathered.
+-- The measure is the rules left. Assumes nothing.
+use mathlib.Core.Bool.{false}
+use mathlib.Core.Path.{_≡_}
+use Prim.Native.Nat.{_≤_, _-_}
+use borrow.Author.Needs.{needs}
+use lib.ListN.{length}
+use Rattle.lists.specs.Lists.{flatMap, tabFrom}
+use Rattle.rules.specs.Flat.{tableAt, groupAt}
+use Rattle.machine.specs.Classes.{edges}
+use Rattle.machine.specs.Gathered.{Gathers}
+use Rattle.machine.proofs.Laws.Gathering.{gathered, gathers-next}
+use Rattle.machine.proofs.gather.gather_starts.Statement.{statement}
+use Rattle.machine.proofs.gather.gather_starts.Tie as tie
+
+abbrev Inv-loop : tie.InvT-loop
+Inv-loop slots ranges blocks rules words₀ met₀ rule₀ words met rule =
+    (rule ≤ rules) × (length words ≡ length words₀) × Gathers (flatMap (λ g. flatMap (flatMap edges) (g .ranges)) (tabFrom 0 rule (groupAt slots ranges blocks))) words₀ 1 words met
+
+abbrev μ-loop : tie.MeasureT-loop
+μ-loop slots ranges blocks rules words₀ met₀ rule₀ words met rule = rules - rule
+
+loop-holds : tie.Need-loop-holds Inv-loop μ-loop
+loop-holds c = search needs
+
+gather-rule-requires : tie.Need-gather-rule-requires Inv-loop μ-loop
+gather-rule-requires c κs = search needs
+
+add-rule : tie.Need-add-rule Inv-loop μ-loop
+add-rule c = search needs
+
+loop-less : tie.Need-loop-less Inv-loop μ-loop
+loop-less c = search needs
+
+loop-again : tie.Need-loop-again Inv-loop μ-loop
+unfolding groupAt
+loop-again c =
+    let l = c .before .before .before .before .before in
+    let a = l .before .before .before .before .before .args in
+    (search needs, search needs, gathers-next (λ g. flatMap (flatMap edges) (g .ranges)) (groupAt (a .slots .now) (a .ranges .now) (a .blocks .now)) (l .loop .rule) (l .loop .inv .2) (c .before .before .gather-rule .ensures))
+
+same-length : tie.Need-same-length Inv-loop μ-loop
+same-length c = search needs
+
+returns : tie.Need-returns Inv-loop μ-loop
+unfolding tableAt
+returns c =
+    let l = c .before in
+    let s = l .before .before .before .before .before in
+    let a = s .args in
+    let e : l .loop .rule ≡ a .rules = search needs in
+    gathered (tableAt (a .slots .now) (a .ranges .now) (a .blocks .now) (a .rules) false) (a .words .now) (l .loop .words) (l .loop .met) (s .pre .1 .1)
+    (rw e at (l .loop .inv .2))
+
+pub gather-starts-spec : {M : Type 1} → statement M
+gather-starts-spec =
+    tie.close
+    (tie.spec
+    Inv-loop
+    μ-loop
+    loop-holds
+    gather-rule-requires
+    add-rule
+    loop-less
+    loop-again
+    same-length
+    returns)

@@ -1,0 +1,97 @@
+-- `read::class_of` meets its contract. The invariant: the start at `low` is not above the character, and the one at `high`, where there is one, is.
+-- The measure is the number of classes from `low` on and below `high`. Assumes nothing.
+use mathlib.Core.Path.{_≡_, sym}
+use Prim.Native.Nat.{_+_, _-_, _≤_, _<_}
+use native.Mathlib.Omega.{arith}
+use lib.ListN.{length}
+use Rattle.rules.specs.Block.{at}
+use Rattle.machine.specs.Layout.{wordCount}
+use Rattle.machine.proofs.Laws.Words.{sound-header}
+use Rattle.machine.proofs.Laws.Reading.{first-start, class-found}
+use Rattle.machine.proofs.read.class_of.Statement.{statement}
+use Rattle.machine.proofs.read.class_of.Tie as tie
+
+abbrev Inv-loop : tie.InvT-loop
+Inv-loop words c low₀ high₀ low high =
+    (wordCount ≤ length words) × (at words 1 ≤ 64) × (low < high) × (high ≤ at words 1) × (at words (6 + low) ≤ c) × (high < at words 1 → c < at words (6 + high))
+
+abbrev μ-loop : tie.MeasureT-loop
+μ-loop words c low₀ high₀ low high = high - low
+
+shared-slice-read-size : tie.Need-shared-slice-read-size Inv-loop μ-loop
+shared-slice-read-size c = let s = c .before .before in omega (arith, sound-header (s .args .words .now) (s .pre) .long)
+
+size-requires : tie.Need-size-requires Inv-loop μ-loop
+size-requires c κs = tt
+
+loop-holds : tie.Need-loop-holds Inv-loop μ-loop
+loop-holds c =
+    let s = c .before .before .before in
+    let w = s .args .words .now in
+    let h = sound-header w (s .pre) in
+    let some = h .some-class in
+    let first = first-start w (s .pre) in
+    let e : c .size .result ≡ at w 1 = c .size .ensures in
+    (h .long, h .few-classes, omega arith, omega arith, omega arith, λ l. absurd (omega arith))
+
+add-loop : tie.Need-add-loop Inv-loop μ-loop
+add-loop c = omega arith
+
+add-middle : tie.Need-add-middle Inv-loop μ-loop
+add-middle c = omega arith
+
+add-if1 : tie.Need-add-if1 Inv-loop μ-loop
+add-if1 c = omega arith
+
+mul-if1 : tie.Need-mul-if1 Inv-loop μ-loop
+mul-if1 c = omega arith
+
+shared-slice-read-if1 : tie.Need-shared-slice-read-if1 Inv-loop μ-loop
+shared-slice-read-if1 c = omega arith
+
+loop-less : tie.Need-loop-less Inv-loop μ-loop
+loop-less c = omega arith
+
+loop-again : tie.Need-loop-again Inv-loop μ-loop
+loop-again c =
+    let i = c .before .before .before .loop .inv in
+    (i .0, i .1, omega arith, i .3, c .if1 .taken, i .5)
+
+loop-less-2 : tie.Need-loop-less-2 Inv-loop μ-loop
+loop-less-2 c = omega arith
+
+loop-again-2 : tie.Need-loop-again-2 Inv-loop μ-loop
+loop-again-2 c =
+    let i = c .before .before .before .loop .inv in
+    (i .0, i .1, omega arith, omega arith, i .4, λ _. c .if1 .left)
+
+cast-t7 : tie.Need-cast-t7 Inv-loop μ-loop
+cast-t7 c = omega arith
+
+returns : tie.Need-returns Inv-loop μ-loop
+returns c =
+    let s = c .before .before .before .before .before in
+    let l = c .before .loop in
+    let e : l .high ≡ l .low + 1 = omega arith in
+    sym (class-found (s .args .words .now) (s .pre) (s .args .c) (l .low) (omega arith) (l .inv .4) (rw e at (l .inv .5)))
+
+pub class-of-spec : {M : Type 1} → statement M
+class-of-spec =
+    tie.close
+    (tie.spec
+    Inv-loop
+    μ-loop
+    shared-slice-read-size
+    size-requires
+    loop-holds
+    add-loop
+    add-middle
+    add-if1
+    mul-if1
+    shared-slice-read-if1
+    loop-less
+    loop-again
+    loop-less-2
+    loop-again-2
+    cast-t7
+    returns)

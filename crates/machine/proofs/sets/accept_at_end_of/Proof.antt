@@ -1,0 +1,18 @@
+-- `sets::accept_at_end_of` meets its contract: the tests of the rules' size and anchor, by the blocks, are those of the table.
+-- Assumes nothing.
+use mathlib.Core.Path.{sym, _∙_}
+use borrow.Author.Needs.{needs}
+use Rattle.machine.proofs.Laws.Sets.{accept-end-flat}
+use Rattle.machine.proofs.sets.accept_at_end_of.Statement.{statement}
+use Rattle.machine.proofs.sets.accept_at_end_of.Tie as tie
+
+lowest-ending-requires : tie.Need-lowest-ending-requires
+lowest-ending-requires c κs = search needs
+
+returns : tie.Need-returns
+returns c slots ranges d =
+    let a = c .before .before .args in
+    c .lowest-ending .ensures ∙ sym (accept-end-flat slots ranges (a .blocks .now) (a .rules) d (a .set) (a .depth))
+
+pub accept-at-end-of-spec : {M : Type 1} → statement M
+accept-at-end-of-spec = tie.close (tie.spec lowest-ending-requires returns)

@@ -1,0 +1,103 @@
+-- `accept_sound` meets its contract: a go that is not 0 names a rule by its number + 1, whose block is looked at only then.
+-- Assumes nothing.
+use mathlib.Core.Path.{_≡_, sym, ap, _∙_}
+use native.Mathlib.Omega.{arith}
+use borrow.Author.Tests.{eq-eqb, ne-eqb}
+use denote.Ref.{now}
+use Rattle.machine.specs.Sound.{depthWord, acceptWord, used, namesRule}
+use Rattle.machine.proofs.Laws.Checking.{passed, failed, all-stops, all-next, all-last, unused, in-use, names-small, names-word, named-word}
+use borrow.Author.Needs.{needs}
+use Rattle.machine.proofs.sound_words.accept_sound.Statement.{statement}
+use Rattle.machine.proofs.sound_words.accept_sound.Tie as tie
+
+-- a go that is not 0
+accept-used : (c : tie.Else1) → acceptWord (now (c .before .before .before .args .words)) (c .before .before .before .args .state .0) ≡ 0 → ⊥
+accept-used c z = c .if1 .left (c .before .accept-of .ensures ∙ z)
+
+named : (c : tie.After-names-rule) →
+    let a = c .before .before .before .before .before .args in
+    c .names-rule .result ≡ namesRule (now (a .words)) (depthWord (now (a .words)) (a .state .0)) (acceptWord (now (a .words)) (a .state .0))
+named c =
+    let e = c .before .before in
+    c .names-rule .ensures
+    ∙ names-word (now (e .before .before .before .args .words)) (c .before .depth-of .ensures) (e .before .accept-of .ensures) (e .if1 .left)
+
+accept-of-requires : tie.Need-accept-of-requires
+accept-of-requires c κs = search needs
+
+returns : tie.Need-returns
+returns c = sym (unused _ (sym (c .before .accept-of .ensures) ∙ c .if1 .taken))
+
+sub-rule : tie.Need-sub-rule
+sub-rule c = search needs
+
+depth-of-requires : tie.Need-depth-of-requires
+depth-of-requires c κs = search needs
+
+names-rule-requires : tie.Need-names-rule-requires
+names-rule-requires c κs = search needs
+
+returns-2 : tie.Need-returns-2
+returns-2 c = sym (in-use _ (accept-used (c .before .before .before)) ∙ all-stops _ (failed (named (c .before)) (c .if2 .taken)))
+
+cast-block : tie.Need-cast-block
+cast-block c = search needs
+
+mul-if3 : tie.Need-mul-if3
+mul-if3 c = search needs
+
+add-if3 : tie.Need-add-if3
+add-if3 c = search needs
+
+mul-if3-2 : tie.Need-mul-if3-2
+mul-if3-2 c = search needs
+
+shared-slice-read-if3 : tie.Need-shared-slice-read-if3
+shared-slice-read-if3 c =
+    let n = c .before .before in
+    let w = now (n .before .before .before .before .before .args .words) in
+    omega (arith, names-small w _ _ (passed (n .names-rule .ensures) (c .before .if2 .left)))
+
+returns-3 : tie.Need-returns-3
+returns-3 c =
+    let d = c .before .before in
+    let e = d .before .before .before in
+    let free = named-word (now (e .before .before .before .args .words)) (e .before .accept-of .ensures) (e .if1 .left) in
+    sym
+    (in-use _ (accept-used e)
+    ∙ all-next _ (passed (named (d .before)) (d .if2 .left))
+    ∙ all-stops _ (ne-eqb _ _ (λ z. c .if3 .taken (sym free ∙ z))))
+
+accept-at-end-of-requires : tie.Need-accept-at-end-of-requires
+accept-at-end-of-requires c κs = search needs
+
+returns-4 : tie.Need-returns-4
+returns-4 c =
+    let d = c .before .before .before in
+    let e = d .before .before .before in
+    let free = named-word (now (e .before .before .before .args .words)) (e .before .accept-of .ensures) (e .if1 .left) in
+    ap used (c .accept-at-end-of .ensures)
+    ∙ sym
+    (in-use _ (accept-used e)
+    ∙ all-next _ (passed (named (d .before)) (d .if2 .left))
+    ∙ all-next _ (eq-eqb _ _ (free ∙ c .before .if3 .left))
+    ∙ all-last _)
+
+pub accept-sound-spec : {M : Type 1} → statement M
+accept-sound-spec =
+    tie.close
+    (tie.spec
+    accept-of-requires
+    returns
+    sub-rule
+    depth-of-requires
+    names-rule-requires
+    returns-2
+    cast-block
+    mul-if3
+    add-if3
+    mul-if3-2
+    shared-slice-read-if3
+    returns-3
+    accept-at-end-of-requires
+    returns-4)

@@ -1,0 +1,46 @@
+-- `blocks_sound` meets its contract: the rules' blocks, and the default's where there is one.
+-- Assumes nothing.
+use mathlib.Core.Path.{sym, _∙_}
+use borrow.Author.Tests.{eq-eqb, ne-eqb}
+use Rattle.machine.specs.Sound.{soundBlocks}
+use Rattle.machine.proofs.Laws.Checking.{passed, failed, all-stops, all-next, all-last, counts, waived}
+use borrow.Author.Needs.{needs}
+use Rattle.machine.proofs.sound_words.blocks_sound.Statement.{statement}
+use Rattle.machine.proofs.sound_words.blocks_sound.Tie as tie
+
+rule-blocks-sound-requires : tie.Need-rule-blocks-sound-requires
+rule-blocks-sound-requires c κs = search needs
+
+returns : tie.Need-returns
+unfolding soundBlocks
+returns c = sym (all-stops _ (failed (c .before .rule-blocks-sound .ensures) (c .if1 .taken)))
+
+shared-slice-read-if2 : tie.Need-shared-slice-read-if2
+shared-slice-read-if2 c = search needs
+
+block-sound-requires : tie.Need-block-sound-requires
+block-sound-requires c κs = search needs
+
+returns-2 : tie.Need-returns-2
+unfolding soundBlocks
+returns-2 c =
+    let e = c .before .before .before in
+    c .block-sound .ensures
+    ∙ sym (all-next _ (passed (e .before .rule-blocks-sound .ensures) (e .if1 .left)) ∙ all-last _ ∙ counts _ (eq-eqb _ _ (c .before .if2 .taken)))
+
+returns-3 : tie.Need-returns-3
+unfolding soundBlocks
+returns-3 c =
+    let e = c .before .before in
+    sym (all-next _ (passed (e .before .rule-blocks-sound .ensures) (e .if1 .left)) ∙ all-last _ ∙ waived _ (ne-eqb _ _ (c .if2 .left)))
+
+pub blocks-sound-spec : {M : Type 1} → statement M
+blocks-sound-spec =
+    tie.close
+    (tie.spec
+    rule-blocks-sound-requires
+    returns
+    shared-slice-read-if2
+    block-sound-requires
+    returns-2
+    returns-3)

@@ -1,0 +1,55 @@
+-- `class_target_sound` meets its contract: a target that is not 0 is looked at, and then the state has no go.
+-- Assumes nothing.
+use mathlib.Core.Bool.{not}
+use mathlib.Core.Path.{_≡_, sym, ap, _∙_}
+use borrow.Author.Tests.{eq-eqb, ne-eqb}
+use denote.Ref.{now}
+use Rattle.machine.specs.Sound.{targetWord, soundTarget}
+use Rattle.machine.proofs.Laws.Checking.{all-stops, all-next, all-last, unused, in-use}
+use borrow.Author.Needs.{needs}
+use Rattle.machine.proofs.sound_words.class_target_sound.Statement.{statement}
+use Rattle.machine.proofs.sound_words.class_target_sound.Tie as tie
+
+target-used : (c : tie.Else1) → let a = c .before .before .before .args in targetWord (now (a .words)) (a .state .0) (a .class .0) ≡ 0 → ⊥
+target-used c z = c .if1 .left (c .before .target-of .ensures ∙ z)
+
+target-of-requires : tie.Need-target-of-requires
+target-of-requires c κs = search needs
+
+returns : tie.Need-returns
+returns c = sym (unused _ (sym (c .before .target-of .ensures) ∙ c .if1 .taken))
+
+accept-of-requires : tie.Need-accept-of-requires
+accept-of-requires c κs = search needs
+
+returns-2 : tie.Need-returns-2
+returns-2 c =
+    sym
+    (in-use _ (target-used (c .before .before))
+    ∙ all-stops _ (ap (λ b. not (not b)) (ne-eqb _ _ (λ z. c .if2 .taken (c .before .accept-of .ensures ∙ z)))))
+
+target-sound-requires : tie.Need-target-sound-requires
+target-sound-requires c κs = search needs
+
+returns-3 : tie.Need-returns-3
+returns-3 c =
+    let d = c .before in
+    let e = d .before .before in
+    let a = e .before .before .before .args in
+    c .target-sound .ensures
+    ∙ ap (soundTarget (now (a .words)) (a .state .0)) (e .before .target-of .ensures)
+    ∙ sym
+    (in-use _ (target-used e)
+    ∙ all-next _ (ap (λ b. not (not b)) (eq-eqb _ _ (sym (d .before .accept-of .ensures) ∙ d .if2 .left)))
+    ∙ all-last _)
+
+pub class-target-sound-spec : {M : Type 1} → statement M
+class-target-sound-spec =
+    tie.close
+    (tie.spec
+    target-of-requires
+    returns
+    accept-of-requires
+    returns-2
+    target-sound-requires
+    returns-3)

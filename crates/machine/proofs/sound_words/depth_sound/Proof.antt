@@ -1,0 +1,33 @@
+-- `depth_sound` meets its contract: whether the state is 0 decides which test counts.
+-- Assumes nothing.
+use mathlib.Core.Path.{ap, _∙_}
+use borrow.Author.Tests.{eq-eqb, ne-eqb}
+use denote.Ref.{now}
+use lib.Dec.{eqb}
+use Rattle.machine.specs.Sound.{longestWord, between}
+use borrow.Author.Needs.{needs}
+use Rattle.machine.proofs.sound_words.depth_sound.Statement.{statement}
+use Rattle.machine.proofs.sound_words.depth_sound.Tie as tie
+
+depth-of-requires : tie.Need-depth-of-requires
+depth-of-requires c κs = search needs
+
+returns : tie.Need-returns
+returns c = rw (eq-eqb _ _ (c .if1 .taken)) (ap (λ d. eqb d 0) (c .before .before .depth-of .ensures))
+
+shared-slice-read-within : tie.Need-shared-slice-read-within
+shared-slice-read-within c = search needs
+
+within-requires : tie.Need-within-requires
+within-requires c κs = search needs
+
+returns-2 : tie.Need-returns-2
+returns-2 c =
+    let e = c .before .before in
+    let d = e .before .before in
+    rw (ne-eqb _ _ (e .if1 .left)) (c .within .ensures ∙ ap (between 1 (longestWord (now (d .before .before .args .words)))) (d .depth-of .ensures))
+
+pub depth-sound-spec : {M : Type 1} → statement M
+depth-sound-spec =
+    tie.close
+    (tie.spec depth-of-requires returns shared-slice-read-within within-requires returns-2)

@@ -1,0 +1,150 @@
+// Compiling: a table's machine words, by way of its flat arrays.
+ghost use mathlib.Core.List.{[], _∷_, _++_};
+ghost use mathlib.Core.Path.{_≡_};
+ghost use Prim.Native.Nat.{_≤_};
+ghost use lib.ListN.{length, take, drop};
+ghost use Rattle.lists.specs.Lists.{pad};
+ghost use Rattle.rules.specs.Block.{bit};
+ghost use Rattle.rules.specs.Flat.{Flat};
+ghost use Rattle.machine.specs.Layout.{wordCount};
+ghost use Rattle.machine.specs.Compile as Spec;
+ghost use Rattle.machine.specs.Compiled.{compiledOf, longestAt, built};
+use crate::gather::gather_starts;
+use crate::states::build_states;
+use rules::convert::expansion;
+use rules::load::Load;
+use rules::load::load_table;
+
+pub enum Compiled {
+    Accepted,
+    Refused(u8),
+}
+
+// The machine words become 0.
+fn clear(words: &mut [u16])
+    requires { ⌜ wordCount ≤ length (now words) ⌝ }
+    ensures { λ _. ⌜ now (words .exit) ≡ pad wordCount [] ++ drop wordCount (now (words .entry)) ⌝ }
+{
+    let mut i: usize = 0;
+    while i < 19697 {
+        words[i] = 0;
+        i += 1;
+    }
+}
+
+// The blocks go to the last words.
+fn copy_blocks(words: &mut [u16], blocks: &[u16])
+    requires { ⌜ (wordCount ≤ length (now words)) × (length (now blocks) ≡ 2475) ⌝ }
+    ensures { λ _. ⌜ now (words .exit) ≡ take 17222 (now (words .entry)) ++ now (blocks .entry) ++ drop wordCount (now (words .entry)) ⌝ }
+{
+    let mut i: usize = 0;
+    while i < 2475 {
+        words[17222 + i] = blocks[i];
+        i += 1;
+    }
+}
+
+// L: the greatest length of the first `rules` groups.
+fn longest_of(blocks: &[u16], rules: usize) -> usize
+    requires { ⌜ (length (now blocks) ≡ 2475) × (rules ≤ 32) ⌝ }
+    ensures { λ r. ⌜ r ≡ longestAt (now (blocks .entry)) rules ⌝ }
+{
+    let mut most: usize = 0;
+    let mut group = 0;
+    while group < rules {
+        let size = blocks[75 * group] as usize;
+        if most < size {
+            most = size;
+        }
+        group += 1;
+    }
+    most
+}
+
+// 1 for true, 0 for false.
+fn bit_of(b: bool) -> u16
+    ensures { λ r. ⌜ r ≡ bit b ⌝ }
+{
+    if b {
+        return 1;
+    }
+    0
+}
+
+// The six words of the header.
+fn put_header(
+    words: &mut [u16],
+    states: usize,
+    classes: usize,
+    longest: usize,
+    expansion: usize,
+    rules: usize,
+    defaulted: bool,
+)
+    requires { ⌜ (6 ≤ length (now words)) × (states ≤ 256) × (classes ≤ 64) × (longest ≤ 8) × (expansion ≤ 8) × (rules ≤ 32) ⌝ }
+    ensures { λ _.
+        ⌜ now (words .exit) ≡ (states ∷ classes ∷ longest ∷ expansion ∷ rules ∷ bit defaulted ∷ []) ++ drop 6 (now (words .entry)) ⌝ }
+{
+    let last = bit_of(defaulted);
+    words[0] = states as u16;
+    words[1] = classes as u16;
+    words[2] = longest as u16;
+    words[3] = expansion as u16;
+    words[4] = rules as u16;
+    words[5] = last;
+}
+
+// Refusals 8 and 9, then the words by the arrays of a table, into words that are 0.
+fn build(
+    slots: &[u16],
+    ranges: &[u16],
+    blocks: &[u16],
+    rules: usize,
+    defaulted: bool,
+    words: &mut [u16],
+) -> Compiled
+    requires { ⌜ Flat (now slots) (now ranges) (now blocks) × (rules ≤ 32) ⌝ }
+    requires { ⌜ (wordCount ≤ length (now words)) × (now words ≡ pad wordCount [] ++ drop wordCount (now words)) ⌝ }
+    ensures answer { λ r.
+        ⌜ compiledOf r ≡ built (now (slots .entry)) (now (ranges .entry)) (now (blocks .entry)) rules defaulted (now (words .entry)) .answer ⌝ }
+    ensures words { λ _.
+        ⌜ now (words .exit) ≡ built (now (slots .entry)) (now (ranges .entry)) (now (blocks .entry)) rules defaulted (now (words .entry)) .words ⌝ }
+{
+    let classes = gather_starts(slots, ranges, blocks, rules, words);
+    if classes > 64 {
+        clear(words);
+        return Compiled::Refused(8);
+    }
+    let mut sets = [0u32; 256];
+    let states = build_states(slots, ranges, blocks, rules, classes, words, &mut sets);
+    if states > 256 {
+        clear(words);
+        return Compiled::Refused(9);
+    }
+    let longest = longest_of(blocks, rules);
+    let most = expansion(blocks, rules, defaulted);
+    put_header(words, states, classes, longest, most, rules, defaulted);
+    copy_blocks(words, blocks);
+    Compiled::Accepted
+}
+
+// Compiling a table into machine words.
+pub fn compile(table: &[u8], words: &mut [u16]) -> Compiled
+    ensures answer { λ r. ⌜ compiledOf r ≡ Spec.compile (now (table .entry)) (now (words .entry)) .answer ⌝ }
+    ensures words { λ _. ⌜ now (words .exit) ≡ Spec.compile (now (table .entry)) (now (words .entry)) .words ⌝ }
+{
+    if words.len() < 19697 {
+        return Compiled::Refused(10);
+    }
+    clear(words);
+    let mut slots = [0u16; 264];
+    let mut ranges = [0u16; 2112];
+    let mut blocks = [0u16; 2475];
+    let loaded = load_table(table, &mut slots, &mut ranges, &mut blocks);
+    match loaded {
+        Load::Refused(n) => Compiled::Refused(n),
+        Load::Accepted { rules, defaulted } => {
+            build(&slots, &ranges, &blocks, rules, defaulted, words)
+        }
+    }
+}

@@ -1,0 +1,168 @@
+// What the rollback machine reads of machine words. The words hold plain numbers, which become numbers of states, classes and rules here.
+use crate::numbers::ClassNo;
+use crate::numbers::RuleNo;
+use crate::numbers::StateNo;
+use rules::output::write_group;
+ghost use mathlib.Core.Path.{_≡_};
+ghost use mathlib.Core.Bool.{_&&_};
+ghost use mathlib.Core.List.{_++_};
+ghost use Prim.Native.Nat.{_+_, _≤_, _<_};
+ghost use lib.Dec.{T, eqb};
+ghost use lib.ListN.{length, take, drop};
+ghost use Rattle.rules.specs.Block.{at, blockOutput};
+ghost use Rattle.machine.specs.Classes.{classOf};
+ghost use Rattle.machine.specs.Layout.{wordCount};
+ghost use Rattle.machine.specs.Sound.{classCount, longestWord, expansionWord, acceptAtEndWord, acceptWord, targetWord, blockAt, used, sound};
+ghost use Rattle.machine.specs.Readings.{wordOf};
+
+// The rule that a state accepts, or nothing.
+pub enum Accept {
+    Rule(RuleNo),
+    Nothing,
+}
+
+// The class of a character, by halving: the last start not above it is that of a class from `low` on and below `high`.
+pub fn class_of(words: &[u16], c: u16) -> ClassNo
+    requires { ⌜ T (sound (now words)) ⌝ }
+    ensures { λ r. ⌜ r .0 ≡ classOf (take (classCount (now (words .entry))) (drop 6 (now (words .entry)))) c ⌝ }
+{
+    let mut low: usize = 0;
+    let mut high = size(words[1]);
+    while low + 1 < high {
+        let middle = (low + high) / 2;
+        if words[6 + middle] <= c {
+            low = middle;
+        } else {
+            high = middle;
+        }
+    }
+    ClassNo(low as u16)
+}
+
+// The state that a class leads to from a state; state 0 for none.
+pub fn target(words: &[u16], state: StateNo, class: ClassNo) -> StateNo
+    requires { ⌜ (wordCount ≤ length (now words)) × (state .0 < 256) × (class .0 < 64) ⌝ }
+    ensures { λ r. ⌜ r .0 ≡ targetWord (now (words .entry)) (state .0) (class .0) ⌝ }
+{
+    let s = state.0 as usize;
+    let k = class.0 as usize;
+    StateNo(words[838 + 64 * s + k])
+}
+
+// The rule that a word of a state names: its number + 1, or 0 for none.
+pub fn accept_of(word: u16) -> Accept
+    ensures { λ r. ⌜ wordOf r ≡ word ⌝ }
+{
+    if word == 0 {
+        return Accept::Nothing;
+    }
+    Accept::Rule(RuleNo(word - 1))
+}
+
+// The rule that a state accepts at once.
+pub fn accept_at(words: &[u16], state: StateNo) -> Accept
+    requires { ⌜ (wordCount ≤ length (now words)) × (state .0 < 256) ⌝ }
+    ensures { λ r. ⌜ wordOf r ≡ acceptWord (now (words .entry)) (state .0) ⌝ }
+{
+    let s = state.0 as usize;
+    accept_of(words[72 + 3 * s])
+}
+
+// The rule that a state accepts if the input ends there.
+pub fn accept_at_end(words: &[u16], state: StateNo) -> Accept
+    requires { ⌜ (wordCount ≤ length (now words)) × (state .0 < 256) ⌝ }
+    ensures { λ r. ⌜ wordOf r ≡ acceptAtEndWord (now (words .entry)) (state .0) ⌝ }
+{
+    let s = state.0 as usize;
+    accept_of(words[71 + 3 * s])
+}
+
+// The state accepts a rule at once, and no other rule if the input ends there.
+pub fn settled(words: &[u16], state: StateNo) -> bool
+    requires { ⌜ (wordCount ≤ length (now words)) × (state .0 < 256) ⌝ }
+    ensures { λ r. ⌜ r ≡ (used (acceptWord (now (words .entry)) (state .0))
+        && eqb (acceptWord (now (words .entry)) (state .0)) (acceptAtEndWord (now (words .entry)) (state .0))) ⌝ }
+{
+    let s = state.0 as usize;
+    let go = words[72 + 3 * s];
+    if go == 0 {
+        return false;
+    }
+    go == words[71 + 3 * s]
+}
+
+// The table has a default.
+pub fn has_default(words: &[u16]) -> bool
+    requires { ⌜ wordCount ≤ length (now words) ⌝ }
+    ensures { λ r. ⌜ r ≡ eqb (at (now (words .entry)) 5) 1 ⌝ }
+{
+    words[5] == 1
+}
+
+// A word as a size.
+fn size(word: u16) -> usize
+    ensures { λ r. ⌜ r ≡ word ⌝ }
+{
+    word as usize
+}
+
+// L, the longest rule's K.
+pub fn longest(words: &[u16]) -> usize
+    requires { ⌜ wordCount ≤ length (now words) ⌝ }
+    ensures { λ r. ⌜ r ≡ longestWord (now (words .entry)) ⌝ }
+{
+    size(words[2])
+}
+
+// E, the most characters that a group writes.
+pub fn expansion(words: &[u16]) -> usize
+    requires { ⌜ wordCount ≤ length (now words) ⌝ }
+    ensures { λ r. ⌜ r ≡ expansionWord (now (words .entry)) ⌝ }
+{
+    size(words[3])
+}
+
+// Word `i` of a group's block.
+fn block_word(words: &[u16], group: usize, i: usize) -> u16
+    requires { ⌜ (wordCount ≤ length (now words)) × (group < 33) × (i < 75) ⌝ }
+    ensures { λ r. ⌜ r ≡ at (blockAt (now (words .entry)) group) i ⌝ }
+{
+    words[17222 + 75 * group + i]
+}
+
+// K of a group.
+pub fn group_size(words: &[u16], group: usize) -> usize
+    requires { ⌜ (wordCount ≤ length (now words)) × (group < 33) ⌝ }
+    ensures { λ r. ⌜ r ≡ at (blockAt (now (words .entry)) group) 0 ⌝ }
+{
+    size(block_word(words, group, 0))
+}
+
+// How many characters a group writes.
+pub fn group_outputs(words: &[u16], group: usize) -> usize
+    requires { ⌜ (wordCount ≤ length (now words)) × (group < 33) ⌝ }
+    ensures { λ r. ⌜ r ≡ at (blockAt (now (words .entry)) group) 2 ⌝ }
+{
+    size(block_word(words, group, 2))
+}
+
+// What a group writes for the first K characters of the store goes to `output` from `count` on; the count after it.
+pub fn write_rule(
+    words: &[u16],
+    group: usize,
+    store: &[u16],
+    output: &mut [u16],
+    count: usize,
+) -> usize
+    requires { ⌜ (wordCount ≤ length (now words)) × (group < 33) ⌝ }
+    requires { ⌜ (at (blockAt (now words) group) 0 ≤ 8) × (at (blockAt (now words) group) 2 ≤ 8) ⌝ }
+    requires { ⌜ at (blockAt (now words) group) 0 ≤ length (now store) ⌝ }
+    requires { ⌜ count + at (blockAt (now words) group) 2 ≤ length (now output) ⌝ }
+    ensures { λ r. ⌜ r ≡ count + at (blockAt (now (words .entry)) group) 2 ⌝ }
+    ensures { λ _. ⌜ now (output .exit)
+        ≡ take count (now (output .entry))
+        ++ blockOutput (blockAt (now (words .entry)) group) (take (at (blockAt (now (words .entry)) group) 0) (now (store .entry)))
+        ++ drop (count + at (blockAt (now (words .entry)) group) 2) (now (output .entry)) ⌝ }
+{
+    write_group(&words[17222..19697], group, store, 0, output, count)
+}

@@ -1,0 +1,122 @@
+// Sets of rules kept as numbers, rule r by bit r: built by doubling and adding, taken apart by halves.
+ghost use mathlib.Core.Bool.{Bool, false, _&&_, not};
+ghost use mathlib.Core.List.{List};
+ghost use mathlib.Core.Path.{_≡_};
+ghost use Prim.Native.Nat.{ℕ, _+_, _*_, _^_, _≤_, _<_};
+ghost use lib.Dec.{eqb, ltb};
+ghost use lib.ListN.{length};
+ghost use Rattle.lists.specs.Lists.{filter, upTo};
+ghost use Rattle.rules.specs.Table.{inRanges};
+ghost use Rattle.rules.specs.Block.{at};
+ghost use Rattle.rules.specs.Flat.{Flat, rangesAt, tableAt};
+ghost use Rattle.machine.specs.States.{firstNumber, longerRules, acceptOf, acceptAtEndOf};
+ghost use Rattle.machine.specs.Build.{membersFrom, stateOf};
+
+// The set of all rules.
+pub fn all_rules(rules: usize) -> u32
+    requires { ⌜ rules ≤ 32 ⌝ }
+    ensures { λ r. ⌜ (membersFrom 0 rules r ≡ upTo rules) × (r < 2 ^ rules) ⌝ }
+{
+    let mut set: u32 = 0;
+    let mut rule: usize = 0;
+    while rule < rules {
+        set = 2 * set + 1;
+        rule += 1;
+    }
+    set
+}
+
+// The rule is longer than the depth, and takes the character there.
+fn goes_on(slots: &[u16], ranges: &[u16], blocks: &[u16], rule: usize, depth: usize, c: u16) -> bool
+    requires { ⌜ Flat (now slots) (now ranges) (now blocks) ⌝ }
+    requires { ⌜ rule < 32 ⌝ }
+    ensures { λ r. ⌜ r ≡ ltb depth (at (now (blocks .entry)) (75 * rule)) && inRanges (rangesAt (now (slots .entry)) (now (ranges .entry)) (8 * rule + depth)) c ⌝ }
+{
+    if depth < blocks[75 * rule] as usize {
+        return rules::pattern::in_ranges(slots, ranges, 8 * rule + depth, c);
+    }
+    false
+}
+
+// The rules of the set that are longer than the depth and take the character there.
+pub fn longer_rules(
+    slots: &[u16],
+    ranges: &[u16],
+    blocks: &[u16],
+    rules: usize,
+    set: u32,
+    depth: usize,
+    c: u16,
+) -> u32
+    requires { ⌜ Flat (now slots) (now ranges) (now blocks) ⌝ }
+    requires { ⌜ (rules ≤ 32) × (set < 2 ^ rules) ⌝ }
+    ensures { λ r.
+        ⌜ (membersFrom 0 rules r ≡ longerRules (tableAt (now (slots .entry)) (now (ranges .entry)) (now (blocks .entry)) rules false) (stateOf rules depth set) c)
+        × (r < 2 ^ rules) ⌝ }
+{
+    let mut longer: u64 = 0;
+    let mut weight: u64 = 1;
+    let mut rest = set;
+    let mut rule: usize = 0;
+    while rest > 0 {
+        if rest % 2 == 1 {
+            if goes_on(slots, ranges, blocks, rule, depth, c) {
+                longer += weight;
+            }
+        }
+        weight *= 2;
+        rest /= 2;
+        rule += 1;
+    }
+    longer as u32
+}
+
+// The rule ends at the depth, and where only free rules count it is not anchored.
+fn ends_at(blocks: &[u16], rule: usize, depth: usize, free: bool) -> bool
+    requires { ⌜ (length (now blocks) ≡ 2475) × (rule < 32) ⌝ }
+    ensures { λ r. ⌜ r ≡ eqb (at (now (blocks .entry)) (75 * rule)) depth && not (free && eqb (at (now (blocks .entry)) (75 * rule + 1)) 1) ⌝ }
+{
+    if blocks[75 * rule] as usize != depth {
+        return false;
+    }
+    if free {
+        return blocks[75 * rule + 1] != 1;
+    }
+    true
+}
+
+// The lowest rule + 1 of the set that ends at the depth, or 0.
+fn lowest_ending(blocks: &[u16], rules: usize, set: u32, depth: usize, free: bool) -> u16
+    requires { ⌜ (length (now blocks) ≡ 2475) × (rules ≤ 32) × (set < 2 ^ rules) ⌝ }
+    ensures { λ r.
+        ⌜ r ≡ firstNumber (filter (λ k. eqb (at (now (blocks .entry)) (75 * k)) depth && not (free && eqb (at (now (blocks .entry)) (75 * k + 1)) 1)) (membersFrom 0 rules set)) ⌝ }
+{
+    let mut rest = set;
+    let mut rule: usize = 0;
+    while rest > 0 {
+        if rest % 2 == 1 {
+            if ends_at(blocks, rule, depth, free) {
+                return (rule + 1) as u16;
+            }
+        }
+        rest /= 2;
+        rule += 1;
+    }
+    0
+}
+
+// The rule + 1 that a state accepts at once, or 0.
+pub fn accept_of(blocks: &[u16], rules: usize, set: u32, depth: usize) -> u16
+    requires { ⌜ (length (now blocks) ≡ 2475) × (rules ≤ 32) × (set < 2 ^ rules) ⌝ }
+    ensures { λ r. ⌜ ((slots ranges : List ℕ) (d : Bool) → r ≡ acceptOf (tableAt slots ranges (now (blocks .entry)) rules d) (stateOf rules depth set)) ⌝ }
+{
+    lowest_ending(blocks, rules, set, depth, true)
+}
+
+// The rule + 1 that a state accepts where the input ends, or 0.
+pub fn accept_at_end_of(blocks: &[u16], rules: usize, set: u32, depth: usize) -> u16
+    requires { ⌜ (length (now blocks) ≡ 2475) × (rules ≤ 32) × (set < 2 ^ rules) ⌝ }
+    ensures { λ r. ⌜ ((slots ranges : List ℕ) (d : Bool) → r ≡ acceptAtEndOf (tableAt slots ranges (now (blocks .entry)) rules d) (stateOf rules depth set)) ⌝ }
+{
+    lowest_ending(blocks, rules, set, depth, false)
+}

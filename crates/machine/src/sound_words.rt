@@ -1,0 +1,316 @@
+// "Sound words": the test of words before a machine runs on them, a function for each clause. It looks only at words in use.
+// The words: the header from 0, class starts from 6, three words a state from 70, 64 targets a state from 838, 75 words a block from 17222.
+ghost use mathlib.Core.Bool.{cond, not};
+ghost use mathlib.Core.List.{[], _∷_};
+ghost use mathlib.Core.Path.{_≡_};
+ghost use Prim.Native.Nat.{suc, pred, _+_, _*_, _≤_, _<_};
+ghost use lib.Dec.{eqb};
+ghost use lib.ListN.{length};
+ghost use Rattle.lists.specs.Decide.{allOf, forBelow, implies};
+ghost use Rattle.rules.specs.Block.{at};
+ghost use Rattle.machine.specs.Sound.{stateCount, classCount, ruleCount, longestWord, depthWord, acceptAtEndWord, acceptWord, targetWord, blockAt, between, used, soundHeader, soundStarts, soundBlock, soundBlocks, namesRule, soundTarget, soundState, sound};
+use crate::numbers::ClassNo;
+use crate::numbers::RuleNo;
+use crate::numbers::StateNo;
+
+fn within(low: u16, high: u16, x: u16) -> bool
+    ensures { λ r. ⌜ r ≡ between low high x ⌝ }
+{
+    if low <= x {
+        return x <= high;
+    }
+    false
+}
+
+// "The header is within its limits."
+fn header_sound(words: &[u16]) -> bool
+    requires { ⌜ 19697 ≤ length (now words) ⌝ }
+    ensures { λ r. ⌜ r ≡ soundHeader (now (words .entry)) ⌝ }
+{
+    if !within(1, 256, words[0]) {
+        return false;
+    }
+    if !within(1, 64, words[1]) {
+        return false;
+    }
+    if !within(1, 8, words[2]) {
+        return false;
+    }
+    if words[3] > 8 {
+        return false;
+    }
+    if !within(1, 32, words[4]) {
+        return false;
+    }
+    words[5] <= 1
+}
+
+// "The class starts begin at 0 and rise strictly."
+fn starts_sound(words: &[u16]) -> bool
+    requires { ⌜ (19697 ≤ length (now words)) × (classCount (now words) ≤ 64) ⌝ }
+    ensures { λ r. ⌜ r ≡ soundStarts (now (words .entry)) ⌝ }
+{
+    if words[6] != 0 {
+        return false;
+    }
+    let classes = words[1] as usize;
+    let mut k: usize = 0;
+    while k + 1 < classes {
+        if words[6 + k] >= words[7 + k] {
+            return false;
+        }
+        k += 1;
+    }
+    true
+}
+
+// K is at least 1 and at most `most`, anchored at most `anchored`, the output count at most E. Block 32 is the default's.
+fn block_sound(words: &[u16], block: usize, most: u16, anchored: u16) -> bool
+    requires { ⌜ (19697 ≤ length (now words)) × (block ≤ 32) ⌝ }
+    ensures { λ r. ⌜ r ≡ soundBlock (now (words .entry)) block most anchored ⌝ }
+{
+    if !within(1, most, words[17222 + 75 * block]) {
+        return false;
+    }
+    if words[17223 + 75 * block] > anchored {
+        return false;
+    }
+    words[17224 + 75 * block] <= words[3]
+}
+
+fn rule_blocks_sound(words: &[u16]) -> bool
+    requires { ⌜ (19697 ≤ length (now words)) × (ruleCount (now words) ≤ 32) ⌝ }
+    ensures { λ r. ⌜ r ≡ forBelow (ruleCount (now (words .entry))) (λ g. soundBlock (now (words .entry)) g (longestWord (now (words .entry))) 1) ⌝ }
+{
+    let rules = words[4] as usize;
+    let mut rule: usize = 0;
+    while rule < rules {
+        if !block_sound(words, rule, words[2], 1) {
+            return false;
+        }
+        rule += 1;
+    }
+    true
+}
+
+fn blocks_sound(words: &[u16]) -> bool
+    requires { ⌜ (19697 ≤ length (now words)) × (ruleCount (now words) ≤ 32) ⌝ }
+    ensures { λ r. ⌜ r ≡ soundBlocks (now (words .entry)) ⌝ }
+{
+    if !rule_blocks_sound(words) {
+        return false;
+    }
+    if words[5] == 1 {
+        return block_sound(words, 32, 1, 0);
+    }
+    true
+}
+
+fn depth_of(words: &[u16], state: StateNo) -> u16
+    requires { ⌜ (19697 ≤ length (now words)) × (state .0 < 256) ⌝ }
+    ensures { λ r. ⌜ r ≡ depthWord (now (words .entry)) (state .0) ⌝ }
+{
+    let s = state.0 as usize;
+    words[70 + 3 * s]
+}
+
+fn accept_at_end_of(words: &[u16], state: StateNo) -> u16
+    requires { ⌜ (19697 ≤ length (now words)) × (state .0 < 256) ⌝ }
+    ensures { λ r. ⌜ r ≡ acceptAtEndWord (now (words .entry)) (state .0) ⌝ }
+{
+    let s = state.0 as usize;
+    words[71 + 3 * s]
+}
+
+fn accept_of(words: &[u16], state: StateNo) -> u16
+    requires { ⌜ (19697 ≤ length (now words)) × (state .0 < 256) ⌝ }
+    ensures { λ r. ⌜ r ≡ acceptWord (now (words .entry)) (state .0) ⌝ }
+{
+    let s = state.0 as usize;
+    words[72 + 3 * s]
+}
+
+fn target_of(words: &[u16], state: StateNo, class: ClassNo) -> u16
+    requires { ⌜ (19697 ≤ length (now words)) × (state .0 < 256) × (class .0 < 64) ⌝ }
+    ensures { λ r. ⌜ r ≡ targetWord (now (words .entry)) (state .0) (class .0) ⌝ }
+{
+    let s = state.0 as usize;
+    let k = class.0 as usize;
+    words[838 + 64 * s + k]
+}
+
+// The rule is "below the count" and its "K is the depth".
+fn names_rule(words: &[u16], depth: u16, rule: RuleNo) -> bool
+    requires { ⌜ (19697 ≤ length (now words)) × (ruleCount (now words) ≤ 32) ⌝ }
+    ensures { λ r. ⌜ r ≡ namesRule (now (words .entry)) depth (suc (rule .0)) ⌝ }
+{
+    let number = rule.0;
+    if number >= words[4] {
+        return false;
+    }
+    let block = number as usize;
+    words[17222 + 75 * block] == depth
+}
+
+fn one_deeper(deeper: u16, depth: u16) -> bool
+    ensures { λ r. ⌜ r ≡ eqb deeper (suc depth) ⌝ }
+{
+    deeper as usize == depth as usize + 1
+}
+
+// "A target exceeds its state's number, is below the state count and lies one deeper."
+fn target_sound(words: &[u16], state: StateNo, target: StateNo) -> bool
+    requires { ⌜ (19697 ≤ length (now words)) × (stateCount (now words) ≤ 256) × (state .0 < 256) ⌝ }
+    ensures { λ r. ⌜ r ≡ soundTarget (now (words .entry)) (state .0) (target .0) ⌝ }
+{
+    let number = target.0;
+    if number <= state.0 {
+        return false;
+    }
+    if number >= words[0] {
+        return false;
+    }
+    one_deeper(depth_of(words, target), depth_of(words, state))
+}
+
+// "State 0 has depth 0, others 1 to L."
+fn depth_sound(words: &[u16], state: StateNo) -> bool
+    requires { ⌜ (19697 ≤ length (now words)) × (state .0 < 256) ⌝ }
+    ensures { λ r.
+        ⌜ r ≡ cond (eqb (state .0) 0) (eqb (depthWord (now (words .entry)) (state .0)) 0)
+        (between 1 (longestWord (now (words .entry))) (depthWord (now (words .entry)) (state .0))) ⌝ }
+{
+    let depth = depth_of(words, state);
+    if state.0 == 0 {
+        return depth == 0;
+    }
+    within(1, words[2], depth)
+}
+
+// The state's "end", if it has one, names a rule.
+fn accept_at_end_sound(words: &[u16], state: StateNo) -> bool
+    requires { ⌜ (19697 ≤ length (now words)) × (ruleCount (now words) ≤ 32) × (state .0 < 256) ⌝ }
+    ensures { λ r.
+        ⌜ r ≡ implies (used (acceptAtEndWord (now (words .entry)) (state .0)))
+        (namesRule (now (words .entry)) (depthWord (now (words .entry)) (state .0)) (acceptAtEndWord (now (words .entry)) (state .0))) ⌝ }
+{
+    let accept = accept_at_end_of(words, state);
+    if accept == 0 {
+        return true;
+    }
+    names_rule(words, depth_of(words, state), RuleNo(accept - 1))
+}
+
+// The state's "go", if it has one, names an unanchored rule, and "a go comes with an end".
+fn accept_sound(words: &[u16], state: StateNo) -> bool
+    requires { ⌜ (19697 ≤ length (now words)) × (ruleCount (now words) ≤ 32) × (state .0 < 256) ⌝ }
+    ensures { λ r.
+        ⌜ r ≡ implies (used (acceptWord (now (words .entry)) (state .0)))
+        (allOf (namesRule (now (words .entry)) (depthWord (now (words .entry)) (state .0)) (acceptWord (now (words .entry)) (state .0))
+        ∷ eqb (at (blockAt (now (words .entry)) (pred (acceptWord (now (words .entry)) (state .0)))) 1) 0
+        ∷ used (acceptAtEndWord (now (words .entry)) (state .0))
+        ∷ [])) ⌝ }
+{
+    let accept = accept_of(words, state);
+    if accept == 0 {
+        return true;
+    }
+    let rule = accept - 1;
+    if !names_rule(words, depth_of(words, state), RuleNo(rule)) {
+        return false;
+    }
+    let block = rule as usize;
+    if words[17223 + 75 * block] != 0 {
+        return false;
+    }
+    accept_at_end_of(words, state) != 0
+}
+
+// The target by the class, if there is one, is sound, and the state has no go.
+fn class_target_sound(words: &[u16], state: StateNo, class: ClassNo) -> bool
+    requires { ⌜ (19697 ≤ length (now words)) × (stateCount (now words) ≤ 256) × (state .0 < 256) × (class .0 < 64) ⌝ }
+    ensures { λ r.
+        ⌜ r ≡ implies (used (targetWord (now (words .entry)) (state .0) (class .0)))
+        (allOf (not (used (acceptWord (now (words .entry)) (state .0)))
+        ∷ soundTarget (now (words .entry)) (state .0) (targetWord (now (words .entry)) (state .0) (class .0))
+        ∷ [])) ⌝ }
+{
+    let target = target_of(words, state, class);
+    if target == 0 {
+        return true;
+    }
+    if accept_of(words, state) != 0 {
+        return false;
+    }
+    target_sound(words, state, StateNo(target))
+}
+
+fn targets_sound(words: &[u16], state: StateNo) -> bool
+    requires { ⌜ (19697 ≤ length (now words)) × (stateCount (now words) ≤ 256) × (classCount (now words) ≤ 64) × (state .0 < 256) ⌝ }
+    ensures { λ r.
+        ⌜ r ≡ forBelow (classCount (now (words .entry))) (λ k.
+        implies (used (targetWord (now (words .entry)) (state .0) k))
+        (allOf (not (used (acceptWord (now (words .entry)) (state .0)))
+        ∷ soundTarget (now (words .entry)) (state .0) (targetWord (now (words .entry)) (state .0) k)
+        ∷ []))) ⌝ }
+{
+    let classes = words[1];
+    let mut class: u16 = 0;
+    while class < classes {
+        if !class_target_sound(words, state, ClassNo(class)) {
+            return false;
+        }
+        class += 1;
+    }
+    true
+}
+
+fn state_sound(words: &[u16], state: StateNo) -> bool
+    requires { ⌜ (19697 ≤ length (now words)) × (stateCount (now words) ≤ 256) × (classCount (now words) ≤ 64) × (ruleCount (now words) ≤ 32) × (state .0 < 256) ⌝ }
+    ensures { λ r. ⌜ r ≡ soundState (now (words .entry)) (state .0) ⌝ }
+{
+    if !depth_sound(words, state) {
+        return false;
+    }
+    if !accept_at_end_sound(words, state) {
+        return false;
+    }
+    if !accept_sound(words, state) {
+        return false;
+    }
+    targets_sound(words, state)
+}
+
+fn states_sound(words: &[u16]) -> bool
+    requires { ⌜ (19697 ≤ length (now words)) × (stateCount (now words) ≤ 256) × (classCount (now words) ≤ 64) × (ruleCount (now words) ≤ 32) ⌝ }
+    ensures { λ r. ⌜ r ≡ forBelow (stateCount (now (words .entry))) (soundState (now (words .entry))) ⌝ }
+{
+    let states = words[0];
+    let mut state: u16 = 0;
+    while state < states {
+        if !state_sound(words, StateNo(state)) {
+            return false;
+        }
+        state += 1;
+    }
+    true
+}
+
+// Only sound words make a machine.
+pub fn is_sound(words: &[u16]) -> bool
+    ensures { λ r. ⌜ r ≡ sound (now (words .entry)) ⌝ }
+{
+    if words.len() < 19697 {
+        return false;
+    }
+    if !header_sound(words) {
+        return false;
+    }
+    if !starts_sound(words) {
+        return false;
+    }
+    if !blocks_sound(words) {
+        return false;
+    }
+    states_sound(words)
+}

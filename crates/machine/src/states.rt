@@ -1,0 +1,223 @@
+// The loop over states: each state's accepts and targets are noted, and the states that it leads to are added as they are met.
+ghost use mathlib.Core.Bool.{false, cond};
+ghost use mathlib.Core.List.{_++_};
+ghost use mathlib.Core.Path.{_≡_};
+ghost use Prim.Native.Nat.{ℕ, suc, _+_, _*_, _^_, _≤_, _<_};
+ghost use lib.Dec.{ltb};
+ghost use lib.ListN.{length, getD, take, drop};
+ghost use Rattle.lists.specs.Lists.{flatMap, pad};
+ghost use Rattle.rules.specs.Block.{at};
+ghost use Rattle.rules.specs.Flat.{Flat, tableAt};
+ghost use Rattle.machine.specs.Classes.{starts};
+ghost use Rattle.machine.specs.States.{initial, acceptOf, states};
+ghost use Rattle.machine.specs.Layout.{stateWords, targetWords};
+ghost use Rattle.machine.specs.Build.{stateOf, numberIn, statesAt};
+ghost use Rattle.machine.specs.Noted.{NotedAt, Kept, Onward};
+
+// The number of the state with this depth and set, or the count where it is not there yet. The states before `from` have other depths.
+fn find_state(
+    words: &[u16],
+    sets: &[u32],
+    from: usize,
+    count: usize,
+    depth: usize,
+    set: u32,
+) -> usize
+    requires { ⌜ (from ≤ count) × (count ≤ 256) × (19697 ≤ length (now words)) × (length (now sets) ≡ 256) ⌝ }
+    requires { ⌜ ((i : ℕ) → i < from → at (now words) (70 + 3 * i) ≡ depth → ⊥) ⌝ }
+    ensures { λ r. ⌜ r ≤ count ⌝ }
+    ensures { λ r.
+        ⌜ ((n : ℕ) → ((i : ℕ) → i < count → at (now (sets .entry)) i < 2 ^ n) → set < 2 ^ n →
+        r ≡ numberIn (stateOf n depth set) (statesAt (now (words .entry)) (now (sets .entry)) n count)) ⌝ }
+{
+    let mut i = from;
+    while i < count {
+        if sets[i] == set {
+            if words[70 + 3 * i] as usize == depth {
+                return i;
+            }
+        }
+        i += 1;
+    }
+    count
+}
+
+// Class `class` of a state that accepts nothing: the target is noted, and a state that is met first is added. The new count, or 257.
+fn note_class(
+    slots: &[u16],
+    ranges: &[u16],
+    blocks: &[u16],
+    rules: usize,
+    words: &mut [u16],
+    sets: &mut [u32],
+    count: usize,
+    state: usize,
+    class: usize,
+) -> usize
+    requires { ⌜ Flat (now slots) (now ranges) (now blocks) ⌝ }
+    requires { ⌜ (let t = tableAt (now slots) (now ranges) (now blocks) rules false in
+        (rules ≤ 32) × (state < count) × (state < length (states t)) × (class < length (starts t)) × (acceptOf t (getD (states t) state (initial t)) ≡ 0)) ⌝ }
+    requires { ⌜ NotedAt (tableAt (now slots) (now ranges) (now blocks) rules false) rules (suc state) state class (now words) (now sets) count ⌝ }
+    ensures { λ r.
+        ⌜ Onward (tableAt (now (slots .entry)) (now (ranges .entry)) (now (blocks .entry)) rules false)
+        rules (suc state) state (suc class) (now (words .entry)) (now (words .exit)) (now (sets .exit)) r ⌝ }
+{
+    let depth = words[70 + 3 * state] as usize;
+    let set = crate::sets::longer_rules(
+        slots,
+        ranges,
+        blocks,
+        rules,
+        sets[state],
+        depth,
+        words[6 + class],
+    );
+    if set == 0 {
+        return count;
+    }
+    let number = find_state(words, sets, state + 1, count, depth + 1, set);
+    let place = 838 + 64 * state + class;
+    if number != count {
+        words[place] = number as u16;
+        return count;
+    }
+    if count == 256 {
+        return 257;
+    }
+    words[70 + 3 * count] = (depth + 1) as u16;
+    sets[count] = set;
+    words[place] = count as u16;
+    count + 1
+}
+
+// The classes of a state that accepts nothing. The new count, or 257.
+fn note_classes(
+    slots: &[u16],
+    ranges: &[u16],
+    blocks: &[u16],
+    rules: usize,
+    classes: usize,
+    words: &mut [u16],
+    sets: &mut [u32],
+    count: usize,
+    state: usize,
+) -> usize
+    requires { ⌜ Flat (now slots) (now ranges) (now blocks) ⌝ }
+    requires { ⌜ (let t = tableAt (now slots) (now ranges) (now blocks) rules false in
+        (rules ≤ 32) × (classes ≡ length (starts t)) × (state < length (states t)) × (acceptOf t (getD (states t) state (initial t)) ≡ 0)) ⌝ }
+    requires { ⌜ NotedAt (tableAt (now slots) (now ranges) (now blocks) rules false) rules (suc state) state 0 (now words) (now sets) count ⌝ }
+    ensures { λ r.
+        ⌜ Onward (tableAt (now (slots .entry)) (now (ranges .entry)) (now (blocks .entry)) rules false)
+        rules (suc state) (suc state) 0 (now (words .entry)) (now (words .exit)) (now (sets .exit)) r ⌝ }
+{
+    let mut total = count;
+    let mut class: usize = 0;
+    while class < classes {
+        total = note_class(
+            slots,
+            ranges,
+            blocks,
+            rules,
+            words,
+            sets,
+            total,
+            state,
+            class,
+        );
+        if total > 256 {
+            return total;
+        }
+        class += 1;
+    }
+    total
+}
+
+// A state: what it accepts is noted, and where that is nothing at once its classes. The new count, or 257.
+fn note_state(
+    slots: &[u16],
+    ranges: &[u16],
+    blocks: &[u16],
+    rules: usize,
+    classes: usize,
+    words: &mut [u16],
+    sets: &mut [u32],
+    count: usize,
+    state: usize,
+) -> usize
+    requires { ⌜ Flat (now slots) (now ranges) (now blocks) ⌝ }
+    requires { ⌜ (let t = tableAt (now slots) (now ranges) (now blocks) rules false in
+        (rules ≤ 32) × (classes ≡ length (starts t)) × (state < length (states t)) × (state < count)) ⌝ }
+    requires { ⌜ NotedAt (tableAt (now slots) (now ranges) (now blocks) rules false) rules state state 0 (now words) (now sets) count ⌝ }
+    ensures { λ r.
+        ⌜ Onward (tableAt (now (slots .entry)) (now (ranges .entry)) (now (blocks .entry)) rules false)
+        rules (suc state) (suc state) 0 (now (words .entry)) (now (words .exit)) (now (sets .exit)) r ⌝ }
+{
+    let depth = words[70 + 3 * state] as usize;
+    let set = sets[state];
+    let end = crate::sets::accept_at_end_of(blocks, rules, set, depth);
+    let accept = crate::sets::accept_of(blocks, rules, set, depth);
+    words[71 + 3 * state] = end;
+    words[72 + 3 * state] = accept;
+    if accept != 0 {
+        return count;
+    }
+    note_classes(
+        slots,
+        ranges,
+        blocks,
+        rules,
+        classes,
+        words,
+        sets,
+        count,
+        state,
+    )
+}
+
+// The words of states and targets, of a table whose class starts stand in place; how many states there are, or 257 where there are more than 256.
+pub fn build_states(
+    slots: &[u16],
+    ranges: &[u16],
+    blocks: &[u16],
+    rules: usize,
+    classes: usize,
+    words: &mut [u16],
+    sets: &mut [u32],
+) -> usize
+    requires { ⌜ Flat (now slots) (now ranges) (now blocks) ⌝ }
+    requires { ⌜ (let t = tableAt (now slots) (now ranges) (now blocks) rules false in
+        (rules ≤ 32) × (classes ≡ length (starts t)) × (classes ≤ 64) × ((k : ℕ) → k < length (starts t) → at (now words) (6 + k) ≡ getD (starts t) k 0)) ⌝ }
+    requires { ⌜ (19697 ≤ length (now words)) × (length (now sets) ≡ 256) × ((i : ℕ) → 70 ≤ i → i < 17222 → at (now words) i ≡ 0) ⌝ }
+    ensures answer { λ r.
+        ⌜ (let t = tableAt (now (slots .entry)) (now (ranges .entry)) (now (blocks .entry)) rules false in
+        r ≡ cond (ltb 256 (length (states t))) 257 (length (states t))) ⌝ }
+    ensures words { λ _.
+        ⌜ (let t = tableAt (now (slots .entry)) (now (ranges .entry)) (now (blocks .entry)) rules false in
+        length (states t) ≤ 256 →
+        now (words .exit)
+        ≡ take 70 (now (words .entry)) ++ pad 768 (flatMap (stateWords t) (states t)) ++ pad 16384 (flatMap (targetWords t) (states t)) ++ drop 17222 (now (words .entry))) ⌝ }
+    ensures kept { λ _. ⌜ Kept (now (words .entry)) (now (words .exit)) ⌝ }
+{
+    words[70] = 0;
+    sets[0] = crate::sets::all_rules(rules);
+    let mut count: usize = 1;
+    let mut state: usize = 0;
+    while state < count {
+        count = note_state(
+            slots,
+            ranges,
+            blocks,
+            rules,
+            classes,
+            words,
+            sets,
+            count,
+            state,
+        );
+        if count > 256 {
+            return count;
+        }
+        state += 1;
+    }
+    count
+}
