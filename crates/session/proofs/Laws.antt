@@ -9,3 +9,5 @@ pub mod Swap
 pub mod Calls
 pub mod Demand3
 pub mod Examples
+pub mod Keeping
+pub mod Running

@@ -4,3 +4,5 @@ pub mod Calls
 pub mod Reckoning
 pub mod Claims
 pub mod Examples
+pub mod Keeping
+pub mod Running

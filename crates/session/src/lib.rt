@@ -1,1 +1,3 @@
-// The definitions are in specs/, their laws in proofs/.
+// Sessions over machine words: what is kept between calls, and the rollback machine's run.
+pub mod kept;
+pub mod run;

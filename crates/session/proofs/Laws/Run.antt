@@ -32,30 +32,30 @@ dueAt w u l s = record { store = w; unread = u; state = 0; due = true; log = l; 
 -- The step, case by case.
 
 module _ (A : Automaton) (e : Bool) (w : List ℕ) (y : ℕ) (u : List ℕ) (q : ℕ) (l : List Emission) (s : ℕ) where
-  step-accept : (r : ℕ) → A .accept q ≡ suc r → step A e (at w (y ∷ u) q l s) ≡ emit (at w (y ∷ u) q l s) r
+  pub step-accept : (r : ℕ) → A .accept q ≡ suc r → step A e (at w (y ∷ u) q l s) ≡ emit (at w (y ∷ u) q l s) r
   unfolding step select
   step-accept r p =
       either (λ b. settled A q ≡ b → step A e (at w (y ∷ u) q l s) ≡ emit (at w (y ∷ u) q l s) r) (settled A q)
       (λ _ h. rw (step, select, h, p)) (λ _ h. rw (step, select, h, p, eqb·suc-zero, p)) refl
 
-  step-read : (t : ℕ) → A .accept q ≡ 0 → A .target q y ≡ suc t → step A e (at w (y ∷ u) q l s) ≡ read (at w (y ∷ u) q l s) (suc t)
+  pub step-read : (t : ℕ) → A .accept q ≡ 0 → A .target q y ≡ suc t → step A e (at w (y ∷ u) q l s) ≡ read (at w (y ∷ u) q l s) (suc t)
   unfolding step select
   step-read t p k = rw (step, select, p, p, k, eqb·suc-zero, k)
 
-  step-back : A .accept q ≡ 0 → A .target q y ≡ 0 → step A e (at w (y ∷ u) q l s) ≡ rollBack (at w (y ∷ u) q l s)
+  pub step-back : A .accept q ≡ 0 → A .target q y ≡ 0 → step A e (at w (y ∷ u) q l s) ≡ rollBack (at w (y ∷ u) q l s)
   unfolding step select
   step-back p k = rw (step, select, p, p, k)
 
 module _ (A : Automaton) (w : List ℕ) (q : ℕ) (l : List Emission) (s : ℕ) where
-  step-settled : settled A q ≡ true → step A false (at w [] q l s) ≡ emit (at w [] q l s) (pred (A .accept q))
+  pub step-settled : settled A q ≡ true → step A false (at w [] q l s) ≡ emit (at w [] q l s) (pred (A .accept q))
   unfolding step select
   step-settled h = rw (step, select, h)
 
-  step-wait : settled A q ≡ false → step A false (at w [] q l s) ≡ halt Open (at w [] q l s)
+  pub step-wait : settled A q ≡ false → step A false (at w [] q l s) ≡ halt Open (at w [] q l s)
   unfolding step select
   step-wait h = rw (step, select, h)
 
-  step-end : (r : ℕ) → A .acceptAtEnd q ≡ suc r → step A true (at w [] q l s) ≡ emit (at w [] q l s) r
+  pub step-end : (r : ℕ) → A .acceptAtEnd q ≡ suc r → step A true (at w [] q l s) ≡ emit (at w [] q l s) r
   unfolding step select
   step-end r p =
       either (λ b. settled A q ≡ b → step A true (at w [] q l s) ≡ emit (at w [] q l s) r) (settled A q)
@@ -68,32 +68,32 @@ unsettled A q p =
     (λ t _. let k = settled-both A q t .2 in absurd (omega arith)) (λ _ _. refl) refl
 
 module _ (A : Automaton) (q : ℕ) (l : List Emission) (s : ℕ) where
-  step-close : A .acceptAtEnd q ≡ 0 → step A true (at [] [] q l s) ≡ end Closed (at [] [] q l s)
+  pub step-close : A .acceptAtEnd q ≡ 0 → step A true (at [] [] q l s) ≡ end Closed (at [] [] q l s)
   unfolding step select
   step-close p = rw (step, select, unsettled A q p, p)
 
-  step-giveBack : (y : ℕ) (w : List ℕ) → A .acceptAtEnd q ≡ 0 → step A true (at (y ∷ w) [] q l s) ≡ rollBack (at (y ∷ w) [] q l s)
+  pub step-giveBack : (y : ℕ) (w : List ℕ) → A .acceptAtEnd q ≡ 0 → step A true (at (y ∷ w) [] q l s) ≡ rollBack (at (y ∷ w) [] q l s)
   unfolding step select
   step-giveBack y w p = rw (step, select, unsettled A q p, p)
 
 module _ (A : Automaton) (e : Bool) (u : List ℕ) (l : List Emission) (s : ℕ) where
-  due-read : A .default ≡ true → step A e (dueAt [] u l s) ≡ read (dueAt [] u l s) 0
+  pub due-read : A .default ≡ true → step A e (dueAt [] u l s) ≡ read (dueAt [] u l s) 0
   unfolding step fallBack select
   due-read p = rw (step, select, fallBack, select, p)
 
-  due-stop : A .default ≡ false → step A e (dueAt [] u l s) ≡ end Stopped (dueAt [] u l s)
+  pub due-stop : A .default ≡ false → step A e (dueAt [] u l s) ≡ end Stopped (dueAt [] u l s)
   unfolding step fallBack select
   due-stop p = rw (step, select, fallBack, select, p)
 
-  due-emit : (y : ℕ) → step A e (dueAt (y ∷ []) u l s) ≡ emit (dueAt (y ∷ []) u l s) defaultNumber
+  pub due-emit : (y : ℕ) → step A e (dueAt (y ∷ []) u l s) ≡ emit (dueAt (y ∷ []) u l s) defaultNumber
   unfolding step fallBack select
   due-emit y = refl
 
-steps-onward : (A : Automaton) (e : Bool) (m : ℕ) (c d : Configuration) → step A e c ≡ onward d → steps A e (suc m) c ≡ steps A e m d
+pub steps-onward : (A : Automaton) (e : Bool) (m : ℕ) (c d : Configuration) → step A e c ≡ onward d → steps A e (suc m) c ≡ steps A e m d
 unfolding steps
 steps-onward A e m c d p = rw p
 
-steps-halt : (A : Automaton) (e : Bool) (m : ℕ) (c d : Configuration) (s : Status) → step A e c ≡ halt s d →
+pub steps-halt : (A : Automaton) (e : Bool) (m : ℕ) (c d : Configuration) (s : Status) → step A e c ≡ halt s d →
     steps A e (suc m) c ≡ record { status = s; final = d }
 unfolding steps
 steps-halt A e m c d s p = rw p

@@ -1,0 +1,608 @@
+-- The run over machine words: what each move asks and leaves, and that a turn leads on to the same end.
+-- A step of the machine that leads on uses one of its fuel, of which more changes nothing; the rest is the text's places.
+use mathlib.Core.Bool.{Bool, true, false, _&&_, not}
+use mathlib.Core.List.{List, [], _∷_, _++_, append-nil}
+use mathlib.Core.Logic.{_≢_}
+use mathlib.Core.Path.{_≡_, refl, sym, ap, subst, _∙_}
+use Prim.Native.Nat.{ℕ, zero, suc, pred, _+_, _*_, _-_, _≤_, _<_}
+use native.Mathlib.Nat.{mul-le-mul-left}
+use native.Mathlib.Omega.{arith}
+use lib.Dec.{T, eqb, eqb→eq}
+use lib.ListN.{length, getD, set, take, drop, length-append, length-drop, take-append-drop, drop-of-length-le}
+use lib.Seq.{take-all, drop-nil, length-take-le, take-suc, drop-cons, getD-drop, take-suc-set, take-append-seam, drop-append-seam, take-at, drop-at, take-add, drop-drop}
+use Rattle.lists.specs.Lists.{isEmpty}
+use Rattle.lists.proofs.Laws.Tests.{to-T}
+use Rattle.rules.specs.Table.{defaultNumber}
+use Rattle.rules.specs.Block.{at, blockOutput}
+use Rattle.rules.specs.Meaning.{Emission, textOf, covered}
+use Rattle.rules.specs.Direct.{over}
+use Rattle.machine.specs.Sound.{longestWord, expansionWord, ruleCount, stateCount, depthWord, acceptAtEndWord, acceptWord, targetWord, classCount, blockAt, used, sound}
+use Rattle.machine.specs.Classes.{classOf}
+use Rattle.machine.specs.Automaton.{Automaton, fromWords}
+use Rattle.machine.specs.declared.numbers.RuleNo.{RuleNo}
+use Rattle.machine.specs.declared.numbers.StateNo.{StateNo}
+use Rattle.machine.proofs.Laws.Good.{after, Leads}
+use Rattle.machine.proofs.Laws.Words.{Names, sound-header, sound-rule, sound-default, sound-state, sound-class, sound-good, sound-longest, length-blockOutput}
+use Rattle.session.specs.Machine.{Configuration, Status, Open, Closed, Stopped, onward, halt, step, Ended, steps, run, start}
+use Rattle.session.specs.Session.{settled, path, isAt}
+use Rattle.session.specs.Keeping.{statusOf}
+use Rattle.session.specs.Running.{firstOf, standing, stepOf, OnCharacter, AtEnd, Fits, Within, Decides, storeOf, Placed, Going, Finished, left, Onward, Beyond}
+use Rattle.session.specs.declared.run.Move.{Move}
+use Rattle.session.specs.declared.run.Move.the-variants.{Emit, Read, Back, Wait, Close}
+use Rattle.session.specs.declared.run.Ran.{Ran}
+use Rattle.session.proofs.Laws.Walk.{settled-both}
+use Rattle.session.proofs.Laws.Run.{step-accept, step-read, step-back, step-settled, step-wait, step-end, step-close, step-giveBack, due-read, due-stop, due-emit, steps-onward, steps-halt, fuel-enough}
+use Rattle.session.proofs.Laws.Kept.{path-leads}
+use Rattle.session.proofs.Laws.Calls.{textOf-append, covered-append}
+
+pub of-not-true : (b : Bool) → not b ≡ true → b ≡ false
+of-not-true false e = refl
+of-not-true true e = sym e
+
+pub of-not-false : (b : Bool) → not b ≡ false → b ≡ true
+of-not-false false e = sym e
+of-not-false true e = refl
+
+-- The unread part of those given back, or else of the piece.
+
+pub first-given : (given rest : List ℕ) (n : ℕ) → n < length given → take (length given - n) (drop n given) ≡ firstOf (drop n given) rest
+first-given given rest n h = take-all (length given - n) (drop n given) (omega (arith, length-drop n given)) ∙ rw (drop-cons given n 0 h) refl
+
+pub first-piece : (given piece : List ℕ) (n k : ℕ) → length given ≤ n → take (length piece - k) (drop k piece) ≡ firstOf (drop n given) (drop k piece)
+first-piece given piece n k h = rw (drop-of-length-le given h) (take-all (length piece - k) (drop k piece) (omega (arith, length-drop k piece)))
+
+pub first-at : (given piece : List ℕ) (i : ℕ) → i < length given + length piece →
+    (0 < length (firstOf (drop i given) (drop (i - length given) piece))) × (getD (firstOf (drop i given) (drop (i - length given) piece)) 0 0 ≡ getD (given ++ piece) i 0)
+first-at [] piece i h =
+    let e : i - 0 ≡ i = omega arith in
+    let z : i + 0 ≡ i = omega arith in
+    rw (drop-nil i, e) (omega (arith, length-drop i piece), getD-drop i piece 0 0 ∙ ap (λ k. getD piece k 0) z)
+first-at (x ∷ given) piece zero h = (omega arith, refl)
+first-at (x ∷ given) piece (suc i) h =
+    let e : suc i - suc (length given) ≡ i - length given = omega arith in
+    rw e (first-at given piece i (omega arith))
+
+-- one more character of the text is in the store
+pub gather-step : (u store : List ℕ) (n i x : ℕ) → i < length store → n + i < length u → x ≡ getD u (n + i) 0 →
+    take i store ≡ take i (drop n u) → take (i + 1) (set store i x) ≡ take (i + 1) (drop n u)
+gather-step u store n i x h k e p =
+    let z : i + 1 ≡ suc i = omega arith in
+    let y : x ≡ getD (drop n u) i 0 = e ∙ sym (getD-drop n u i 0) in
+    rw z (take-suc-set store i x h ∙ ap (λ l. l ++ (x ∷ [])) p ∙ ap (λ c. take i (drop n u) ++ (c ∷ [])) y ∙ sym (take-suc (drop n u) i 0 (omega (arith, length-drop n u))))
+
+module _ (w : List ℕ) (W : T (sound w)) (q : ℕ) (b : q < stateCount w) where
+  rule-fits : (g : RuleNo) (n : ℕ) → suc (g .0) ≡ n → (n ≢ 0 → Names w (depthWord w q) n) → Fits w q (Emit g)
+  rule-fits g n e f =
+      let k = f (omega arith) in
+      let p : pred n ≡ g .0 = omega arith in
+      let i : g .0 < ruleCount w = omega (arith, k .known) in
+      let s = sound-rule w W (g .0) i in
+      let z : at (blockAt w (g .0)) 0 ≡ depthWord w q = rw p at (k .size) in
+      (omega (arith, sound-header w W .few-rules), z, omega (arith, s .positive), s .outputs)
+
+  -- before a character
+  module _ (x : ℕ) where
+    pub character-emits : (g : RuleNo) → suc (g .0) ≡ acceptWord w q → OnCharacter (fromWords w) q x (Emit g) × Fits w q (Emit g)
+    unfolding fromWords
+    character-emits g e =
+        (λ ended store rest log n. step-accept (fromWords w) ended store x rest q log n (g .0) (sym e), rule-fits g (acceptWord w q) e (sound-state w W q b .accept))
+
+    abbrev class : ℕ
+    class = classOf (take (classCount w) (drop 6 w)) x
+
+    pub character-backs : 0 ≡ acceptWord w q → targetWord w q class ≡ 0 → OnCharacter (fromWords w) q x Back
+    unfolding fromWords
+    character-backs e z ended store rest log n = step-back (fromWords w) ended store x rest q log n (sym e) z
+
+    pub character-reads : (p : StateNo) → 0 ≡ acceptWord w q → p .0 ≡ targetWord w q class → p .0 ≢ 0 → OnCharacter (fromWords w) q x (Read p) × Fits w q (Read p)
+    unfolding fromWords
+    character-reads p e z h =
+        let f = sound-state w W q b .target class (sound-class w W x) (λ y. h (z ∙ y)) in
+        (reads (p .0) refl, (omega (arith, f .below), ap (depthWord w) z ∙ f .deeper))
+      where
+        reads : (k : ℕ) → p .0 ≡ k → OnCharacter (fromWords w) q x (Read p)
+        reads zero y = absurd (h y)
+        reads (suc t) y = λ ended store rest log n. rw y (step-read (fromWords w) ended store x rest q log n t (sym e) (sym z ∙ y))
+
+  -- where nothing is unread
+  pub pause-waits : (stored : Bool) → settled (fromWords w) q ≡ false → AtEnd (fromWords w) q stored false Wait
+  pause-waits stored h store log n e = step-wait (fromWords w) store q log n h
+
+  pub pause-emits : (g : RuleNo) → settled (fromWords w) q ≡ true → suc (g .0) ≡ acceptAtEndWord w q →
+      ((stored : Bool) → AtEnd (fromWords w) q stored false (Emit g)) × Fits w q (Emit g)
+  unfolding fromWords
+  pause-emits g h e =
+      let k = settled-both (fromWords w) q (to-T (settled (fromWords w) q) h) in
+      let p : pred (acceptWord w q) ≡ g .0 = omega (arith, k .1, k .2) in
+      (λ stored store log n _. rw (← p) (step-settled (fromWords w) store q log n h), rule-fits g (acceptAtEndWord w q) e (sound-state w W q b .end))
+
+  pub settled-words : (r : Bool) → r ≡ (used (acceptWord w q) && eqb (acceptWord w q) (acceptAtEndWord w q)) → settled (fromWords w) q ≡ r
+  unfolding fromWords
+  settled-words r e = sym e
+
+  pub pause-rule : settled (fromWords w) q ≡ true → acceptAtEndWord w q ≢ 0
+  unfolding fromWords
+  pause-rule h = let k = settled-both (fromWords w) q (to-T (settled (fromWords w) q) h) in omega (arith, k .2)
+
+  pub end-emits : (stored : Bool) (g : RuleNo) → suc (g .0) ≡ acceptAtEndWord w q → AtEnd (fromWords w) q stored true (Emit g) × Fits w q (Emit g)
+  unfolding fromWords
+  end-emits stored g e =
+      (λ store log n _. step-end (fromWords w) store q log n (g .0) (sym e), rule-fits g (acceptAtEndWord w q) e (sound-state w W q b .end))
+
+  pub end-backs : 0 ≡ acceptAtEndWord w q → AtEnd (fromWords w) q true true Back
+  unfolding fromWords
+  end-backs e [] log n h = absurd (subst T h tt)
+  end-backs e (y ∷ store) log n h = step-giveBack (fromWords w) q log n y store (sym e)
+
+  pub end-closes : 0 ≡ acceptAtEndWord w q → AtEnd (fromWords w) q false true Close
+  unfolding fromWords
+  end-closes e [] log n h = step-close (fromWords w) q log n (sym e)
+  end-closes e (y ∷ store) log n h = absurd (subst T (sym h) tt)
+
+-- The store of a text, empty or not.
+
+empty-store : (u : List ℕ) (before after : ℕ) → after ≤ before → isEmpty (take (after - before) (drop before u)) ≡ true
+empty-store u before after h = let z : after - before ≡ 0 = omega arith in rw z refl
+
+some-store : (u : List ℕ) (before after : ℕ) → before < after → after ≤ length u → isEmpty (take (after - before) (drop before u)) ≡ false
+some-store u before after h i =
+    let z : after - before ≡ suc (after - before - 1) = omega arith in
+    rw (z, drop-cons u before 0 (omega arith)) refl
+
+-- The decision, by the place in the text.
+module _ (w u : List ℕ) (ended : Bool) (q before after : ℕ) (v : Move) where
+  pub decides-character : (x : ℕ) → after < length u → x ≡ getD u after 0 → OnCharacter (fromWords w) q x v → Decides w u ended q before after v
+  decides-character x h e f log n =
+      let store = take (after - before) (drop before u) in
+      let p : x ∷ drop (suc after) u ≡ drop after u = ap (λ y. y ∷ drop (suc after) u) e ∙ sym (drop-cons u after 0 h) in
+      subst (λ z. step (fromWords w) ended (standing store z q log n) ≡ stepOf v (standing store z q log n)) p (f ended store (drop (suc after) u) log n)
+
+  decides-none : (stored : Bool) → length u ≤ after → isEmpty (take (after - before) (drop before u)) ≡ not stored →
+      AtEnd (fromWords w) q stored ended v → Decides w u ended q before after v
+  decides-none stored h e f log n =
+      let store = take (after - before) (drop before u) in
+      subst (λ z. step (fromWords w) ended (standing store z q log n) ≡ stepOf v (standing store z q log n)) (sym (drop-of-length-le u h)) (f store log n e)
+
+  pub decides-stored : length u ≤ after → after ≤ length u → before < after → AtEnd (fromWords w) q true ended v → Decides w u ended q before after v
+  decides-stored h i j f = decides-none true h (some-store u before after j i) f
+
+  pub decides-empty : length u ≤ after → after ≤ before → AtEnd (fromWords w) q false ended v → Decides w u ended q before after v
+  decides-empty h i f = decides-none false h (empty-store u before after i) f
+
+  pub decides-pause : length u ≤ after → ((stored : Bool) → AtEnd (fromWords w) q stored ended v) → Decides w u ended q before after v
+  decides-pause h f = by-store (take (after - before) (drop before u)) refl
+    where
+      by-store : (l : List ℕ) → take (after - before) (drop before u) ≡ l → Decides w u ended q before after v
+      by-store [] e = decides-none false h (ap isEmpty e) (f false)
+      by-store (y ∷ l) e = decides-none true h (ap isEmpty e) (f true)
+
+-- A move's places, by the place in the text.
+
+pub within-character : (before after n : ℕ) (v : Move) → before < n → after < n → Within before after n v
+within-character before after n (Emit g) h i = tt
+within-character before after n (Read p) h i = i
+within-character before after n Back h i = h
+within-character before after n Wait h i = tt
+within-character before after n Close h i = tt
+
+pub within-stored : (before after n : ℕ) (v : Move) → before < n → Within 0 1 1 v → Within before after n v
+within-stored before after n (Emit g) h i = tt
+within-stored before after n (Read p) h i = absurd (omega arith)
+within-stored before after n Back h i = h
+within-stored before after n Wait h i = tt
+within-stored before after n Close h i = tt
+
+pub within-none : (before after n : ℕ) (v : Move) → Within 1 1 1 v → Within before after n v
+within-none before after n (Emit g) i = tt
+within-none before after n (Read p) i = absurd (omega arith)
+within-none before after n Back i = absurd (omega arith)
+within-none before after n Wait i = tt
+within-none before after n Close i = tt
+
+-- A run with fuel enough: a step that leads on changes nothing, and one that halts is its end.
+module _ (A : Automaton) (ended : Bool) (most : ℕ) (r : Ended) where
+  abbrev Runs : Configuration → Type 0
+  Runs c = (m : ℕ) → most ≤ m → steps A ended m c ≡ r
+
+  runs-on : (c d : Configuration) → step A ended c ≡ onward d → Runs c → Runs d
+  runs-on c d st h m i = sym (steps-onward A ended m c d st) ∙ h (suc m) (omega arith)
+
+  runs-halt : (c d : Configuration) (s : Status) → step A ended c ≡ halt s d → Runs c → r ≡ record { status = s; final = d }
+  runs-halt c d s st h = sym (h (suc most) (omega arith)) ∙ steps-halt A ended most c d s st
+
+-- Places of a text: the store and what is unread are its parts.
+
+rest-of : (u : List ℕ) (m n : ℕ) → m ≤ n → drop (n - m) (drop m u) ≡ drop n u
+rest-of u m n h = let e : m + (n - m) ≡ n = omega arith in drop-drop (n - m) m u ∙ ap (λ k. drop k u) e
+
+whole-of : (u : List ℕ) (m n : ℕ) → m ≤ n → take (n - m) (drop m u) ++ drop n u ≡ drop m u
+whole-of u m n h = ap (λ l. take (n - m) (drop m u) ++ l) (sym (rest-of u m n h)) ∙ take-append-drop (n - m) (drop m u)
+
+more-of : (u : List ℕ) (m n : ℕ) → m ≤ n → take (n + 1 - m) (drop m u) ≡ take (n - m) (drop m u) ++ take 1 (drop n u)
+more-of u m n h =
+    let e : n + 1 - m ≡ n - m + 1 = omega arith in
+    ap (λ k. take k (drop m u)) e ∙ take-add (n - m) 1 (drop m u) ∙ ap (λ l. take (n - m) (drop m u) ++ take 1 l) (rest-of u m n h)
+
+none-of : (u : List ℕ) (m n : ℕ) → m ≡ n → take (m - n) (drop n u) ≡ []
+none-of u m n h = let e : m - n ≡ 0 = omega arith in ap (λ k. take k (drop n u)) e
+
+-- What an emission adds to a log.
+module _ (write : ℕ → List ℕ → List ℕ) (log : List Emission) (g : ℕ) (word : List ℕ) where
+  abbrev emission : Emission
+  emission = record { group = g; word = word }
+
+  text-one : textOf write (log ++ (emission ∷ [])) ≡ textOf write log ++ write g word
+  unfolding textOf
+  text-one = textOf-append write log (emission ∷ []) ∙ ap (λ l. textOf write log ++ l) (append-nil (write g word))
+
+  covers-one : covered (log ++ (emission ∷ [])) ≡ covered log + length word
+  unfolding covered
+  covers-one = let h : covered (log ++ (emission ∷ [])) ≡ covered log + covered (emission ∷ []) = covered-append log (emission ∷ []) in omega arith
+
+placed-text : (before out after : List ℕ) (n k : ℕ) → n ≤ length before → length out ≡ k → after ≡ take n before ++ out ++ drop (n + k) before →
+    (take (n + k) after ≡ take n before ++ out) × (drop (n + k) after ≡ drop (n + k) before)
+placed-text before out after n k h i e =
+    let z : length (take n before ++ out) ≡ n + k = omega (arith, length-append (take n before) out, length-take-le n before h) in
+    (ap (take (n + k)) e ∙ take-at (take n before ++ out) (drop (n + k) before) (n + k) z, ap (drop (n + k)) e ∙ drop-at (take n before ++ out) (drop (n + k) before) (n + k) z)
+
+-- a group that writes at most E characters has room
+pub turn-room : (w u : List ℕ) (room : ℕ) (now : Ran) → Placed w u room now → now .from < length u → (k : ℕ) → k ≤ expansionWord w → now .count + k ≤ room
+turn-room w u room now P some k few =
+    let z : expansionWord w * (now .from + 1) ≤ expansionWord w * length u = mul-le-mul-left (expansionWord w) (omega arith) in
+    let x : expansionWord w * (now .from + 1) ≡ expansionWord w * now .from + expansionWord w = omega arith in
+    omega (arith, P .written, P .enough)
+
+pub default-words : (w : List ℕ) (b : Bool) → b ≡ eqb (at w 5) 1 → fromWords w .default ≡ b
+unfolding fromWords
+default-words w b e = sym e
+
+pub default-block : (w : List ℕ) → T (sound w) → (b : Bool) → b ≡ eqb (at w 5) 1 → b ≡ true →
+    (at (blockAt w defaultNumber) 0 ≡ 1) × (at (blockAt w defaultNumber) 2 ≤ expansionWord w)
+default-block w W b e t =
+    let s = sound-default w W (eqb→eq (at w 5) 1 (to-T (eqb (at w 5) 1) (sym e ∙ t))) in
+    (omega (arith, s .positive, s .size), s .outputs)
+
+-- One turn, from `old` to `new`.
+module _ (w u : List ℕ) (ended : Bool) (W : T (sound w)) (old : Ran) (before : List ℕ) (P : Placed w u (length before) old) (new : Ran) where
+  abbrev A : Automaton
+  A = fromWords w
+
+  abbrev most : ℕ
+  most = 11 * (length u + 1)
+
+  abbrev stood : List Emission → ℕ → Configuration
+  stood log n = standing (storeOf u old) (drop (old .at) u) (old .state .0) log n
+
+  first-depth : depthWord w 0 ≡ 0
+  first-depth = sound-state w W 0 (sound-header w W .some-state) .first refl
+
+  -- the store is no longer than the longest rule
+  pub shallow : old .at - old .from ≤ 8
+  shallow = omega (arith, P .depth, sound-state w W (old .state .0) (P .state) .shallow, sound-header w W .longest)
+
+  -- the run ended with the old log
+  ended-as : (r : Ended) (G : Going w u ended r old before) (b : Status) (f : Configuration) → r ≡ record { status = b; final = f } → statusOf (new .status) ≡ b →
+      new .state .0 ≡ f .state → storeOf u new ≡ f .store → new .from ≡ old .from → new .count ≡ old .count → new .steps ≡ f .steps → f .log ≡ G .log →
+      Finished w u r new before
+  ended-as r G b f e e₀ e₁ e₂ e₃ e₄ e₅ e₆ =
+      subst (λ z. Finished w u z new before) (sym e) (record {
+        status = e₀;
+        state = e₁;
+        store = e₂;
+        covers = ap covered e₆ ∙ G .covers ∙ sym e₃;
+        count = e₄ ∙ G .count ∙ ap (λ l. length (textOf (fromWords w .write) l)) (sym e₆);
+        text = ap (λ k. take k before) e₄ ∙ G .text ∙ ap (textOf (fromWords w .write)) (sym e₆);
+        steps = e₅;
+      })
+
+  -- *take*
+  module _ (p : StateNo) (st : (log : List Emission) (n : ℕ) → step A ended (stood log n) ≡ stepOf (Read p) (stood log n)) (fits : Fits w (old .state .0) (Read p))
+      (some : old .at < length u) (e₁ : new .state .0 ≡ p .0) (e₂ : new .from ≡ old .from) (e₃ : new .at ≡ old .at + 1) (e₄ : new .count ≡ old .count)
+      (e₅ : new .steps ≡ old .steps + 1) where
+    read-runs : (r : Ended) (log : List Emission) → Runs A ended most r (stood log (old .steps)) →
+        Runs A ended most r (standing (storeOf u new) (drop (new .at) u) (new .state .0) log (new .steps))
+    read-runs r log h =
+        let d : Configuration = standing (storeOf u old ++ take 1 (drop (old .at) u)) (drop 1 (drop (old .at) u)) (p .0) log (old .steps + 1) in
+        let s : storeOf u old ++ take 1 (drop (old .at) u) ≡ storeOf u new =
+        sym (more-of u (old .from) (old .at) (P .order)) ∙ (λ i. take (sym e₃ i - sym e₂ i) (drop (sym e₂ i) u)) in
+        let t : drop 1 (drop (old .at) u) ≡ drop (new .at) u = drop-drop 1 (old .at) u ∙ ap (λ k. drop k u) (sym e₃) in
+        let q : d ≡ standing (storeOf u new) (drop (new .at) u) (new .state .0) log (new .steps) = λ i. standing (s i) (t i) (sym e₁ i) log (sym e₅ i) in
+        subst (Runs A ended most r) q (runs-on A ended most r (stood log (old .steps)) d (st log (old .steps)) h)
+
+    pub onward-read : Onward w u ended (length before) old before false new before
+    onward-read =
+        let i₁ = P .order in
+        let i₂ = P .depth in
+        let i₃ = P .few in
+        let i₄ = P .written in
+        let i₅ = fits .0 in
+        let d : depthWord w (new .state .0) ≡ suc (depthWord w (old .state .0)) = ap (depthWord w) e₁ ∙ fits .1 in
+        let placed : Placed w u (length before) new =
+        record {
+          order = omega arith;
+          inside = omega arith;
+          state = omega arith;
+          depth = omega arith;
+          written = rw (e₂, e₄) i₄;
+          enough = P .enough;
+          short = P .short;
+          few = omega arith;
+        } in (
+          placed,
+          omega (arith, shallow),
+          λ r G. record {
+            log = G .log;
+            runs = read-runs r (G .log) (G .runs);
+            covers = G .covers ∙ sym e₂;
+            count = e₄ ∙ G .count;
+            text = ap (λ k. take k before) e₄ ∙ G .text;
+          },
+        )
+
+  -- group g is written for the next n characters from the store's first on; the state is 0 and the store empty after it
+  module _ (g n : ℕ) (after : List ℕ) (j : ℕ) (e₁ : new .state .0 ≡ 0) (e₂ : new .from ≡ old .from + n) (e₃ : new .at ≡ old .from + n)
+      (e₄ : new .count ≡ old .count + at (blockAt w g) 2) (e₅ : new .steps ≡ old .steps + j)
+      (some : 0 < n) (inside : old .from + n ≤ length u) (cheap : old .at - old .from + j ≤ 11 * n) (ahead : old .at - old .from < 9 * n)
+      (few : at (blockAt w g) 2 ≤ expansionWord w)
+      (wrote : after ≡ take (old .count) before ++ blockOutput (blockAt w g) (take n (drop (old .from) u)) ++ drop (old .count + at (blockAt w g) 2) before)
+      (leads : (r : Ended) (log : List Emission) → Runs A ended most r (stood log (old .steps)) →
+      Runs A ended most r (standing [] (drop (old .from + n) u) 0 (log ++ (record { group = g; word = take n (drop (old .from) u) } ∷ [])) (old .steps + j))) where
+    abbrev word : List ℕ
+    word = take n (drop (old .from) u)
+
+    abbrev k : ℕ
+    k = at (blockAt w g) 2
+
+    room : old .count ≤ length before
+    room =
+        let z : expansionWord w * old .from ≤ expansionWord w * length u = mul-le-mul-left (expansionWord w) (omega arith) in
+        omega (arith, P .written, P .enough)
+
+    text-put : (take (old .count + k) after ≡ take (old .count) before ++ blockOutput (blockAt w g) word) × (drop (old .count + k) after ≡ drop (old .count + k) before)
+    text-put = placed-text before (blockOutput (blockAt w g) word) after (old .count) k room (length-blockOutput (blockAt w g) word) wrote
+
+    pub beyond-emit : Beyond old before new after
+    beyond-emit = (omega arith, rw e₄ (text-put .1))
+
+    emit-placed : Placed w u (length before) new
+    emit-placed =
+        let z : expansionWord w * (old .from + 1) ≤ expansionWord w * (old .from + n) = mul-le-mul-left (expansionWord w) (omega arith) in
+        let y : expansionWord w * new .from ≡ expansionWord w * (old .from + n) = ap (λ x. expansionWord w * x) e₂ in
+        let x : expansionWord w * (old .from + 1) ≡ expansionWord w * old .from + expansionWord w = omega arith in
+        let i₁ = P .written in
+        let i₂ = P .few in
+        let d : depthWord w (new .state .0) ≡ 0 = ap (depthWord w) e₁ ∙ first-depth in
+        record {
+          order = omega arith;
+          inside = omega arith;
+          state = omega (arith, sound-header w W .some-state);
+          depth = omega arith;
+          written = omega arith;
+          enough = P .enough;
+          short = P .short;
+          few = omega arith;
+        }
+
+    emit-going : (r : Ended) → Going w u ended r old before → Going w u ended r new after
+    unfolding fromWords
+    emit-going r G =
+        let log : List Emission = G .log in
+        let later : List Emission = log ++ (record { group = g; word = word } ∷ []) in
+        let s : [] ≡ storeOf u new = sym (none-of u (new .at) (new .from) (e₃ ∙ sym e₂)) in
+        let q : standing [] (drop (old .from + n) u) 0 later (old .steps + j) ≡ standing (storeOf u new) (drop (new .at) u) (new .state .0) later (new .steps) =
+        λ i. standing (s i) (drop (sym e₃ i) u) (sym e₁ i) later (sym e₅ i) in
+        let t : textOf (A .write) later ≡ textOf (A .write) log ++ blockOutput (blockAt w g) word = text-one (A .write) log g word in
+        let size : length (textOf (A .write) later) ≡ length (textOf (A .write) log) + k =
+        ap length t ∙ length-append (textOf (A .write) log) (blockOutput (blockAt w g) word) ∙ ap (λ x. length (textOf (A .write) log) + x) (length-blockOutput (blockAt w g) word) in
+        let long : length word ≡ n = length-take-le n (drop (old .from) u) (omega (arith, length-drop (old .from) u)) in
+        let c₁ = G .covers in
+        let c₂ = G .count in
+        let c₃ = covers-one (A .write) log g word in
+        record {
+          log = later;
+          runs = subst (Runs A ended most r) q (leads r log (G .runs));
+          covers = omega arith;
+          count = omega arith;
+          text = ap (λ x. take x after) e₄ ∙ text-put .0 ∙ ap (λ l. l ++ blockOutput (blockAt w g) word) (G .text) ∙ sym t;
+        }
+
+    pub onward-put : Onward w u ended (length before) old before false new after
+    onward-put = (emit-placed, omega (arith, P .order, P .inside), emit-going)
+
+  -- *emit*
+  module _ (g : RuleNo) (after : List ℕ) (st : (log : List Emission) (n : ℕ) → step A ended (stood log n) ≡ stepOf (Emit g) (stood log n))
+      (fits : Fits w (old .state .0) (Emit g)) (e₁ : new .state .0 ≡ 0) (e₂ : new .from ≡ old .at) (e₃ : new .at ≡ old .at)
+      (e₄ : new .count ≡ old .count + at (blockAt w (g .0)) 2) (e₅ : new .steps ≡ old .steps + 1)
+      (wrote : after ≡ take (old .count) before ++ blockOutput (blockAt w (g .0)) (storeOf u old) ++ drop (old .count + at (blockAt w (g .0)) 2) before) where
+    to-end : old .from + (old .at - old .from) ≡ old .at
+    to-end = omega (arith, P .order)
+
+    emit-leads : (r : Ended) (log : List Emission) → Runs A ended most r (stood log (old .steps)) →
+        Runs A ended most r (standing [] (drop (old .from + (old .at - old .from)) u) 0 (log ++ (record { group = g .0; word = storeOf u old } ∷ [])) (old .steps + 1))
+    emit-leads r log h =
+        let later : List Emission = log ++ (record { group = g .0; word = storeOf u old } ∷ []) in
+        let d : Configuration = standing [] (drop (old .at) u) 0 later (old .steps + 1) in
+        subst (Runs A ended most r) (λ i. standing [] (drop (sym to-end i) u) 0 later (old .steps + 1))
+        (runs-on A ended most r (stood log (old .steps)) d (st log (old .steps)) h)
+
+    pub onward-emit : Onward w u ended (length before) old before false new after × Beyond old before new after
+    onward-emit =
+        let i₁ = fits .2 in
+        let i₂ = P .depth in
+        let n : ℕ = old .at - old .from in
+        let p₁ : 0 < n = omega arith in
+        let p₂ : old .from + n ≤ length u = omega (arith, to-end, P .inside) in
+        let p₃ : n + 1 ≤ 11 * n = omega arith in
+        let p₄ : n < 9 * n = omega arith in
+        let p₅ : new .from ≡ old .from + n = e₂ ∙ sym to-end in
+        let p₆ : new .at ≡ old .from + n = e₃ ∙ sym to-end in
+        (onward-put (g .0) n after 1 e₁ p₅ p₆ e₄ e₅ p₁ p₂ p₃ p₄ (fits .3) wrote emit-leads, beyond-emit (g .0) n after 1 e₁ p₅ p₆ e₄ e₅ p₁ p₂ p₃ p₄ (fits .3) wrote emit-leads)
+
+  -- *back*, where something stands before the end
+  module _ (st : (log : List Emission) (n : ℕ) → step A ended (stood log n) ≡ stepOf Back (stood log n)) (some : old .from < length u) where
+    abbrev y : ℕ
+    y = getD u (old .from) 0
+
+    abbrev v : List ℕ
+    v = drop (old .from + 1) u
+
+    given-back : storeOf u old ++ drop (old .at) u ≡ y ∷ v
+    given-back =
+        let e : suc (old .from) ≡ old .from + 1 = omega arith in
+        whole-of u (old .from) (old .at) (P .order) ∙ drop-cons u (old .from) 0 some ∙ ap (λ k. y ∷ drop k u) e
+
+    abbrev due : List ℕ → List ℕ → List Emission → ℕ → Configuration
+    due store unread log n = record { store = store; unread = unread; state = 0; due = true; log = log; steps = n }
+
+    back-step : (log : List Emission) → step A ended (stood log (old .steps)) ≡ onward (due [] (y ∷ v) log (old .steps + 1))
+    back-step log = st log (old .steps) ∙ ap (λ z. onward (due [] z log (old .steps + 1))) given-back
+
+    module _ (after : List ℕ) (d : A .default ≡ true) (e₁ : new .state .0 ≡ 0) (e₂ : new .from ≡ old .from + 1) (e₃ : new .at ≡ old .from + 1)
+        (e₄ : new .count ≡ old .count + at (blockAt w defaultNumber) 2) (e₅ : new .steps ≡ old .steps + 3)
+        (wrote : after ≡ take (old .count) before ++ blockOutput (blockAt w defaultNumber) (take 1 (drop (old .from) u))
+        ++ drop (old .count + at (blockAt w defaultNumber) 2) before) where
+      default-leads : (r : Ended) (log : List Emission) → Runs A ended most r (stood log (old .steps)) →
+          Runs A ended most r (standing [] v 0 (log ++ (record { group = defaultNumber; word = take 1 (drop (old .from) u) } ∷ [])) (old .steps + 3))
+      default-leads r log h =
+          let s : ℕ = old .steps in
+          let c₁ : Configuration = due [] (y ∷ v) log (s + 1) in
+          let c₂ : Configuration = due (y ∷ []) v log (s + 1 + 1) in
+          let c₃ : Configuration = standing [] v 0 (log ++ (record { group = defaultNumber; word = y ∷ [] } ∷ [])) (s + 1 + 1 + 1) in
+          let one : y ∷ [] ≡ take 1 (drop (old .from) u) = ap (take 1) (sym (drop-cons u (old .from) 0 some)) in
+          let three : s + 1 + 1 + 1 ≡ s + 3 = omega arith in
+          let h₁ : Runs A ended most r c₁ = runs-on A ended most r (stood log s) c₁ (back-step log) h in
+          let h₂ : Runs A ended most r c₂ = runs-on A ended most r c₁ c₂ (due-read A ended (y ∷ v) log (s + 1) d) h₁ in
+          let h₃ : Runs A ended most r c₃ = runs-on A ended most r c₂ c₃ (due-emit A ended v log (s + 1 + 1) y) h₂ in
+          subst (Runs A ended most r) (λ i. standing [] v 0 (log ++ (record { group = defaultNumber; word = one i } ∷ [])) (three i)) h₃
+
+      few-default : at (blockAt w defaultNumber) 2 ≤ expansionWord w
+      unfolding fromWords
+      few-default = sound-default w W (eqb→eq (at w 5) 1 (to-T (eqb (at w 5) 1) d)) .outputs
+
+      pub onward-default : Onward w u ended (length before) old before false new after × Beyond old before new after
+      onward-default =
+          let p₁ : 0 < 1 = omega arith in
+          let p₂ : old .from + 1 ≤ length u = omega arith in
+          let p₃ : old .at - old .from + 3 ≤ 11 * 1 = omega (arith, shallow) in
+          let p₄ : old .at - old .from < 9 * 1 = omega (arith, shallow) in
+          (onward-put defaultNumber 1 after 3 e₁ e₂ e₃ e₄ e₅ p₁ p₂ p₃ p₄ few-default wrote default-leads, beyond-emit defaultNumber 1 after 3 e₁ e₂ e₃ e₄ e₅ p₁ p₂ p₃ p₄ few-default wrote default-leads)
+
+    pub onward-stop : A .default ≡ false → statusOf (new .status) ≡ Stopped → new .state .0 ≡ 0 → new .from ≡ old .from → new .at ≡ old .from →
+        new .count ≡ old .count → new .steps ≡ old .steps + 2 → Onward w u ended (length before) old before true new before
+    onward-stop d e₀ e₁ e₂ e₃ e₄ e₅ r G =
+        let s : ℕ = old .steps in
+        let c₁ : Configuration = due [] (y ∷ v) (G .log) (s + 1) in
+        let f : Configuration = standing [] [] 0 (G .log) (s + 1 + 1) in
+        let h₁ : Runs A ended most r c₁ = runs-on A ended most r (stood (G .log) s) c₁ (back-step (G .log)) (G .runs) in
+        let e : r ≡ record { status = Stopped; final = f } = runs-halt A ended most r c₁ f Stopped (due-stop A ended (y ∷ v) (G .log) (s + 1) d) h₁ in
+        ended-as r G Stopped f e e₀ e₁ (none-of u (new .at) (new .from) (e₃ ∙ sym e₂)) e₂ e₄ (omega arith) refl
+
+  -- the run waits, or closes
+  pub onward-wait : ((log : List Emission) (n : ℕ) → step A ended (stood log n) ≡ stepOf Wait (stood log n)) → statusOf (new .status) ≡ Open →
+      new .state .0 ≡ old .state .0 → new .from ≡ old .from → new .at ≡ old .at → new .count ≡ old .count → new .steps ≡ old .steps →
+      Onward w u ended (length before) old before true new before
+  onward-wait st e₀ e₁ e₂ e₃ e₄ e₅ r G =
+      let f : Configuration = stood (G .log) (old .steps) in
+      let s : storeOf u new ≡ storeOf u old = λ i. take (e₃ i - e₂ i) (drop (e₂ i) u) in
+      ended-as r G Open f (runs-halt A ended most r f f Open (st (G .log) (old .steps)) (G .runs)) e₀ e₁ s e₂ e₄ e₅ refl
+
+  pub onward-close : ((log : List Emission) (n : ℕ) → step A ended (stood log n) ≡ stepOf Close (stood log n)) → statusOf (new .status) ≡ Closed →
+      new .state .0 ≡ 0 → new .from ≡ old .from → new .at ≡ old .from → new .count ≡ old .count → new .steps ≡ old .steps + 1 →
+      Onward w u ended (length before) old before true new before
+  onward-close st e₀ e₁ e₂ e₃ e₄ e₅ r G =
+      let f : Configuration = standing [] [] 0 (G .log) (old .steps + 1) in
+      ended-as r G Closed f (runs-halt A ended most r (stood (G .log) (old .steps)) f Closed (st (G .log) (old .steps)) (G .runs)) e₀ e₁
+      (none-of u (new .at) (new .from) (e₃ ∙ sym e₂)) e₂ e₄ e₅ refl
+
+-- A whole run: done, or placed and going on.
+
+abbrev pub Stage : List ℕ → List ℕ → Bool → ℕ → Ended → Bool → Ran → List ℕ → Type 0
+Stage w u ended room r true now output = Finished w u r now output
+Stage w u ended room r false now output = Placed w u room now × Going w u ended r now output
+
+-- turns that are left at most
+abbrev pub toGo : List ℕ → Bool → Ran → ℕ
+toGo u true now = 0
+toGo u false now = suc (left u now)
+
+pub stage-on : (w u : List ℕ) (ended : Bool) (room : ℕ) (r : Ended) (old new : Ran) (before after : List ℕ) (b : Bool) → Onward w u ended room old before b new after →
+    Going w u ended r old before → Stage w u ended room r b new after × (toGo u b new < suc (left u old))
+stage-on w u ended room r old new before after true f G = (f r G, omega arith)
+stage-on w u ended room r old new before after false f G = ((f .0, f .2 r G), omega (arith, f .1))
+
+-- what a finished run has written
+pub finished-over : (w u : List ℕ) (r : Ended) (now : Ran) (output found : List ℕ) → Finished w u r now output → drop (now .count) output ≡ drop (now .count) found →
+    output ≡ over (textOf (fromWords w .write) (r .final .log)) found
+finished-over w u r now output found F e =
+    sym (take-append-drop (now .count) output) ∙ ap (λ l. l ++ drop (now .count) output) (F .text) ∙ ap (λ l. textOf (fromWords w .write) (r .final .log) ++ l) e
+    ∙ ap (λ k. textOf (fromWords w .write) (r .final .log) ++ drop k found) (F .count)
+
+pub beyond-on : (old new : Ran) (found before after : List ℕ) → drop (old .count) before ≡ drop (old .count) found → Beyond old before new after →
+    drop (new .count) after ≡ drop (new .count) found
+beyond-on old new found before after e b =
+    let z : old .count + (new .count - old .count) ≡ new .count = omega (arith, b .0) in
+    let more : (l : List ℕ) → drop (new .count) l ≡ drop (new .count - old .count) (drop (old .count) l) =
+    λ l. ap (λ k. drop k l) (sym z) ∙ sym (drop-drop (new .count - old .count) (old .count) l) in
+    b .1 ∙ more before ∙ ap (drop (new .count - old .count)) e ∙ sym (more found)
+
+-- where characters lead by targets, the depth is their number
+depth-after : (w : List ℕ) → T (sound w) → (q : ℕ) (h : List ℕ) → q < stateCount w → Leads (fromWords w) q h →
+    (after (fromWords w) q h < stateCount w) × (depthWord w (after (fromWords w) q h) ≡ depthWord w q + length h)
+unfolding after fromWords
+depth-after w W q [] i l = (i, omega arith)
+depth-after w W q (x ∷ h) i l =
+    let f = sound-state w W q i .target (classOf (take (classCount w) (drop 6 w)) x) (sound-class w W x) (l .0) in
+    let k = depth-after w W (targetWord w q (classOf (take (classCount w) (drop 6 w)) x)) h (f .below) (l .1) in
+    (k .0, omega (arith, k .1, f .deeper))
+
+-- The run as it begins: the given characters are the store.
+module _ (w given piece : List ℕ) (ended : Bool) (W : T (sound w)) (q : ℕ) (at-path : T (isAt q (path (fromWords w) 0 given))) (found : List ℕ)
+    (short : length given + length piece ≤ 1099511627784) (enough : expansionWord w * (length given + length piece) ≤ length found) (now : Ran)
+    (e₁ : now .state .0 ≡ q) (e₂ : now .from ≡ 0) (e₃ : now .at ≡ length given) (e₄ : now .count ≡ 0) (e₅ : now .steps ≡ 0) where
+  abbrev u : List ℕ
+  u = given ++ piece
+
+  size : length u ≡ length given + length piece
+  size = length-append given piece
+
+  begin-placed : Placed w u (length found) now
+  begin-placed =
+      let h = sound-header w W in
+      let l = path-leads (fromWords w) 0 q given at-path in
+      let k = depth-after w W 0 given (h .some-state) (l .0) in
+      let z : depthWord w 0 ≡ 0 = sound-state w W 0 (h .some-state) .first refl in
+      let s : now .state .0 ≡ after (fromWords w) 0 given = e₁ ∙ l .1 in
+      let d : depthWord w (now .state .0) ≡ depthWord w 0 + length given = ap (depthWord w) s ∙ k .1 in
+      let b = k .0 in
+      record {
+        order = omega arith;
+        inside = omega (arith, size);
+        state = omega arith;
+        depth = omega arith;
+        written = omega arith;
+        enough = rw size enough;
+        short = omega (arith, size);
+        few = omega arith;
+      }
+
+  begin-going : Going w u ended (run (fromWords w) ended (start given piece q)) now found
+  unfolding covered textOf
+  begin-going =
+      let l = path-leads (fromWords w) 0 q given at-path in
+      let n : now .at - now .from ≡ length given = omega arith in
+      let s : given ≡ storeOf u now = sym (take-append-seam given piece) ∙ (λ i. take (sym n i) (drop (sym e₂ i) u)) in
+      let t : piece ≡ drop (now .at) u = sym (drop-append-seam given piece) ∙ ap (λ k. drop k u) (sym e₃) in
+      record {
+        log = [];
+        runs =
+            λ m h.
+            subst (λ c. steps (fromWords w) ended m c ≡ run (fromWords w) ended (start given piece q))
+            (λ i. standing (s i) (t i) (sym e₁ i) [] (sym e₅ i))
+            (fuel-enough (fromWords w) (longestWord w) (stateCount w) (sound-good w W) (sound-longest w W) ended given piece q (l .0) (l .1) m (omega (arith, size)));
+        covers = sym e₂;
+        count = e₄;
+        text = ap (λ k. take k found) e₄;
+      }
+
+  pub begins : Stage w u ended (length found) (run (fromWords w) ended (start given piece q)) false now found
+  begins = (begin-placed, begin-going)

@@ -1,0 +1,139 @@
+-- `kept::is_sound_session` meets its contract: the first part that fails decides, and past two what the status asks.
+-- The counts' test gives what the parts after it require.
+use mathlib.Core.Bool.{true, cond}
+use mathlib.Core.List.{List}
+use mathlib.Core.Path.{_≡_, sym, ap, _∙_}
+use Prim.Native.Nat.{ℕ, _-_, _≤_}
+use native.Mathlib.Omega.{arith}
+use borrow.Author.Needs.{needs}
+use Rattle.rules.specs.Direct.{limit}
+use Rattle.machine.specs.Sound.{expansionWord}
+use Rattle.machine.proofs.Laws.Words.{sound-header}
+use Rattle.machine.proofs.Laws.Checking.{passed, failed, all-stops, all-next, all-last}
+use Rattle.session.specs.Session.{Session, isOpen, soundSession}
+use Rattle.session.specs.declared.kept.Status.{Status}
+use Rattle.session.specs.declared.kept.Status.the-variants.{Open, Closed, Stopped}
+use Rattle.session.specs.Keeping.{statusOf, sessionOf}
+use Rattle.session.proofs.Laws.Keeping.{countsTest, openTest, endedTest, session-parts, counts-known}
+use Rattle.session.proofs.kept.is_sound_session.Statement.{statement}
+use Rattle.session.proofs.kept.is_sound_session.Tie as tie
+
+-- the words and the session
+abbrev words : tie.After-counts-sound → List ℕ
+words c = c .before .before .before .args .words .now
+
+abbrev session : tie.After-counts-sound → Session
+session c = sessionOf (c .before .before .before .args .t2)
+
+-- the counts are tested by E
+counted : (c : tie.After-counts-sound) → c .counts-sound .result ≡ countsTest (words c) (session c) (expansionWord (words c))
+counted c = c .counts-sound .ensures ∙ ap (countsTest (words c) (session c)) (c .before .expansion .ensures)
+
+past-counts : (c : tie.Else1) → countsTest (words (c .before)) (session (c .before)) (expansionWord (words (c .before))) ≡ true
+past-counts c = passed (counted (c .before)) (c .if1 .left)
+
+small : (c : tie.Else1) → let s = session (c .before) in (s .received ≤ limit) × (s .count ≤ s .received) × (s .count ≤ 8)
+small c = counts-known (words (c .before)) (session (c .before)) _ (past-counts c)
+
+-- what is left of the test past the places not in use, by the status
+past-others : (c : tie.Else2) (x : Status) → let k = c .before .before .before .before .before in
+    k .before .before .before .args .t2 .status ≡ x →
+    soundSession (words k) (session k) ≡ cond (isOpen (statusOf x)) (openTest (words k) (session k)) (endedTest (words k) (session k))
+past-others c x known =
+    let e = c .before .before .before .before in
+    let k = e .before in
+    session-parts (words k) (session k)
+    ∙ all-next _ (past-counts e)
+    ∙ all-next _ (passed (c .before .others-clear .ensures) (c .if2 .left))
+    ∙ all-last _
+    ∙ ap (λ y. cond (isOpen (statusOf y)) (openTest (words k) (session k)) (endedTest (words k) (session k))) known
+
+few : (c : tie.Else2) → let s = session (c .before .before .before .before .before) in s .received - s .count ≤ limit
+few c =
+    let e = c .before .before .before .before in
+    let s = session (e .before) in
+    let b : s .received ≤ limit = small e .0 in
+    omega arith
+
+cast-count : tie.Need-cast-count
+cast-count c = search needs
+
+expansion-requires : tie.Need-expansion-requires
+expansion-requires c κs = sound-header (c .before .args .words .now) (c .before .pre) .long
+
+counts-sound-requires : tie.Need-counts-sound-requires
+counts-sound-requires c κs =
+    let s = c .before .before in
+    omega (arith, sound-header (s .args .words .now) (s .pre) .expansion, c .expansion .ensures)
+
+returns : tie.Need-returns
+returns c = let k = c .before in sym (session-parts (words k) (session k) ∙ all-stops _ (failed (counted k) (c .if1 .taken)))
+
+others-clear-requires : tie.Need-others-clear-requires
+others-clear-requires c κs = (search needs, small (c .before .before) .2)
+
+returns-2 : tie.Need-returns-2
+returns-2 c =
+    let e = c .before .before .before .before in
+    sym
+    (session-parts (words (e .before)) (session (e .before))
+    ∙ all-next _ (past-counts e)
+    ∙ all-stops _ (failed (c .before .others-clear .ensures) (c .if2 .taken)))
+
+sub-consumed : tie.Need-sub-consumed
+sub-consumed c = small (c .before .before .before .before) .1
+
+enum-told : tie.Need-enum-told
+enum-told c = search needs
+
+open-sound-requires : tie.Need-open-sound-requires
+open-sound-requires c κs =
+    let p = c .before .before in
+    let e = p .before .before .before .before in
+    (e .before .before .before .before .pre, small e .2, few p)
+
+enum-told-2 : tie.Need-enum-told-2
+enum-told-2 c = search needs
+
+ended-sound-requires : tie.Need-ended-sound-requires
+ended-sound-requires c κs =
+    let p = c .before .before in
+    (p .before .before .before .before .before .before .before .before .pre, few p)
+
+enum-told-3 : tie.Need-enum-told-3
+enum-told-3 c = search needs
+
+ended-sound-requires-2 : tie.Need-ended-sound-requires-2
+ended-sound-requires-2 c κs =
+    let p = c .before .before in
+    (p .before .before .before .before .before .before .before .before .pre, few p)
+
+returns-3 : tie.Need-returns-3
+returns-3 c = c .open-sound .ensures ∙ sym (past-others (c .before .before .before) Open (c .before .enum-told .given .1))
+
+returns-4 : tie.Need-returns-4
+returns-4 c = c .ended-sound .ensures ∙ sym (past-others (c .before .before .before) Closed (c .before .enum-told2 .given .1))
+
+returns-5 : tie.Need-returns-5
+returns-5 c = c .ended-sound2 .ensures ∙ sym (past-others (c .before .before .before) Stopped (c .before .enum-told3 .given .1))
+
+pub is-sound-session-spec : {M : Type 1} → statement M
+is-sound-session-spec =
+    tie.close
+    (tie.spec
+    cast-count
+    expansion-requires
+    counts-sound-requires
+    returns
+    others-clear-requires
+    returns-2
+    sub-consumed
+    enum-told
+    open-sound-requires
+    enum-told-2
+    ended-sound-requires
+    enum-told-3
+    ended-sound-requires-2
+    returns-3
+    returns-4
+    returns-5)

@@ -1,0 +1,204 @@
+// What is kept between calls, and the test of it.
+use machine::numbers::StateNo;
+use machine::read::class_of;
+use machine::read::expansion;
+use machine::read::longest;
+use machine::read::settled;
+use machine::read::target;
+ghost use mathlib.Core.List.{[], _∷_};
+ghost use mathlib.Core.Path.{_≡_};
+ghost use Prim.Native.Nat.{_+_, _*_, _-_, _≤_, _<_};
+ghost use lib.Dec.{T, eqb, leb};
+ghost use lib.ListN.{length, take, drop};
+ghost use Rattle.lists.specs.Lists.{all};
+ghost use Rattle.lists.specs.Decide.{allOf};
+ghost use Rattle.rules.specs.Direct.{limit};
+ghost use Rattle.machine.specs.Sound.{stateCount, longestWord, sound};
+ghost use Rattle.machine.specs.Automaton.{fromWords};
+ghost use Rattle.session.specs.Session.{path, isAt, soundSession};
+ghost use Rattle.session.specs.Keeping.{sessionOf, pathOf};
+
+pub enum Status {
+    Open,
+    Closed,
+    Stopped,
+}
+
+// "held characters (the store, others 0)": eight places, and how many of them are in use.
+pub struct Session {
+    pub status: Status,
+    pub state: StateNo,
+    pub held: [u16; 8],
+    pub count: u16,
+    pub received: u64,
+    pub produced: u64,
+    pub steps: u64,
+}
+
+// Where characters lead from state 0 by targets, "neither through nor to a state whose go equals its end".
+pub enum Path {
+    To(StateNo),
+    Nowhere,
+}
+
+// "Fresh: open, all 0."
+pub fn fresh() -> Session
+    ensures { λ r. ⌜ sessionOf r ≡ Rattle.session.specs.Session.fresh ⌝ }
+{
+    Session {
+        status: Status::Open,
+        state: StateNo(0),
+        held: [0; 8],
+        count: 0,
+        received: 0,
+        produced: 0,
+        steps: 0,
+    }
+}
+
+// Where one character leads from a state.
+fn next_state(words: &[u16], state: StateNo, c: u16) -> Path
+    requires { ⌜ T (sound (now words)) × (state .0 < stateCount (now words)) ⌝ }
+    ensures { λ r. ⌜ pathOf r ≡ path (fromWords (now (words .entry))) (state .0) (c ∷ []) ⌝ }
+{
+    let next = target(words, state, class_of(words, c));
+    let number = next.0;
+    if number == 0 {
+        return Path::Nowhere;
+    }
+    if settled(words, StateNo(number)) {
+        return Path::Nowhere;
+    }
+    Path::To(StateNo(number))
+}
+
+// Where the first `count` held characters lead.
+fn path_to(words: &[u16], held: &[u16; 8], count: usize) -> Path
+    requires { ⌜ T (sound (now words)) × (length (now held) ≡ 8) × (count ≤ 8) ⌝ }
+    ensures { λ r. ⌜ pathOf r ≡ path (fromWords (now (words .entry))) 0 (take count (now (held .entry))) ⌝ }
+{
+    let mut state = StateNo(0);
+    let mut i: usize = 0;
+    while i < count {
+        match next_state(words, state, held[i]) {
+            Path::Nowhere => {
+                return Path::Nowhere;
+            }
+            Path::To(next) => {
+                state = next;
+            }
+        }
+        i += 1;
+    }
+    Path::To(state)
+}
+
+// The held characters lead to the state.
+fn leads_to(words: &[u16], held: &[u16; 8], count: usize, state: StateNo) -> bool
+    requires { ⌜ T (sound (now words)) × (length (now held) ≡ 8) × (count ≤ 8) ⌝ }
+    ensures { λ r. ⌜ r ≡ isAt (state .0) (path (fromWords (now (words .entry))) 0 (take count (now (held .entry)))) ⌝ }
+{
+    match path_to(words, held, count) {
+        Path::To(end) => state.0 == end.0,
+        Path::Nowhere => false,
+    }
+}
+
+// "held places not in use are 0"
+fn others_clear(held: &[u16; 8], count: usize) -> bool
+    requires { ⌜ (length (now held) ≡ 8) × (count ≤ 8) ⌝ }
+    ensures { λ r. ⌜ r ≡ all (eqb 0) (drop count (now (held .entry))) ⌝ }
+{
+    let mut i = count;
+    while i < 8 {
+        if held[i] != 0 {
+            return false;
+        }
+        i += 1;
+    }
+    true
+}
+
+// "received at most 1,099,511,627,776 and at least held; produced at most E times consumed", and at most eight held.
+fn counts_sound(most: u64, count: u64, received: u64, produced: u64) -> bool
+    requires { ⌜ most ≤ 8 ⌝ }
+    ensures { λ r. ⌜ r ≡ allOf (leb received limit ∷ leb count received ∷ leb produced (most * (received - count)) ∷ leb count 8 ∷ []) ⌝ }
+{
+    if received > 1099511627776 {
+        return false;
+    }
+    if count > received {
+        return false;
+    }
+    if produced > most * (received - count) {
+        return false;
+    }
+    count <= 8
+}
+
+// L + 3, the most steps for a character.
+fn cost(words: &[u16]) -> u64
+    requires { ⌜ T (sound (now words)) ⌝ }
+    ensures { λ r. ⌜ r ≡ longestWord (now (words .entry)) + 3 ⌝ }
+{
+    longest(words) as u64 + 3
+}
+
+// "open, the held characters lead from state 0 to the state, and steps are at most (L + 3) times consumed plus held"
+fn open_sound(words: &[u16], session: Session, consumed: u64) -> bool
+    requires { ⌜ T (sound (now words)) × (session .count ≤ 8) × (consumed ≤ limit) ⌝ }
+    ensures { λ r.
+        ⌜ r ≡ allOf (isAt (session .state .0) (path (fromWords (now (words .entry))) 0 (take (session .count) (session .held)))
+        ∷ leb (session .steps) ((longestWord (now (words .entry)) + 3) * consumed + session .count)
+        ∷ []) ⌝ }
+{
+    let count = session.count;
+    if !leads_to(words, &session.held, count as usize, session.state) {
+        return false;
+    }
+    session.steps <= cost(words) * consumed + count as u64
+}
+
+// "closed or stopped, state 0, nothing held, steps at most (L + 3) times (consumed + 1)"
+fn ended_sound(words: &[u16], session: Session, consumed: u64) -> bool
+    requires { ⌜ T (sound (now words)) × (consumed ≤ limit) ⌝ }
+    ensures { λ r.
+        ⌜ r ≡ allOf (eqb (session .state .0) 0
+        ∷ eqb (session .count) 0
+        ∷ leb (session .steps) ((longestWord (now (words .entry)) + 3) * (consumed + 1))
+        ∷ []) ⌝ }
+{
+    if session.state.0 != 0 {
+        return false;
+    }
+    if session.count != 0 {
+        return false;
+    }
+    session.steps <= cost(words) * (consumed + 1)
+}
+
+// A session as a call finds it is sound.
+pub fn is_sound_session(words: &[u16], session: Session) -> bool
+    requires { ⌜ T (sound (now words)) ⌝ }
+    ensures { λ r. ⌜ r ≡ soundSession (now (words .entry)) (sessionOf session) ⌝ }
+{
+    let count = session.count as u64;
+    if !counts_sound(
+        expansion(words) as u64,
+        count,
+        session.received,
+        session.produced,
+    ) {
+        return false;
+    }
+    if !others_clear(&session.held, count as usize) {
+        return false;
+    }
+    let consumed = session.received - count;
+    let status = session.status;
+    match status {
+        Status::Open => open_sound(words, session, consumed),
+        Status::Closed => ended_sound(words, session, consumed),
+        Status::Stopped => ended_sound(words, session, consumed),
+    }
+}
