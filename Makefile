@@ -1,16 +1,28 @@
-# `make test` is the gate; `make demo` runs the main job on an example; `make bench` times the library.
-.PHONY: test demo bench fmt
+# `make test` is the gate; `make demo` runs the main job on an example; `make tables` builds the tables; `make bench` times the library.
+.PHONY: test demo tables bench fmt
 
 test:
 	@bash .ci/run
 
 demo:
-	@echo "The program is not built yet: table check, direct conversion and compiling are, and are called through the C face."
-	@echo "Document 01's examples run through it in compare/tests/examples.rs, as part of make test."
+	rt staticlib capi
+	@bash examples/demo.sh
+
+# The example in C; `rt staticlib capi` writes the library.
+target/examples/station: examples/c/station.c include/cobbletwill.h target/staticlib/libcapi.a
+	@mkdir -p $(@D)
+	cc -std=c11 -Wall -Wextra -Werror -O2 -Iinclude -o $@ $< target/staticlib/libcapi.a
+
+# The tables of tables/ from their sources.
+tables:
+	@cargo build --release --offline --locked --quiet --manifest-path tools/Cargo.toml --target-dir target/cargo
+	@for folder in tables/*/; do \
+	    echo "$$folder" && target/cargo/release/build_table "$$folder/rules.txt" "$$folder/rules.tab" || exit 1; \
+	done
 
 bench:
 	rt staticlib capi
-	cargo run --release --offline --locked --quiet --manifest-path compare/Cargo.toml --target-dir target/cargo --bin bench
+	cargo run --release --offline --locked --quiet --manifest-path compare/Cargo.toml --target-dir target/cargo --features flex --bin bench
 
 fmt:
 	rt fmt

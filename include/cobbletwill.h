@@ -1,10 +1,10 @@
 /*
- * Cobbletwill: conversion of text under a table of rules, and compiling such a
- * table into machine words.
+ * Cobbletwill: conversion of text under a table of rules, compiling such a table
+ * into machine words, and conversion by the words, piece by piece.
  *
- * Document 01 says what tables, characters, direct conversion and machine words
- * are. The functions are those of the crate `capi`, in target/staticlib/libcapi.a, which
- * `rt staticlib capi` writes for x86-64 Linux.
+ * Document 01 says what tables, characters, direct conversion, machine words and
+ * sessions are. The functions are those of the crate `capi`, in
+ * target/staticlib/libcapi.a, which `rt staticlib capi` writes for x86-64 Linux.
  *
  * A buffer is a pointer to its first element and then its number of elements.
  * With the number 0 the pointer is not used and may be null. A buffer that is
@@ -24,11 +24,11 @@ extern "C" {
 /* The machine words of a table: 19,697 of 16 bits. */
 enum { COBBLETWILL_WORDS = 19697 };
 
-/* The answers of the check, of conversion and of compiling. A refusal answers
- * its number. */
+/* The answers of the check, of conversion, of compiling, of feed and of finish. A
+ * refusal answers its number. */
 enum {
-    /* The table is accepted; the conversion closed at the input's end; the
-     * table is compiled. */
+    /* The table is accepted; the conversion or the session closed at the input's
+     * end; the table is compiled. */
     COBBLETWILL_OK = 0,
 
     /* 1: the table's length is no multiple of 8. */
@@ -53,15 +53,27 @@ enum {
     COBBLETWILL_STATES = 9,
     /* 10: under 19,697 words for compiling. */
     COBBLETWILL_SHORT_WORDS = 10,
-    /* 14: an input above 1,099,511,627,776 characters. */
+    /* 11: under 19,697 words for feed or finish, or words that are not sound. */
+    COBBLETWILL_UNSOUND_WORDS = 11,
+    /* 12: a session that is not sound. */
+    COBBLETWILL_UNSOUND_SESSION = 12,
+    /* 13: a session that is closed or stopped. */
+    COBBLETWILL_ENDED = 13,
+    /* 14: an input above 1,099,511,627,776 characters; for feed, the characters
+     * received with those of the piece. A finish never meets it. */
     COBBLETWILL_TOO_LONG = 14,
     /* 15: an output buffer shorter than E times the input, E being the greatest
-     * number of output characters in a group of the table. 8 times the input
-     * is enough for every table. */
+     * number of output characters in a group of the table; for feed, shorter than
+     * E times the characters held and those of the piece; for finish, shorter
+     * than E times the characters held. 8 times as many is enough for every
+     * table. */
     COBBLETWILL_SHORT_OUTPUT = 15,
 
-    /* No rule fits and there is no default: the conversion stopped. */
-    COBBLETWILL_STOPPED = 64
+    /* No rule fits and there is no default: the conversion or the session
+     * stopped. */
+    COBBLETWILL_STOPPED = 64,
+    /* The call is accepted, and the session waits for more. */
+    COBBLETWILL_OPEN = 65
 };
 
 /*
@@ -128,6 +140,85 @@ uint32_t cobbletwill_compile(const uint8_t *table, size_t table_length,
  * written with the answer 0 are sound.
  */
 uint32_t cobbletwill_is_sound(const uint16_t *words, size_t words_length);
+
+/*
+ * What a feed or a finish leaves for the next one: 48 bytes aligned as a uint64_t,
+ * the fields in this order without gaps, and 2 bytes at the end that are not in
+ * use. With all fields 0 a session is fresh, as
+ *
+ *     cobbletwill_session session = {0};
+ *
+ * makes it. A session belongs to the words that it was fed by. It may be copied,
+ * kept anywhere and lent again later. One that was altered meanwhile is refused
+ * by 12 where it is not sound, and else gone on with as it stands.
+ */
+typedef struct cobbletwill_session {
+    /* Characters received; when stopped, those consumed. At most
+     * 1,099,511,627,776. */
+    uint64_t received;
+    /* Characters written. */
+    uint64_t produced;
+    /* Steps of the machine. */
+    uint64_t steps;
+    /* 0 open, 1 closed, 2 stopped. */
+    uint16_t status;
+    /* The number of the machine's state. */
+    uint16_t state;
+    /* How many characters are held, at most 8. Received less this is consumed. */
+    uint16_t count;
+    /* The characters held: received, but not decided yet. Places from `count` on
+     * are 0. */
+    uint16_t held[8];
+} cobbletwill_session;
+
+/*
+ * Feed. `words` has `words_length` words, which are only read; at most the first
+ * 19,697 are looked at. `session` points to one session. `piece` has
+ * `piece_length` characters of 16 bits: what follows those received so far.
+ * `output` has room for `output_length` characters. `count` points to one number.
+ *
+ * Answers 65 where the session waits for more, or 64 where it stopped, since no
+ * rule fits and there is no default. Then `*session` is the session after the
+ * piece, `*count` is the number of characters written from the start of `output`,
+ * and the rest of `output` is as found. Characters that a pattern may still take
+ * are held and written by a later call.
+ *
+ * Else answers the first refusal in this order, and `*session`, `output` and
+ * `*count` are as found:
+ *
+ *   11  fewer than 19,697 words, or words that are not sound
+ *   12  a session that is not sound for these words, a status above 2 included
+ *   13  a session that is closed or stopped
+ *   14  received plus `piece_length` above 1,099,511,627,776
+ *   15  `output_length` below E times (held plus `piece_length`); E, the greatest
+ *       number of output characters in a group, is words[3]
+ */
+uint32_t cobbletwill_feed(const uint16_t *words, size_t words_length,
+                          cobbletwill_session *session,
+                          const uint16_t *piece, size_t piece_length,
+                          uint16_t *output, size_t output_length,
+                          uint64_t *count);
+
+/*
+ * Finish: the input ends with the characters received. The arguments are those of
+ * feed, without a piece.
+ *
+ * Answers 0 where the session closed at the input's end, or 64 where it stopped
+ * before it. `*session`, `output` and `*count` are then as after a feed, and
+ * nothing is held.
+ *
+ * Else answers the first refusal in this order, and `*session`, `output` and
+ * `*count` are as found:
+ *
+ *   11  fewer than 19,697 words, or words that are not sound
+ *   12  a session that is not sound for these words, a status above 2 included
+ *   13  a session that is closed or stopped
+ *   15  `output_length` below E times held
+ */
+uint32_t cobbletwill_finish(const uint16_t *words, size_t words_length,
+                            cobbletwill_session *session,
+                            uint16_t *output, size_t output_length,
+                            uint64_t *count);
 
 #ifdef __cplusplus
 }

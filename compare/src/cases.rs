@@ -60,6 +60,16 @@ pub fn tables(seed: u64) -> impl Iterator<Item = Vec<u8>> {
     })
 }
 
+/// The tables that a seed gives for sessions, without end: undamaged, and one of
+/// every 32 near the limits of classes and states.
+pub fn sound_tables(seed: u64) -> impl Iterator<Item = Table> {
+    let mut random = Random::new(seed);
+    std::iter::repeat_with(move || match random.below(32) {
+        0 => near_limits(&mut random),
+        _ => base_table(&mut random),
+    })
+}
+
 /// 32 rules, of which each has a first character of its own, every second from
 /// `first`, and then any characters; all are of length 8 but for the last.
 /// From 0 the classes are 64, from 1 they are 65; with a last rule of length 7
@@ -135,7 +145,7 @@ fn base_table(random: &mut Random) -> Table {
 
 /// The length of an output buffer of which so much is needed: too short, exact
 /// or longer.
-fn room(random: &mut Random, needed: usize) -> usize {
+pub fn room(random: &mut Random, needed: usize) -> usize {
     match random.below(8) {
         0 => needed.saturating_sub(1),
         1 => random.below(needed + 1),

@@ -1,7 +1,39 @@
-//! Damaged machine words. The places are those of document 01's layout, written
-//! out.
+//! Damaged machine words and sessions. The places are those of document 01's
+//! layout, written out.
 
+use reference::lengths::MAX_RECEIVED;
 use reference::random::Random;
+
+use crate::face::Session;
+
+/// A part of the machine words.
+#[derive(Clone, Copy, Debug, PartialEq, Eq)]
+pub enum Part {
+    /// The six counts.
+    Header,
+    /// The class starts in use.
+    Starts,
+    /// Depth, end and go of a state.
+    States,
+    /// The targets of a state, used or not.
+    Targets,
+    /// The blocks of the rules and of the default.
+    Blocks,
+    /// The first word after those in use of a sort, or any.
+    Others,
+}
+
+impl Part {
+    /// Every part.
+    pub const ALL: [Part; 6] = [
+        Part::Header,
+        Part::Starts,
+        Part::States,
+        Part::Targets,
+        Part::Blocks,
+        Part::Others,
+    ];
+}
 
 /// Sound words, with the places of their targets.
 pub struct Base {
@@ -16,14 +48,34 @@ impl Base {
         Base { words, targets }
     }
 
-    /// The words with one to three of them changed.
+    /// The words with one to three of them changed, of any part.
     pub fn damaged(&self, random: &mut Random) -> Vec<u16> {
         let mut words = self.words.clone();
         for _ in 0..random.between(1, 3) {
-            let place = self.place(random);
-            words[place] = self.value(random, words[place]);
+            let part = match random.below(12) {
+                0 => Part::Header,
+                1 => Part::Starts,
+                2..=4 => Part::States,
+                5..=6 => Part::Targets,
+                7..=9 => Part::Blocks,
+                _ => Part::Others,
+            };
+            self.damage(random, &mut words, part);
         }
         words
+    }
+
+    /// The words with one word of a part changed.
+    pub fn damaged_in(&self, random: &mut Random, part: Part) -> Vec<u16> {
+        let mut words = self.words.clone();
+        self.damage(random, &mut words, part);
+        words
+    }
+
+    /// Changes a word of a part.
+    fn damage(&self, random: &mut Random, words: &mut [u16], part: Part) {
+        let place = self.place(random, part);
+        words[place] = self.value(random, words[place]);
     }
 
     /// A count of the header.
@@ -31,24 +83,22 @@ impl Base {
         usize::from(self.words[place])
     }
 
-    /// The place of a word of any sort, used or not.
-    fn place(&self, random: &mut Random) -> usize {
+    /// The place of a word of a part.
+    fn place(&self, random: &mut Random, part: Part) -> usize {
         let (states, classes) = (self.count(0), self.count(1));
         let (state, class) = (random.below(states), random.below(classes));
         let rule = random.below(self.count(4) + 1);
         let block = 17222 + 75 * if rule == self.count(4) { 32 } else { rule };
-        match random.below(12) {
-            0 => random.below(6),
-            1 => 6 + class,
-            2 => 70 + 3 * state,
-            3 => 71 + 3 * state,
-            4 => 72 + 3 * state,
-            5 => 838 + 64 * state + class,
-            6 => *random.pick(&self.targets),
-            7 => block + random.below(3),
-            8..=9 => block + 3 + random.below(72),
-            10 => self.beyond(random, state),
-            _ => random.below(self.words.len()),
+        match part {
+            Part::Header => random.below(6),
+            Part::Starts => 6 + class,
+            Part::States => 70 + 3 * state + random.below(3),
+            Part::Targets if random.one_in(2) => 838 + 64 * state + class,
+            Part::Targets => *random.pick(&self.targets),
+            Part::Blocks if random.one_in(3) => block + random.below(3),
+            Part::Blocks => block + 3 + random.below(72),
+            Part::Others if random.one_in(2) => self.beyond(random, state),
+            Part::Others => random.below(self.words.len()),
         }
     }
 
@@ -76,5 +126,146 @@ impl Base {
             6 => random.below(self.count(0) + 1) as u16,
             _ => random.character(),
         }
+    }
+}
+
+/// A field of a session.
+#[derive(Clone, Copy, Debug, PartialEq, Eq)]
+pub enum Field {
+    /// Characters received.
+    Received,
+    /// Characters produced.
+    Produced,
+    /// Steps counted.
+    Steps,
+    /// The status.
+    Status,
+    /// The state number.
+    State,
+    /// The number of held characters.
+    Count,
+    /// A place for a held character.
+    Held(usize),
+}
+
+impl Field {
+    /// Every field.
+    pub fn all() -> impl Iterator<Item = Field> {
+        let single = [
+            Field::Received,
+            Field::Produced,
+            Field::Steps,
+            Field::Status,
+            Field::State,
+            Field::Count,
+        ];
+        single.into_iter().chain((0..8).map(Field::Held))
+    }
+}
+
+/// The session with another value of a field: near, at a limit of document 01 or
+/// one beyond it, small, or any. A limit of produced or steps is sometimes that
+/// of the most characters received.
+pub fn damaged_session(
+    random: &mut Random,
+    words: &[u16],
+    session: &Session,
+    field: Field,
+) -> Session {
+    let mut damaged = *session;
+    if matches!(field, Field::Produced | Field::Steps) && random.one_in(4) {
+        damaged.received = MAX_RECEIVED - random.below(3) as u64;
+    }
+    let limits = Limits::of(words, &damaged);
+    match field {
+        Field::Received => damaged.received = received(random, session),
+        Field::Produced => damaged.produced = large(random, session.produced, limits.produced),
+        Field::Steps => damaged.steps = large(random, session.steps, limits.steps),
+        Field::Status => damaged.status = small(random, session.status, 3),
+        Field::State => damaged.state = small(random, session.state, words[0]),
+        Field::Count => damaged.count = small(random, session.count, 8),
+        Field::Held(place) => {
+            let start = words[6 + random.below(usize::from(words[1]))];
+            damaged.held[place] = small(random, session.held[place], start);
+        }
+    }
+    damaged
+}
+
+/// An open session with one character more, which a target of its state takes:
+/// sound but where the go of the target equals its end. None if the state has no
+/// target or nothing more can be held.
+pub fn further(random: &mut Random, words: &[u16], session: &Session) -> Option<Session> {
+    let state = usize::from(session.state);
+    let classes: Vec<usize> = (0..usize::from(words[1]))
+        .filter(|class| words[838 + 64 * state + class] != 0)
+        .collect();
+    if classes.is_empty() || session.status != 0 {
+        return None;
+    }
+    let class = *random.pick(&classes);
+    let mut further = *session;
+    *further.held.get_mut(usize::from(session.count))? = words[6 + class];
+    further.count += 1;
+    further.received += 1;
+    further.steps += 1;
+    further.state = words[838 + 64 * state + class];
+    Some(further)
+}
+
+/// The limits of a session's counts, those of steps and produced by the
+/// characters that it has consumed.
+struct Limits {
+    produced: u64,
+    steps: u64,
+}
+
+impl Limits {
+    /// "Produced at most E times consumed; steps at most (L + 3) times consumed
+    /// plus held", closed or stopped "(L + 3) times (consumed + 1)".
+    fn of(words: &[u16], session: &Session) -> Limits {
+        let [longest, most_outputs] = [words[2], words[3]].map(u64::from);
+        let held = u64::from(session.count);
+        let consumed = session.received - held;
+        Limits {
+            produced: most_outputs * consumed,
+            steps: match session.status {
+                0 => (longest + 3) * consumed + held,
+                _ => (longest + 3) * (consumed + 1),
+            },
+        }
+    }
+}
+
+/// Another number of characters received: held is the least, and those near the
+/// greatest leave no room for a piece.
+fn received(random: &mut Random, session: &Session) -> u64 {
+    let near_greatest = MAX_RECEIVED - random.below(50) as u64;
+    let limit = *random.pick(&[u64::from(session.count), MAX_RECEIVED, near_greatest]);
+    large(random, session.received, limit)
+}
+
+/// Another value of a count: near, at a limit or one beside it, or any.
+fn large(random: &mut Random, found: u64, limit: u64) -> u64 {
+    match random.below(8) {
+        0 => found.wrapping_add(1),
+        1 => found.wrapping_sub(1),
+        2..=3 => limit,
+        4..=5 => limit.wrapping_add(1),
+        6 => limit.wrapping_sub(1),
+        _ => random.number(),
+    }
+}
+
+/// Another value of a word of a session: near, at a limit or one beside it, below
+/// it, or any.
+fn small(random: &mut Random, found: u16, limit: u16) -> u16 {
+    match random.below(8) {
+        0..=1 => found.wrapping_add(1),
+        2 => found.wrapping_sub(1),
+        3 => limit,
+        4 => limit.wrapping_add(1),
+        5..=6 => random.below(usize::from(limit) + 1) as u16,
+        _ => random.character(),
     }
 }

@@ -1,10 +1,13 @@
-//! Every example of document 01 that direct conversion has, through the C face,
-//! with its answers copied from the document.
+//! Every example of document 01 through the C face, by direct conversion and by
+//! feed and finish, with its answers copied from the document.
 
+use compare::calls::{by_library, fed, roomy_feed, Left, ROOMY_FINISH};
 use compare::cases::pattern;
-use compare::face::{check, check_null, convert, convert_null, converted, OK, STOPPED};
+use compare::face::{check, convert, converted};
+use compare::face::{compile, Session, OK, OPEN, STOPPED};
 use reference::builder::{characters, TableBuilder};
 use reference::samples::{t1, t1_with, t2, t3, t3_with_default};
+use reference::words::WORDS;
 
 /// Converts an input into a long buffer and looks at all that the call leaves:
 /// the answer, the place, the count, the text and the rest of the buffer.
@@ -172,16 +175,6 @@ fn empty_buffers() {
 }
 
 #[test]
-fn empty_buffers_may_have_null_pointers() {
-    let (mut place, mut count) = (17, 19);
-    assert_eq!(check_null(), 5);
-    assert_eq!(convert_null(&[], &mut place, &mut count), 5);
-    assert_eq!((place, count), (17, 19));
-    assert_eq!(convert_null(&t1(), &mut place, &mut count), OK);
-    assert_eq!((place, count), (0, 0));
-}
-
-#[test]
 fn a_table_without_output_writes_nothing_into_an_empty_buffer() {
     let table = rule().bytes();
     let (mut place, mut count) = (17, 19);
@@ -195,4 +188,98 @@ fn a_table_without_output_writes_nothing_into_an_empty_buffer() {
         STOPPED
     );
     assert_eq!((place, count), (1, 0));
+}
+
+/// The machine words of a table.
+fn machine(table: &[u8]) -> Vec<u16> {
+    let mut words = vec![0; WORDS];
+    assert_eq!(compile(table, &mut words), OK);
+    words
+}
+
+/// Feeds a piece.
+fn feed(words: &[u16], session: Session, piece: &str) -> Left {
+    by_library(words, session, &roomy_feed(&characters(piece)))
+}
+
+/// What feeds of the pieces and a finish come to: the status, the joined outputs,
+/// the characters consumed and the steps.
+fn fed_text(table: &[u8], pieces: &[&str]) -> (u16, String, u64, u64) {
+    let pieces: Vec<Vec<u16>> = pieces.iter().map(|piece| characters(piece)).collect();
+    let (session, text) = fed(&machine(table), pieces.iter().map(Vec::as_slice));
+    let text = String::from_utf16(&text).expect("the examples write text");
+    (session.status, text, session.received, session.steps)
+}
+
+/// An input that is closed, fed whole, in single characters and with empty pieces
+/// between them.
+fn expect_fed(table: &[u8], input: &str, text: &str, steps: u64) {
+    expect_fed_to(table, input, (1, text, input.len(), steps));
+}
+
+/// As [`expect_fed`], to any end.
+fn expect_fed_to(table: &[u8], input: &str, expected: (u16, &str, usize, u64)) {
+    let (status, text, consumed, steps) = expected;
+    let expected = (status, text.to_string(), consumed as u64, steps);
+    let single: Vec<&str> = (0..input.len())
+        .map(|place| &input[place..=place])
+        .collect();
+    let spaced: Vec<&str> = single.iter().flat_map(|&piece| [piece, ""]).collect();
+    for pieces in [&[input], &single[..], &spaced[..]] {
+        assert_eq!(fed_text(table, pieces), expected, "{pieces:?}");
+    }
+}
+
+#[test]
+fn the_lines_marked_p_by_feed_and_finish() {
+    expect_fed(&t1(), "&&#00;&#38;&#", "&&#00;&&#", 20);
+    expect_fed(&t1(), "", "", 1);
+    expect_fed(&t1(), "&#", "&#", 4);
+    expect_fed(&t1(), "&#4", "&#4", 13);
+    expect_fed(&t2(), "a", "X", 3);
+    expect_fed(&t2(), "aa", "YX", 5);
+    expect_fed_to(&t2(), "ab", (2, "Y", 1, 4));
+    expect_fed(&t3(), "aba", "1a", 8);
+}
+
+#[test]
+fn the_programs_example_by_feed_and_finish() {
+    // `end 6 10`.
+    expect_fed(&t1(), "A&#38;", "A&", 10);
+}
+
+#[test]
+fn where_compilers_of_this_kind_slip() {
+    // Looking only at the lowest rule of a state: YX is right.
+    assert_eq!(fed_text(&t2(), &["a", "a"]).1, "YX");
+    // Preferring the longest match: `1a`, not 2.
+    assert_eq!(fed_text(&t3(), &["a", "b", "a"]).1, "1a");
+    // Treating a piece's end as the input's end: `&#` is held, and is the
+    // beginning of a match. 10 × 51 + 56 - 528 is 38, `&`.
+    let words = machine(&t1());
+    let first = feed(&words, Session::FRESH, "&#");
+    assert_eq!((first.code, first.text()), (OPEN, &[][..]));
+    assert_eq!(first.session.held[..2], characters("&#"));
+    let second = feed(&words, first.session, "38;");
+    assert_eq!((second.code, second.text()), (OPEN, &[38][..]));
+    assert_eq!(second.session.count, 0);
+    assert_eq!(fed_text(&t1(), &["&#", "38;"]).1, "&");
+    // After a rollback, skipping all the characters given back instead of one.
+    assert_eq!(fed_text(&t1(), &["&", "&#", "65;"]).1, "&A");
+}
+
+#[test]
+fn a_feed_writes_as_soon_as_no_pattern_may_go_on() {
+    // T2 `ab`: `a` waits for what follows it; the `b` stops the session.
+    let words = machine(&t2());
+    let first = feed(&words, Session::FRESH, "a");
+    assert_eq!((first.code, first.text()), (OPEN, &[][..]));
+    let second = feed(&words, first.session, "b");
+    assert_eq!(
+        (second.code, second.text()),
+        (STOPPED, &characters("Y")[..])
+    );
+    assert_eq!((second.session.received, second.session.steps), (1, 4));
+    assert_eq!(feed(&words, second.session, "a").code, 13);
+    assert_eq!(by_library(&words, second.session, &ROOMY_FINISH).code, 13);
 }

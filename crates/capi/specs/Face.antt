@@ -1,8 +1,8 @@
 -- What the C functions answer and leave for each outcome of the table check, compiling, direct conversion and the test of words.
 use mathlib.Core.Bool.{Bool, cond}
 use Prim.Native.Nat.{ℕ}
-use Rattle.rules.specs.Refusal.{Outcome, refused, accepted}
-use Rattle.rules.specs.Direct.{Converted}
+use Rattle.meaning.specs.Refusal.{Outcome, refused, accepted}
+use Rattle.meaning.specs.Direct.{Converted}
 
 -- 0 for a table that the check or compiling accepts; "A refusal answers its number"
 abbrev pub checkCode : Outcome (Unit {0}) → ℕ

@@ -1,1 +1,3 @@
 pub mod Face
+pub mod Sessions
+pub mod Claims

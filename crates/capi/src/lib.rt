@@ -1,8 +1,10 @@
 // The C face: each answer as a number, place and count through pointers. include/cobbletwill.h declares these functions.
+pub mod sessions;
+
 ghost use mathlib.Core.Path.{_≡_};
-ghost use Rattle.rules.specs.Direct.{checked, direct};
-ghost use Rattle.machine.specs.Compile as Spec;
-ghost use Rattle.machine.specs.Sound.{sound};
+ghost use Rattle.meaning.specs.Direct.{checked, direct};
+ghost use Rattle.automaton.specs.Compile as Spec;
+ghost use Rattle.automaton.specs.Sound.{sound};
 ghost use Rattle.capi.specs.Face.{checkCode, codeOf, placeOf, countOf, soundCode};
 use machine::compile::Compiled;
 use machine::compile::compile;

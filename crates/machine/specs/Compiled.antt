@@ -6,14 +6,14 @@ use lib.Dec.{ltb}
 use lib.ListN.{length, drop}
 use Rattle.lists.specs.Lists.{flatMap, pad}
 use Rattle.lists.specs.Decide.{select}
-use Rattle.rules.specs.Refusal.{Outcome, refused, accepted}
-use Rattle.rules.specs.Table.{Table}
-use Rattle.rules.specs.Block.{at, bit}
-use Rattle.rules.specs.Flat.{tableAt, expansionAt}
-use Rattle.machine.specs.Classes.{starts}
-use Rattle.machine.specs.States.{states}
-use Rattle.machine.specs.Layout.{wordCount, stateWords, targetWords}
-use Rattle.machine.specs.Compile.{CompileOutcome}
+use Rattle.meaning.specs.Refusal.{Outcome, refused, accepted}
+use Rattle.meaning.specs.Table.{Table}
+use Rattle.meaning.specs.Block.{at, bit}
+use Rattle.meaning.specs.Flat.{tableAt, expansionAt}
+use Rattle.automaton.specs.Classes.{starts}
+use Rattle.automaton.specs.States.{states}
+use Rattle.automaton.specs.Layout.{wordCount, stateWords, targetWords}
+use Rattle.automaton.specs.Compile.{CompileOutcome}
 use Rattle.machine.specs.declared.compile.Compiled.{Compiled}
 use Rattle.machine.specs.declared.compile.Compiled.the-variants.{Accepted, Refused}
 

@@ -6,10 +6,10 @@ ghost use Prim.Native.Nat.{_+_, _-_, _*_, _≤_, _<_};
 ghost use lib.Dec.{eqb, ltb};
 ghost use lib.ListN.{length, take, drop};
 ghost use Rattle.lists.specs.Lists.{flatMap, pad};
-ghost use Rattle.rules.specs.Block.{at};
-ghost use Rattle.rules.specs.Flat.{rangesAt, patternAt, tableAt, Flat};
-ghost use Rattle.machine.specs.Classes.{edges, starts};
-ghost use Rattle.machine.specs.Gathered.{placeIn, rangeFrom, Gathers, Gathered};
+ghost use Rattle.meaning.specs.Block.{at};
+ghost use Rattle.meaning.specs.Flat.{rangesAt, patternAt, tableAt, Flat};
+ghost use Rattle.automaton.specs.Classes.{edges, starts};
+ghost use Rattle.automaton.specs.Gathered.{placeIn, rangeFrom, Gathers, Gathered};
 
 // The place of `start` among the `count` rising words from word 6 on.
 fn place_of(words: &[u16], count: usize, start: u16) -> usize

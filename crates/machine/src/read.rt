@@ -9,10 +9,10 @@ ghost use mathlib.Core.List.{_++_};
 ghost use Prim.Native.Nat.{_+_, _≤_, _<_};
 ghost use lib.Dec.{T, eqb};
 ghost use lib.ListN.{length, take, drop};
-ghost use Rattle.rules.specs.Block.{at, blockOutput};
-ghost use Rattle.machine.specs.Classes.{classOf};
-ghost use Rattle.machine.specs.Layout.{wordCount};
-ghost use Rattle.machine.specs.Sound.{classCount, longestWord, expansionWord, acceptAtEndWord, acceptWord, targetWord, blockAt, used, sound};
+ghost use Rattle.meaning.specs.Block.{at, blockOutput};
+ghost use Rattle.automaton.specs.Classes.{classOf};
+ghost use Rattle.automaton.specs.Layout.{wordCount};
+ghost use Rattle.automaton.specs.Sound.{classCount, longestWord, expansionWord, acceptAtEndWord, acceptWord, targetWord, blockAt, used, sound};
 ghost use Rattle.machine.specs.Readings.{wordOf};
 
 // The rule that a state accepts, or nothing.

@@ -6,11 +6,11 @@ ghost use Prim.Native.Nat.{ℕ, _+_, _*_, _^_, _≤_, _<_};
 ghost use lib.Dec.{eqb, ltb};
 ghost use lib.ListN.{length};
 ghost use Rattle.lists.specs.Lists.{filter, upTo};
-ghost use Rattle.rules.specs.Table.{inRanges};
-ghost use Rattle.rules.specs.Block.{at};
-ghost use Rattle.rules.specs.Flat.{Flat, rangesAt, tableAt};
-ghost use Rattle.machine.specs.States.{firstNumber, longerRules, acceptOf, acceptAtEndOf};
-ghost use Rattle.machine.specs.Build.{membersFrom, stateOf};
+ghost use Rattle.meaning.specs.Table.{inRanges};
+ghost use Rattle.meaning.specs.Block.{at};
+ghost use Rattle.meaning.specs.Flat.{Flat, rangesAt, tableAt};
+ghost use Rattle.automaton.specs.States.{firstNumber, longerRules, acceptOf, acceptAtEndOf};
+ghost use Rattle.automaton.specs.Build.{membersFrom, stateOf};
 
 // The set of all rules.
 pub fn all_rules(rules: usize) -> u32

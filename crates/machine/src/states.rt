@@ -6,13 +6,13 @@ ghost use Prim.Native.Nat.{ℕ, suc, _+_, _*_, _^_, _≤_, _<_};
 ghost use lib.Dec.{ltb};
 ghost use lib.ListN.{length, getD, take, drop};
 ghost use Rattle.lists.specs.Lists.{flatMap, pad};
-ghost use Rattle.rules.specs.Block.{at};
-ghost use Rattle.rules.specs.Flat.{Flat, tableAt};
-ghost use Rattle.machine.specs.Classes.{starts};
-ghost use Rattle.machine.specs.States.{initial, acceptOf, states};
-ghost use Rattle.machine.specs.Layout.{stateWords, targetWords};
-ghost use Rattle.machine.specs.Build.{stateOf, numberIn, statesAt};
-ghost use Rattle.machine.specs.Noted.{NotedAt, Kept, Onward};
+ghost use Rattle.meaning.specs.Block.{at};
+ghost use Rattle.meaning.specs.Flat.{Flat, tableAt};
+ghost use Rattle.automaton.specs.Classes.{starts};
+ghost use Rattle.automaton.specs.States.{initial, acceptOf, states};
+ghost use Rattle.automaton.specs.Layout.{stateWords, targetWords};
+ghost use Rattle.automaton.specs.Build.{stateOf, numberIn, statesAt};
+ghost use Rattle.automaton.specs.Noted.{NotedAt, Kept, Onward};
 
 // The number of the state with this depth and set, or the count where it is not there yet. The states before `from` have other depths.
 fn find_state(

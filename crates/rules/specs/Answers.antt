@@ -8,12 +8,12 @@ use lib.Dec.{eqb}
 use lib.ListN.{length}
 use Rattle.lists.specs.Lists.{isSome}
 use Rattle.lists.specs.Decide.{select}
-use Rattle.rules.specs.Refusal.{Outcome, refused, accepted}
-use Rattle.rules.specs.Record as Spec
-use Rattle.rules.specs.Table.{Table}
-use Rattle.rules.specs.Direct.{Converted}
+use Rattle.meaning.specs.Refusal.{Outcome, refused, accepted}
+use Rattle.meaning.specs.Record as Spec
+use Rattle.meaning.specs.Table.{Table}
+use Rattle.meaning.specs.Direct.{Converted}
 use Rattle.rules.specs.Summary.{gap}
-use Rattle.rules.specs.Flat.{slotWords, rangeWords, blockWords}
+use Rattle.meaning.specs.Flat.{slotWords, rangeWords, blockWords}
 use Rattle.rules.specs.declared.record.Record.{Record}
 use Rattle.rules.specs.declared.record.Record.the-variants.{Rule, Range, Output, Term, Default, Bad}
 use Rattle.rules.specs.declared.reader.Reader.{Reader}

@@ -7,10 +7,10 @@ use Prim.Native.Nat.{ℕ, zero, suc, pred, _+_, _*_, _%_, _≤_, _<_}
 use lib.Dec.{T, eqb, leb, ltb}
 use lib.ListN.{length, take, drop, set}
 use Rattle.lists.specs.Decide.{select}
-use Rattle.rules.specs.Refusal.{Outcome, refused, accepted}
-use Rattle.rules.specs.Table.{Range, defaultNumber}
-use Rattle.rules.specs.Block.{bit}
-use Rattle.rules.specs.Record.{Record, rule, range, output, term, default, decode}
+use Rattle.meaning.specs.Refusal.{Outcome, refused, accepted}
+use Rattle.meaning.specs.Table.{Range, defaultNumber}
+use Rattle.meaning.specs.Block.{bit}
+use Rattle.meaning.specs.Record.{Record, rule, range, output, term, default, decode}
 use Rattle.rules.specs.declared.reader.Reader.{Reader}
 
 -- nothing read yet; what is said of the last group is said of one that takes every character

@@ -3,7 +3,7 @@ ghost use mathlib.Core.Path.{_≡_};
 ghost use mathlib.Core.List.{_++_};
 ghost use Prim.Native.Nat.{_+_, _*_, _%_, _≤_, _<_};
 ghost use lib.ListN.{length, take, drop};
-ghost use Rattle.rules.specs.Block.{at, wordSum, blockOutput};
+ghost use Rattle.meaning.specs.Block.{at, wordSum, blockOutput};
 
 // a * c, modulo 65536.
 pub fn wrapping_product(a: u16, c: u16) -> u16

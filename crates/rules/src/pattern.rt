@@ -5,11 +5,11 @@ ghost use Prim.Native.Nat.{ℕ, _+_, _*_, _≤_, _<_};
 ghost use lib.Dec.{leb};
 ghost use lib.ListN.{length, take, drop};
 ghost use Rattle.lists.specs.Lists.{tabFrom};
-ghost use Rattle.rules.specs.Table.{inRanges};
-ghost use Rattle.rules.specs.Block.{at};
-ghost use Rattle.rules.specs.Value.{fitsWord};
-ghost use Rattle.rules.specs.Meaning.{fits, choose};
-ghost use Rattle.rules.specs.Flat.{rangesAt, groupAt, tableAt, Flat};
+ghost use Rattle.meaning.specs.Table.{inRanges};
+ghost use Rattle.meaning.specs.Block.{at};
+ghost use Rattle.meaning.specs.Value.{fitsWord};
+ghost use Rattle.meaning.specs.Meaning.{fits, choose};
+ghost use Rattle.meaning.specs.Flat.{rangesAt, groupAt, tableAt, Flat};
 ghost use Rattle.rules.specs.Answers.{choiceOf};
 
 // The number of the group chosen, or nothing where no rule fits and there is no default.

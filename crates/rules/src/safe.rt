@@ -6,10 +6,10 @@ ghost use lib.IntN.{pos, subℕ, _+ℤ_, _*ℤ_};
 ghost use lib.ListN.{length, take, drop};
 ghost use lib.Signed.{nonNeg};
 ghost use mathlib.Core.List.{map};
-ghost use Rattle.rules.specs.Block.{at};
-ghost use Rattle.rules.specs.Reader.{signed};
-ghost use Rattle.rules.specs.Value.{dot, lowestOf, highestOf, extreme, safeOutput};
-ghost use Rattle.rules.specs.Flat.{Flat, rangesAt, patternAt, outputAt, safeGroupAt, safeAt};
+ghost use Rattle.meaning.specs.Block.{at};
+ghost use Rattle.meaning.specs.Reader.{signed};
+ghost use Rattle.meaning.specs.Value.{dot, lowestOf, highestOf, extreme, safeOutput};
+ghost use Rattle.meaning.specs.Flat.{Flat, rangesAt, patternAt, outputAt, safeGroupAt, safeAt};
 
 // A number that may be negative: `plus` less `minus`.
 pub struct Difference {

@@ -7,12 +7,12 @@ use Rattle.session.specs.declared.kept.Session.{Session}
 use Rattle.session.specs.declared.kept.Path.{Path}
 use Rattle.session.specs.declared.kept.Path.the-variants.{To, Nowhere}
 
-abbrev pub statusOf : Status → Rattle.session.specs.Machine.Status
-statusOf Kept.Open = Rattle.session.specs.Machine.Open
-statusOf Kept.Closed = Rattle.session.specs.Machine.Closed
-statusOf Kept.Stopped = Rattle.session.specs.Machine.Stopped
+abbrev pub statusOf : Status → Rattle.reckoning.specs.Machine.Status
+statusOf Kept.Open = Rattle.reckoning.specs.Machine.Open
+statusOf Kept.Closed = Rattle.reckoning.specs.Machine.Closed
+statusOf Kept.Stopped = Rattle.reckoning.specs.Machine.Stopped
 
-abbrev pub sessionOf : Session → Rattle.session.specs.Session.Session
+abbrev pub sessionOf : Session → Rattle.reckoning.specs.Session.Session
 sessionOf s =
     record {
       status = statusOf (s .status);

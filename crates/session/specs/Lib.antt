@@ -1,8 +1,4 @@
-pub mod Machine
-pub mod Session
-pub mod Calls
-pub mod Reckoning
-pub mod Claims
-pub mod Examples
 pub mod Keeping
 pub mod Running
+pub mod Contracts
+pub mod Demand3

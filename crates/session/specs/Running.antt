@@ -1,19 +1,28 @@
 -- The run over machine words as it is kept on the way: where the store lies in the text, and what the machine does next.
-use mathlib.Core.Bool.{Bool, true, false, not}
+use mathlib.Core.Bool.{Bool, true, false, _&&_, cond}
 use mathlib.Core.List.{List, [], _∷_}
 use mathlib.Core.Path.{_≡_}
 use Prim.Native.Nat.{ℕ, suc, _+_, _*_, _-_, _≤_, _<_}
-use lib.ListN.{length, take, drop}
-use Rattle.lists.specs.Lists.{isEmpty}
-use Rattle.rules.specs.Meaning.{Emission, textOf, covered}
-use Rattle.rules.specs.Block.{at}
-use Rattle.machine.specs.Sound.{expansionWord, stateCount, depthWord, blockAt}
-use Rattle.machine.specs.Automaton.{Automaton, fromWords}
-use Rattle.session.specs.Machine.{Configuration, Step, Open, Closed, halt, emit, read, rollBack, end, step, Ended, steps}
+use lib.Dec.{eqb}
+use lib.ListN.{length, getD, take, drop}
+use Rattle.meaning.specs.Meaning.{Emission, textOf, covered}
+use Rattle.meaning.specs.Block.{at}
+use Rattle.automaton.specs.Classes.{classOf}
+use Rattle.automaton.specs.Sound.{expansionWord, classCount, stateCount, depthWord, acceptWord, acceptAtEndWord, used, blockAt}
+use Rattle.automaton.specs.Automaton.{fromWords}
+use Rattle.reckoning.specs.Machine.{Configuration, Step, Status, Open, Closed, halt, emit, read, rollBack, end, step, Ended, steps}
 use Rattle.session.specs.Keeping.{statusOf}
-use Rattle.session.specs.declared.run.Move.{Move}
-use Rattle.session.specs.declared.run.Move.the-variants.{Emit, Read, Back, Wait, Close}
+use Rattle.machine.specs.declared.numbers.RuleNo.{RuleNo}
+use Rattle.machine.specs.declared.numbers.StateNo.{StateNo}
+use Rattle.session.specs.declared.kept.Status.the-variants as Kept
 use Rattle.session.specs.declared.run.Ran.{Ran}
+use Rattle.session.specs.declared.run.Ahead.{Ahead}
+
+-- what the machine does next: it writes a rule, reads into a state, rolls back, waits or closes
+pub data Move : Type 0 where
+  Emit : RuleNo → Move
+  Read : StateNo → Move
+  Back Wait Close : Move
 
 -- the part of those given back if not empty, else of the piece
 abbrev pub firstOf : List ℕ → List ℕ → List ℕ
@@ -32,18 +41,6 @@ stepOf Back c = rollBack c
 stepOf Wait c = halt Open c
 stepOf Close c = end Closed c
 
--- the move is the machine's step in state q before the character x, whatever the store and the rest
-abbrev pub OnCharacter : Automaton → ℕ → ℕ → Move → Type 0
-OnCharacter m q x v =
-    (ended : Bool) (store rest : List ℕ) (log : List Emission) (n : ℕ) →
-    step m ended (standing store (x ∷ rest) q log n) ≡ stepOf v (standing store (x ∷ rest) q log n)
-
--- the move is the machine's step in state q where nothing is unread; stored says whether the store holds something
-abbrev pub AtEnd : Automaton → ℕ → Bool → Bool → Move → Type 0
-AtEnd m q stored ended v =
-    (store : List ℕ) (log : List Emission) (n : ℕ) → isEmpty store ≡ not stored →
-    step m ended (standing store [] q log n) ≡ stepOf v (standing store [] q log n)
-
 -- a rule that is written takes as many characters as state q is deep, and a state that is read into lies one deeper
 abbrev pub Fits : List ℕ → ℕ → Move → Type 0
 Fits w q (Emit g) = (g .0 < 32) × (at (blockAt w (g .0)) 0 ≡ depthWord w q) × (1 ≤ depthWord w q) × (at (blockAt w (g .0)) 2 ≤ expansionWord w)
@@ -51,14 +48,6 @@ Fits w q (Read p) = (p .0 < stateCount w) × (depthWord w (p .0) ≡ suc (depthW
 Fits w q Back = Unit {0}
 Fits w q Wait = Unit {0}
 Fits w q Close = Unit {0}
-
--- a read has more than `after` characters to read from, and what is given back has more than `before`, of n
-abbrev pub Within : ℕ → ℕ → ℕ → Move → Type 0
-Within before after n (Emit g) = Unit {0}
-Within before after n (Read p) = after < n
-Within before after n Back = before < n
-Within before after n Wait = Unit {0}
-Within before after n Close = Unit {0}
 
 -- the move is the machine's step from the store of the text u from one place to another
 abbrev pub Decides : List ℕ → List ℕ → Bool → ℕ → ℕ → ℕ → Move → Type 0
@@ -94,6 +83,8 @@ pub record Going (w u : List ℕ) (ended : Bool) (r : Ended) (now : Ran) (output
 pub record Finished (w u : List ℕ) (r : Ended) (now : Ran) (output : List ℕ) : Type 0 where
   pub status : statusOf (now .status) ≡ r .status
   pub state : now .state .0 ≡ r .final .state
+  pub order : now .from ≤ now .at
+  pub inside : now .at ≤ length u
   pub store : storeOf u now ≡ r .final .store
   pub covers : covered (r .final .log) ≡ now .from
   pub count : now .count ≡ length (textOf (fromWords w .write) (r .final .log))
@@ -113,3 +104,81 @@ Onward w u ended room old before false new after =
 -- what stands beyond the characters written is as found
 abbrev pub Beyond : Ran → List ℕ → Ran → List ℕ → Type 0
 Beyond old before new after = (old .count ≤ new .count) × (drop (new .count) after ≡ drop (new .count) before)
+
+-- the classes of the first characters, as many as there are places
+abbrev pub Classed : List ℕ → List ℕ → Type 0
+Classed w classes = (c : ℕ) → c < length classes → getD classes c 0 ≡ classOf (take (classCount w) (drop 6 w)) c
+
+-- the run keeps its bounds for some room
+abbrev pub SomewherePlaced : List ℕ → List ℕ → Ran → Type 0
+SomewherePlaced w u now = (room : ℕ) × Placed w u room now
+
+-- the run stands between two words: in state 0, with an empty store at the place
+pub record Between (place written made : ℕ) (now : Ran) : Type 0 where
+  pub going : now .done ≡ false
+  pub state : now .state .0 ≡ 0
+  pub from : now .from ≡ place
+  pub at : now .at ≡ place
+  pub count : now .count ≡ written
+  pub steps : now .steps ≡ made
+
+-- the run ended with an empty store after so many steps
+pub record Halted (how : Status) (made : ℕ) (old new : Ran) : Type 0 where
+  pub done : new .done ≡ true
+  pub status : statusOf (new .status) ≡ how
+  pub state : new .state .0 ≡ 0
+  pub from : new .from ≡ old .from
+  pub at : new .at ≡ old .from
+  pub count : new .count ≡ old .count
+  pub steps : new .steps ≡ made
+
+-- the run waits as it stands
+pub record Waits (old new : Ran) : Type 0 where
+  pub done : new .done ≡ true
+  pub status : statusOf (new .status) ≡ Open
+  pub state : new .state .0 ≡ old .state .0
+  pub from : new .from ≡ old .from
+  pub at : new .at ≡ old .at
+  pub count : new .count ≡ old .count
+  pub steps : new .steps ≡ old .steps
+
+-- the run that has read on
+abbrev pub readTo : Ran → Ahead → Ran
+readTo now a =
+    record {
+      done = false;
+      status = Kept.Open;
+      state = a .state;
+      from = now .from;
+      at = a .at;
+      count = now .count;
+      steps = now .steps + (a .at - now .at);
+    }
+
+-- the run led on, whether or not the input has ended
+abbrev pub Passes : List ℕ → List ℕ → ℕ → Ran → List ℕ → Ran → List ℕ → Type 0
+Passes w u room old before new after =
+    Placed w u room new × (left u new ≤ left u old) × ((ended : Bool) (r : Ended) → Going w u ended r old before → Going w u ended r new after)
+
+-- the run stands before a character without a target, or at the text's end
+abbrev pub Stands : List ℕ → List ℕ → Bool → ℕ → ℕ → Type 0
+Stands w u true q after = (after < length u) × (fromWords w .target q (getD u after 0) ≡ 0)
+Stands w u false q after = after ≡ length u
+
+-- the machine read on, up to a character without a target or the end of the part of the text where it was
+pub record ReadsOn (w u : List ℕ) (now : Ran) (a : Ahead) : Type 0 where
+  pub onward : now .at ≤ a .at
+  pub passes : (output : List ℕ) → Placed w u (length output) now → Passes w u (length output) now output (readTo now a) output
+  pub stuck : a .stuck ≡ true → Stands w u true (a .state .0) (a .at)
+  pub free : a .stuck ≡ false → a .at < length u → now .at < a .at
+
+-- what is done where the machine's next step is this move
+abbrev pub Moves : List ℕ → List ℕ → ℕ → Ran → List ℕ → Move → Ran → List ℕ → Type 0
+Moves w u room old before v new after =
+    (ended : Bool) → Decides w u ended (old .state .0) (old .from) (old .at) v → Onward w u ended room old before (new .done) new after
+
+-- the word of the rule that is emitted where the machine has read on
+abbrev pub acceptNow : List ℕ → ℕ → Bool → Bool → ℕ
+acceptNow w q true ended = acceptWord w q
+acceptNow w q false true = acceptAtEndWord w q
+acceptNow w q false false = cond (used (acceptWord w q) && eqb (acceptWord w q) (acceptAtEndWord w q)) (acceptWord w q) 0

@@ -12,10 +12,10 @@ ghost use lib.Dec.{T, eqb, leb};
 ghost use lib.ListN.{length, take, drop};
 ghost use Rattle.lists.specs.Lists.{all};
 ghost use Rattle.lists.specs.Decide.{allOf};
-ghost use Rattle.rules.specs.Direct.{limit};
-ghost use Rattle.machine.specs.Sound.{stateCount, longestWord, sound};
-ghost use Rattle.machine.specs.Automaton.{fromWords};
-ghost use Rattle.session.specs.Session.{path, isAt, soundSession};
+ghost use Rattle.meaning.specs.Direct.{limit};
+ghost use Rattle.automaton.specs.Sound.{stateCount, longestWord, sound};
+ghost use Rattle.automaton.specs.Automaton.{fromWords};
+ghost use Rattle.reckoning.specs.Session.{path, isAt, soundSession};
 ghost use Rattle.session.specs.Keeping.{sessionOf, pathOf};
 
 pub enum Status {
@@ -43,7 +43,7 @@ pub enum Path {
 
 // "Fresh: open, all 0."
 pub fn fresh() -> Session
-    ensures { λ r. ⌜ sessionOf r ≡ Rattle.session.specs.Session.fresh ⌝ }
+    ensures { λ r. ⌜ sessionOf r ≡ Rattle.reckoning.specs.Session.fresh ⌝ }
 {
     Session {
         status: Status::Open,

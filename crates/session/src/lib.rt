@@ -1,3 +1,4 @@
-// Sessions over machine words: what is kept between calls, and the rollback machine's run.
+// Sessions over machine words: what is kept between calls, the rollback machine's run, and feed and finish.
+pub mod call;
 pub mod kept;
 pub mod run;

@@ -1,5 +1,6 @@
 // The rollback machine's run over machine words: the unread characters are those given back and then the piece, seen as one text.
 use crate::kept::Status;
+use machine::numbers::ClassNo;
 use machine::numbers::RuleNo;
 use machine::numbers::StateNo;
 use machine::read::Accept;
@@ -10,30 +11,24 @@ use machine::read::has_default;
 use machine::read::settled;
 use machine::read::target;
 use machine::read::write_rule;
-ghost use mathlib.Core.Bool.{Bool, true, false, cond};
+use rules::output::sum_at;
 ghost use mathlib.Core.List.{_++_};
 ghost use mathlib.Core.Path.{_≡_};
 ghost use Prim.Native.Nat.{_+_, _*_, _-_, _≤_, _<_};
 ghost use lib.Dec.{T};
 ghost use lib.ListN.{length, getD, take, drop};
-ghost use Rattle.rules.specs.Block.{at, blockOutput};
-ghost use Rattle.rules.specs.Meaning.{textOf};
-ghost use Rattle.rules.specs.Direct.{over};
-ghost use Rattle.machine.specs.Layout.{wordCount};
-ghost use Rattle.machine.specs.Sound.{stateCount, blockAt, expansionWord, sound};
-ghost use Rattle.machine.specs.Automaton.{fromWords};
-ghost use Rattle.session.specs.Machine.{start, run};
-ghost use Rattle.session.specs.Session.{path, isAt};
-ghost use Rattle.session.specs.Running.{firstOf, OnCharacter, AtEnd, Fits, Within, Decides, Placed, Finished, Onward, Beyond};
-
-// What the machine does next: it writes a rule, reads into a state, rolls back, waits or closes.
-pub enum Move {
-    Emit(RuleNo),
-    Read(StateNo),
-    Back,
-    Wait,
-    Close,
-}
+ghost use Rattle.meaning.specs.Block.{at, blockOutput};
+ghost use Rattle.meaning.specs.Meaning.{textOf};
+ghost use Rattle.meaning.specs.Direct.{over};
+ghost use Rattle.automaton.specs.Layout.{wordCount};
+ghost use Rattle.automaton.specs.Sound.{classCount, blockAt, expansionWord, sound};
+ghost use Rattle.automaton.specs.Automaton.{fromWords};
+ghost use Rattle.reckoning.specs.Machine.{start, run};
+ghost use Rattle.reckoning.specs.Session.{path, isAt};
+ghost use Rattle.session.specs.Keeping.{statusOf};
+ghost use Rattle.automaton.specs.Classes.{classOf};
+ghost use Rattle.machine.specs.Readings.{wordOf};
+ghost use Rattle.session.specs.Running.{firstOf, Classed, SomewherePlaced, ReadsOn, Passes, Moves, Emit, Back, Between, Halted, Waits, Stands, acceptNow, Fits, Placed, Finished, Onward, Beyond};
 
 // A run: the store is the text from `from` on and below `at`; whether it is done, and how.
 pub struct Ran {
@@ -67,9 +62,9 @@ fn character<'a>(given: &'a [u16], piece: &'a [u16], i: usize) -> u16
 }
 
 // The text from `from` on and below `to` goes to the first places of the store.
-fn gather<'a>(given: &'a [u16], piece: &'a [u16], from: usize, to: usize, store: &mut [u16])
+pub fn gather<'a>(given: &'a [u16], piece: &'a [u16], from: usize, to: usize, store: &mut [u16])
     requires { ⌜ (from ≤ to) × (to ≤ length (now given) + length (now piece)) × (to - from ≤ length (now store)) ⌝ }
-    ensures { λ _. ⌜ take (to - from) (now (store .exit)) ≡ take (to - from) (drop from (now (given .entry) ++ now (piece .entry))) ⌝ }
+    ensures { λ _. ⌜ now (store .exit) ≡ over (take (to - from) (drop from (now (given .entry) ++ now (piece .entry)))) (now (store .entry)) ⌝ }
 {
     let mut i: usize = 0;
     while i < to - from {
@@ -78,81 +73,142 @@ fn gather<'a>(given: &'a [u16], piece: &'a [u16], from: usize, to: usize, store:
     }
 }
 
-// What the machine does in a state before a character.
-fn on_character(words: &[u16], state: StateNo, c: u16) -> Move
-    requires { ⌜ T (sound (now words)) × (state .0 < stateCount (now words)) ⌝ }
-    ensures { λ r. ⌜ OnCharacter (fromWords (now (words .entry))) (state .0) c r ⌝ }
-    ensures { λ r. ⌜ Fits (now (words .entry)) (state .0) r ⌝ }
+// The run between two words: state 0, and an empty store at the place.
+fn between(place: usize, count: usize, steps: u64) -> Ran
+    ensures { λ r. ⌜ Between place count steps r ⌝ }
 {
-    let Accept::Rule(rule) = accept_at(words, state) else {
-        let class = class_of(words, c);
-        let next = target(words, state, class);
-        if next.0 == 0 {
-            return Move::Back;
-        }
-        return Move::Read(next);
-    };
-    Move::Emit(rule)
-}
-
-// What the machine does in a state where no character is unread, and more may come.
-fn at_pause(words: &[u16], state: StateNo) -> Move
-    requires { ⌜ T (sound (now words)) × (state .0 < stateCount (now words)) ⌝ }
-    ensures { λ r. ⌜ ((stored : Bool) → AtEnd (fromWords (now (words .entry))) (state .0) stored false r) ⌝ }
-    ensures { λ r. ⌜ Fits (now (words .entry)) (state .0) r ⌝ }
-    ensures { λ r. ⌜ Within 1 1 1 r ⌝ }
-{
-    if !settled(words, state) {
-        return Move::Wait;
+    Ran {
+        done: false,
+        status: Status::Open,
+        state: StateNo(0),
+        from: place,
+        at: place,
+        count,
+        steps,
     }
-    let Accept::Rule(rule) = accept_at_end(words, state) else {
-        return Move::Wait;
-    };
-    Move::Emit(rule)
 }
 
-// What the machine does in a state where no character is unread, and the input has ended.
-fn at_end(words: &[u16], state: StateNo, stored: bool) -> Move
-    requires { ⌜ T (sound (now words)) × (state .0 < stateCount (now words)) ⌝ }
-    ensures { λ r. ⌜ AtEnd (fromWords (now (words .entry))) (state .0) stored true r ⌝ }
-    ensures { λ r. ⌜ Fits (now (words .entry)) (state .0) r ⌝ }
-    ensures { λ r. ⌜ Within (cond stored 0 1) 1 1 r ⌝ }
+// The classes of the first characters, as many as there are places for.
+fn fill_classes(words: &[u16], classes: &mut [u16])
+    requires { ⌜ T (sound (now words)) × (length (now classes) ≤ 65536) ⌝ }
+    ensures { λ _. ⌜ Classed (now (words .entry)) (now (classes .exit)) ⌝ }
 {
-    let Accept::Rule(rule) = accept_at_end(words, state) else {
-        if stored {
-            return Move::Back;
-        }
-        return Move::Close;
-    };
-    Move::Emit(rule)
+    let mut c: usize = 0;
+    while c < classes.len() {
+        let class = class_of(words, c as u16);
+        classes[c] = class.0;
+        c += 1;
+    }
 }
 
-// What the machine does where the store is the text from `from` on and below `at`.
-fn decide<'a>(
+// The class of a character, looked up where it is one of the first.
+fn class_in(words: &[u16], classes: &[u16], c: u16) -> ClassNo
+    requires { ⌜ T (sound (now words)) × Classed (now words) (now classes) ⌝ }
+    ensures { λ r. ⌜ r .0 ≡ classOf (take (classCount (now (words .entry))) (drop 6 (now (words .entry)))) c ⌝ }
+{
+    let place = c as usize;
+    if place < classes.len() {
+        return ClassNo(classes[place]);
+    }
+    class_of(words, c)
+}
+
+// How far the machine read on, and whether it is stuck there before a character that has no target.
+pub struct Ahead {
+    pub state: StateNo,
+    pub at: usize,
+    pub stuck: bool,
+}
+
+// The machine reads on by targets, in the part of the text where the run is.
+fn read_on<'a>(
     words: &[u16],
+    classes: &[u16],
     given: &'a [u16],
     piece: &'a [u16],
-    state: StateNo,
-    from: usize,
-    at: usize,
-    ended: bool,
-) -> Move
-    requires { ⌜ T (sound (now words)) × (state .0 < stateCount (now words)) ⌝ }
-    requires { ⌜ (from ≤ at) × (at ≤ length (now given ++ now piece)) × (length (now given ++ now piece) ≤ 1099511627784) ⌝ }
-    ensures { λ r. ⌜ Decides (now (words .entry)) (now (given .entry) ++ now (piece .entry)) ended (state .0) from at r ⌝ }
-    ensures { λ r. ⌜ Fits (now (words .entry)) (state .0) r ⌝ }
-    ensures { λ r. ⌜ Within from at (length (now (given .entry) ++ now (piece .entry))) r ⌝ }
+    run: Ran,
+) -> Ahead
+    requires { ⌜ T (sound (now words)) × Classed (now words) (now classes) ⌝ }
+    requires { ⌜ SomewherePlaced (now words) (now given ++ now piece) run ⌝ }
+    ensures { λ r. ⌜ ReadsOn (now (words .entry)) (now (given .entry) ++ now (piece .entry)) run r ⌝ }
 {
-    if at < given.len() + piece.len() {
-        return on_character(words, state, character(given, piece, at));
+    let part = unread(given, piece, run.at);
+    let from = run.at;
+    let mut state = run.state;
+    let mut read: usize = 0;
+    while read < part.len() {
+        let next = target(words, state, class_in(words, classes, part[read]));
+        if next.0 == 0 {
+            return Ahead {
+                state,
+                at: from + read,
+                stuck: true,
+            };
+        }
+        state = next;
+        read += 1;
     }
-    if !ended {
-        return at_pause(words, state);
+    Ahead {
+        state,
+        at: from + read,
+        stuck: false,
     }
-    if from < at {
-        return at_end(words, state, true);
+}
+
+// The default's output for the character at `place` goes to `output` from `count` on; the count after it.
+fn write_default(
+    words: &[u16],
+    text: &[u16],
+    place: usize,
+    output: &mut [u16],
+    count: usize,
+) -> usize
+    requires { ⌜ (wordCount ≤ length (now words)) × (place < length (now text)) × (at (blockAt (now words) 32) 0 ≡ 1) ⌝ }
+    requires { ⌜ (at (blockAt (now words) 32) 2 ≤ 8) × (count + at (blockAt (now words) 32) 2 ≤ length (now output)) ⌝ }
+    ensures { λ r. ⌜ r ≡ count + at (blockAt (now (words .entry)) 32) 2 ⌝ }
+    ensures { λ _. ⌜ now (output .exit)
+        ≡ take count (now (output .entry))
+        ++ blockOutput (blockAt (now (words .entry)) 32) (take 1 (drop place (now (text .entry))))
+        ++ drop (count + at (blockAt (now (words .entry)) 32) 2) (now (output .entry)) ⌝ }
+{
+    let number = words[19624] as usize;
+    let mut j: usize = 0;
+    while j < number {
+        output[count + j] = sum_at(words, 19625 + 9 * j, 1, text, place);
+        j += 1;
     }
-    at_end(words, state, false)
+    count + number
+}
+
+// Between two words the default is written for each character that has no target, in the part of the text where the run is.
+fn write_defaults<'a>(
+    words: &[u16],
+    classes: &[u16],
+    given: &'a [u16],
+    piece: &'a [u16],
+    run: Ran,
+    output: &mut [u16],
+) -> Ran
+    requires { ⌜ T (sound (now words)) × Classed (now words) (now classes) × (at (now words) 5 ≡ 1) ⌝ }
+    requires { ⌜ Placed (now words) (now given ++ now piece) (length (now output)) run × (run .from ≡ run .at) ⌝ }
+    ensures { λ r. ⌜ Passes (now (words .entry)) (now (given .entry) ++ now (piece .entry)) (length (now (output .entry)))
+        run (now (output .entry)) r (now (output .exit)) ⌝ }
+    ensures { λ r. ⌜ Beyond run (now (output .entry)) r (now (output .exit)) ⌝ }
+{
+    let part = unread(given, piece, run.at);
+    let from = run.at;
+    let steps = run.steps;
+    let mut count = run.count;
+    let mut read: usize = 0;
+    while read < part.len() {
+        let next = target(words, StateNo(0), class_in(words, classes, part[read]));
+        if next.0 != 0 {
+            return between(from + read, count, steps + 3 * read as u64);
+        }
+        count = write_default(words, part, read, output, count);
+        read += 1;
+    }
+    between(from + read, count, steps + 3 * read as u64)
 }
 
 // A group's output for the text from `from` on and below `to` goes to `output` from `count` on; the count after it.
@@ -175,104 +231,204 @@ fn emit<'a>(
         ++ blockOutput (blockAt (now (words .entry)) group) (take (to - from) (drop from (now (given .entry) ++ now (piece .entry))))
         ++ drop (count + at (blockAt (now (words .entry)) group) 2) (now (output .entry)) ⌝ }
 {
+    if from >= given.len() {
+        return write_rule(words, group, &piece[from - given.len()..], output, count);
+    }
     let mut store = [0u16; 8];
     gather(given, piece, from, to, &mut store);
     write_rule(words, group, &store, output, count)
 }
 
-// One turn of the machine.
+// The rule that the machine emits where it has read on: before a character without a target, at the input's end, or waiting.
+fn accept_now(words: &[u16], state: StateNo, stuck: bool, ended: bool) -> Accept
+    requires { ⌜ (wordCount ≤ length (now words)) × (state .0 < 256) ⌝ }
+    ensures { λ r. ⌜ wordOf r ≡ acceptNow (now (words .entry)) (state .0) stuck ended ⌝ }
+{
+    if stuck {
+        return accept_at(words, state);
+    }
+    if ended {
+        return accept_at_end(words, state);
+    }
+    if settled(words, state) {
+        return accept_at(words, state);
+    }
+    Accept::Nothing
+}
+
+// *Emit* a rule from the store.
+fn emit_rule<'a>(
+    words: &[u16],
+    given: &'a [u16],
+    piece: &'a [u16],
+    rule: RuleNo,
+    run: Ran,
+    output: &mut [u16],
+) -> Ran
+    requires { ⌜ T (sound (now words)) × Placed (now words) (now given ++ now piece) (length (now output)) run ⌝ }
+    requires { ⌜ Fits (now words) (run .state .0) (Emit rule) ⌝ }
+    ensures { λ r. ⌜ Moves (now (words .entry)) (now (given .entry) ++ now (piece .entry)) (length (now (output .entry)))
+        run (now (output .entry)) (Emit rule) r (now (output .exit)) ⌝ }
+    ensures { λ r. ⌜ Beyond run (now (output .entry)) r (now (output .exit)) ⌝ }
+{
+    let to = run.at;
+    let written = emit(
+        words,
+        given,
+        piece,
+        rule.0 as usize,
+        run.from,
+        to,
+        output,
+        run.count,
+    );
+    between(to, written, run.steps + 1)
+}
+
+// The run has ended with an empty store: *stop*, after *back*, or *close*.
+fn halted(status: Status, run: Ran, steps: u64) -> Ran
+    requires { ⌜ run .steps + steps < 18446744073709551616 ⌝ }
+    ensures { λ r. ⌜ Halted (statusOf status) (run .steps + steps) run r ⌝ }
+{
+    let from = run.from;
+    Ran {
+        done: true,
+        status,
+        state: StateNo(0),
+        from,
+        at: from,
+        count: run.count,
+        steps: run.steps + steps,
+    }
+}
+
+// The run waits.
+fn waiting(run: Ran) -> Ran
+    ensures { λ r. ⌜ Waits run r ⌝ }
+{
+    let state = run.state;
+    Ran {
+        done: true,
+        status: Status::Open,
+        state,
+        from: run.from,
+        at: run.at,
+        count: run.count,
+        steps: run.steps,
+    }
+}
+
+// *Back*, "then with a default *take* one and *emit* the default, without one *stop*".
+fn roll_back<'a>(
+    words: &[u16],
+    given: &'a [u16],
+    piece: &'a [u16],
+    run: Ran,
+    output: &mut [u16],
+) -> Ran
+    requires { ⌜ T (sound (now words)) × Placed (now words) (now given ++ now piece) (length (now output)) run ⌝ }
+    requires { ⌜ run .from < length (now given ++ now piece) ⌝ }
+    ensures { λ r. ⌜ Moves (now (words .entry)) (now (given .entry) ++ now (piece .entry)) (length (now (output .entry)))
+        run (now (output .entry)) Back r (now (output .exit)) ⌝ }
+    ensures { λ r. ⌜ Beyond run (now (output .entry)) r (now (output .exit)) ⌝ }
+{
+    if !has_default(words) {
+        return halted(Status::Stopped, run, 2);
+    }
+    let part = unread(given, piece, run.from);
+    let written = write_default(words, part, 0, output, run.count);
+    between(run.from + 1, written, run.steps + 3)
+}
+
+// Where the machine has read on and emits no rule: it rolls back before a character without a target, waits, or at the input's end rolls back or closes.
+fn fall_back<'a>(
+    words: &[u16],
+    given: &'a [u16],
+    piece: &'a [u16],
+    stuck: bool,
+    ended: bool,
+    run: Ran,
+    output: &mut [u16],
+) -> Ran
+    requires { ⌜ T (sound (now words)) × Placed (now words) (now given ++ now piece) (length (now output)) run ⌝ }
+    requires { ⌜ Stands (now words) (now given ++ now piece) stuck (run .state .0) (run .at) × (acceptNow (now words) (run .state .0) stuck ended ≡ 0) ⌝ }
+    ensures { λ r. ⌜ Onward (now (words .entry)) (now (given .entry) ++ now (piece .entry)) ended (length (now (output .entry)))
+        run (now (output .entry)) (r .done) r (now (output .exit)) ⌝ }
+    ensures { λ r. ⌜ Beyond run (now (output .entry)) r (now (output .exit)) ⌝ }
+{
+    if stuck {
+        return roll_back(words, given, piece, run, output);
+    }
+    if !ended {
+        return waiting(run);
+    }
+    if run.from < run.at {
+        return roll_back(words, given, piece, run, output);
+    }
+    halted(Status::Closed, run, 1)
+}
+
+// One turn of the machine: it reads on, then emits a rule, rolls back, waits or closes.
 fn turn<'a>(
     words: &[u16],
+    classes: &[u16],
     given: &'a [u16],
     piece: &'a [u16],
     ended: bool,
     run: Ran,
     output: &mut [u16],
 ) -> Ran
-    requires { ⌜ T (sound (now words)) ⌝ }
+    requires { ⌜ T (sound (now words)) × Classed (now words) (now classes) ⌝ }
     requires { ⌜ Placed (now words) (now given ++ now piece) (length (now output)) run ⌝ }
     ensures { λ r. ⌜ Onward (now (words .entry)) (now (given .entry) ++ now (piece .entry)) ended (length (now (output .entry)))
         run (now (output .entry)) (r .done) r (now (output .exit)) ⌝ }
     ensures { λ r. ⌜ Beyond run (now (output .entry)) r (now (output .exit)) ⌝ }
 {
-    let from = run.from;
-    let at = run.at;
-    let count = run.count;
-    let steps = run.steps;
-    let state = run.state;
-    match decide(words, given, piece, state, from, at, ended) {
-        Move::Emit(rule) => {
-            let group = rule.0 as usize;
-            let written = emit(words, given, piece, group, from, at, output, count);
-            Ran {
-                done: false,
-                status: Status::Open,
-                state: StateNo(0),
-                from: at,
-                at,
-                count: written,
-                steps: steps + 1,
-            }
-        }
-        Move::Read(next) => {
-            Ran {
-                done: false,
-                status: Status::Open,
-                state: next,
-                from,
-                at: at + 1,
-                count,
-                steps: steps + 1,
-            }
-        }
-        Move::Back => {
-            if !has_default(words) {
-                return Ran {
-                    done: true,
-                    status: Status::Stopped,
-                    state: StateNo(0),
-                    from,
-                    at: from,
-                    count,
-                    steps: steps + 2,
-                };
-            }
-            let to = from + 1;
-            let written = emit(words, given, piece, 32, from, to, output, count);
-            Ran {
-                done: false,
-                status: Status::Open,
-                state: StateNo(0),
-                from: to,
-                at: to,
-                count: written,
-                steps: steps + 3,
-            }
-        }
-        Move::Wait => Ran {
-            done: true,
-            status: Status::Open,
-            state,
-            from,
-            at,
-            count,
-            steps,
-        },
-        Move::Close => {
-            Ran {
-                done: true,
-                status: Status::Closed,
-                state: StateNo(0),
-                from,
-                at: from,
-                count,
-                steps: steps + 1,
-            }
-        }
+    let ahead = read_on(words, classes, given, piece, run);
+    let state = ahead.state;
+    let read = Ran {
+        done: false,
+        status: Status::Open,
+        state,
+        from: run.from,
+        at: ahead.at,
+        count: run.count,
+        steps: run.steps + (ahead.at - run.at) as u64,
+    };
+    if !ahead.stuck && ahead.at < given.len() + piece.len() {
+        return read;
     }
+    let Accept::Rule(rule) = accept_now(words, state, ahead.stuck, ended) else {
+        return fall_back(words, given, piece, ahead.stuck, ended, read, output);
+    };
+    emit_rule(words, given, piece, rule, read, output)
+}
+
+// Where the run is between two words and there is a default, characters that begin no word are written first; then comes a turn.
+fn advance<'a>(
+    words: &[u16],
+    classes: &[u16],
+    given: &'a [u16],
+    piece: &'a [u16],
+    ended: bool,
+    run: Ran,
+    output: &mut [u16],
+) -> Ran
+    requires { ⌜ T (sound (now words)) × Classed (now words) (now classes) ⌝ }
+    requires { ⌜ Placed (now words) (now given ++ now piece) (length (now output)) run ⌝ }
+    ensures { λ r. ⌜ Onward (now (words .entry)) (now (given .entry) ++ now (piece .entry)) ended (length (now (output .entry)))
+        run (now (output .entry)) (r .done) r (now (output .exit)) ⌝ }
+    ensures { λ r. ⌜ Beyond run (now (output .entry)) r (now (output .exit)) ⌝ }
+{
+    if run.from == run.at && has_default(words) {
+        let next = write_defaults(words, classes, given, piece, run, output);
+        return turn(words, classes, given, piece, ended, next, output);
+    }
+    turn(words, classes, given, piece, ended, run, output)
 }
 
 // The machine's run from a store of the given characters and the state that they lead to, over the piece, until it waits, closes or stops.
+// Of a long piece the classes of the first 256 characters are worked out beforehand.
 pub fn run_words<'a>(
     words: &[u16],
     given: &'a [u16],
@@ -292,6 +448,9 @@ pub fn run_words<'a>(
         (run (fromWords (now (words .entry))) ended (start (now (given .entry)) (now (piece .entry)) (state .0)) .final .log))
         (now (output .entry)) ⌝ }
 {
+    let mut table = [0u16; 256];
+    let known = known_classes(piece.len());
+    fill_classes(words, &mut table[..known]);
     let mut ran = Ran {
         done: false,
         status: Status::Open,
@@ -302,7 +461,17 @@ pub fn run_words<'a>(
         steps: 0,
     };
     while !ran.done {
-        ran = turn(words, given, piece, ended, ran, output);
+        ran = advance(words, &table[..known], given, piece, ended, ran, output);
     }
     ran
+}
+
+// Of how many characters the classes are worked out before a run over a piece of that length.
+fn known_classes(length: usize) -> usize
+    ensures { λ r. ⌜ r ≤ 256 ⌝ }
+{
+    if length < 4096 {
+        return 0;
+    }
+    256
 }

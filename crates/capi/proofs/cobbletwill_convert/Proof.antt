@@ -4,8 +4,8 @@ use mathlib.Core.Path.{_≡_, ap, sym, _∙_}
 use Prim.Native.Nat.{ℕ}
 use denote.Ref.{now}
 use borrow.Author.Needs.{needs}
-use Rattle.rules.specs.Refusal.{Outcome}
-use Rattle.rules.specs.Direct.{Converted}
+use Rattle.meaning.specs.Refusal.{Outcome}
+use Rattle.meaning.specs.Direct.{Converted}
 use Rattle.rules.specs.Answers.{conversionOf}
 use Rattle.capi.specs.Face.{codeOf, placeOf, countOf}
 use Rattle.capi.proofs.cobbletwill_convert.Statement.{statement}

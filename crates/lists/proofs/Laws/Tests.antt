@@ -1,13 +1,15 @@
 -- How a proof takes a test, a comparison of numbers, a list of tests and a decision list apart.
 -- By cases on the tests.
-use mathlib.Core.Bool.{Bool, true, false, _&&_, _||_, not, cond, false≢true}
+use mathlib.Core.Bool.{Bool, true, false, _&&_, _||_, not, cond, false≢true, and-false}
 use mathlib.Core.List.{List, [], _∷_, _++_}
 use mathlib.Core.Logic.{_≢_}
-use mathlib.Core.Path.{_≡_, refl, sym, subst}
+use mathlib.Core.Path.{_≡_, refl, sym, subst, _∙_}
 use Prim.Native.Nat.{ℕ, zero, suc, _≤_, _<_}
 use native.Mathlib.Decide.{ℕ-discrete}
 use native.Mathlib.Omega.{arith}
+use borrow.Author.Tests.{not-true, not-false}
 use lib.Dec.{T, T-not, not-T, eqb, leb, eqb→eq, eqb-refl, leb→le, le→leb}
+use lib.ListN.{getD}
 use Rattle.lists.specs.Lists.{any, Each}
 use Rattle.lists.specs.Decide.{allOf, forBelow, implies, select}
 
@@ -26,6 +28,13 @@ of-not false t = refl
 pub not-not : (b : Bool) → T (not (not b)) → T b
 not-not true t = tt
 not-not false t = t
+
+-- a test, by a function's answer that is its value, where the code goes by its negation
+pub passed : {r b : Bool} → r ≡ b → not r ≡ false → b ≡ true
+passed {r} e t = sym e ∙ not-false r t
+
+pub failed : {r b : Bool} → r ≡ b → not r ≡ true → b ≡ false
+failed {r} e t = sym e ∙ not-true r t
 
 -- two tests that imply each other are equal
 pub test-eq : (a b : Bool) → (T a → T b) → (T b → T a) → a ≡ b
@@ -124,6 +133,26 @@ unfolding allOf
 to-allOf [] t = tt
 to-allOf (b ∷ bs) t = both b (allOf bs) (t .0) (to-allOf bs (t .1))
 
+-- tests in a row: the first fails, or passes, or is the last
+pub all-stops : {b : Bool} (bs : List Bool) → b ≡ false → allOf (b ∷ bs) ≡ false
+unfolding allOf
+all-stops bs e = rw e refl
+
+pub all-next : {b : Bool} (bs : List Bool) → b ≡ true → allOf (b ∷ bs) ≡ allOf bs
+unfolding allOf
+all-next bs e = rw e refl
+
+pub all-last : (b : Bool) → allOf (b ∷ []) ≡ b
+unfolding allOf
+all-last b = and-true b
+
+-- test number i fails
+pub one-fails : (i : ℕ) (bs : List Bool) → getD bs i true ≡ false → allOf bs ≡ false
+unfolding allOf
+one-fails i [] e = e
+one-fails zero (b ∷ bs) e = rw e refl
+one-fails (suc i) (b ∷ bs) e = rw (one-fails i bs e) (and-false b)
+
 pub below : (n : ℕ) (p : ℕ → Bool) → T (forBelow n p) → (k : ℕ) → k < n → T (p k)
 unfolding forBelow
 below zero p t k h = absurd (omega arith)
@@ -151,3 +180,16 @@ pub by-cases : {A : Type 0} (P : A → Type 0) (cs : List (Bool × A)) (a : A) �
 unfolding select
 by-cases P [] a h = h
 by-cases P (c ∷ cs) a h = at-test P (c .0) (c .1) (select cs a) (h .0) (λ t. by-cases P cs a (h .1 t))
+
+-- a decision list whose first test passes, or fails
+pub select-here : {A : Type 0} {b : Bool} (x : A) (cs : List (Bool × A)) (a : A) → b ≡ true → select ((b, x) ∷ cs) a ≡ x
+unfolding select
+select-here x cs a e = rw e refl
+
+pub select-next : {A : Type 0} {b : Bool} (x : A) (cs : List (Bool × A)) (a : A) → b ≡ false → select ((b, x) ∷ cs) a ≡ select cs a
+unfolding select
+select-next x cs a e = rw e refl
+
+pub select-last : {A : Type 0} (a : A) → select [] a ≡ a
+unfolding select
+select-last a = refl

@@ -15,29 +15,29 @@ use Rattle.lists.specs.Lists.{Each, filter, flatMap, greatest, tabFrom, upTo, p
 use Rattle.lists.specs.Decide.{select}
 use Rattle.lists.proofs.Laws.Tests.{split}
 use Rattle.lists.proofs.Laws.Parts.{length-pad, getD-pad}
-use Rattle.rules.specs.Refusal.{refused, accepted, andThen}
-use Rattle.rules.specs.Table.{Group, Table, ruleAt, inRanges, longest}
-use Rattle.rules.specs.Block.{at, bit, block}
-use Rattle.rules.specs.Reader.{readTable}
-use Rattle.rules.specs.Flat.{rows, slotWords, rangeWords, blockWords, groupAt, tableAt, expansionAt, Flat}
+use Rattle.meaning.specs.Refusal.{refused, accepted, andThen}
+use Rattle.meaning.specs.Table.{Group, Table, ruleAt, inRanges, longest}
+use Rattle.meaning.specs.Block.{at, bit, block}
+use Rattle.meaning.specs.Reader.{readTable}
+use Rattle.meaning.specs.Flat.{rows, slotWords, rangeWords, blockWords, groupAt, tableAt, expansionAt, Flat}
 use Rattle.rules.specs.Answers.{LoadedBy}
-use Rattle.rules.proofs.Laws.Shape.{Shaped}
-use Rattle.rules.proofs.Laws.Narrow.{Narrow}
+use Rattle.meaning.proofs.Laws.Shape.{Shaped}
+use Rattle.meaning.proofs.Laws.Narrow.{Narrow}
 use Rattle.rules.proofs.Laws.Flattened.{flat-flat}
-use Rattle.rules.proofs.Laws.Bare.{bareGroup, ruleAt-bare, table-flat}
+use Rattle.meaning.proofs.Laws.Bare.{bareGroup, ruleAt-bare, table-flat}
 use Rattle.rules.specs.declared.load.Load.{Load}
 use Rattle.rules.specs.declared.load.Load.the-variants as Load
-use Rattle.rules.proofs.Laws.Rows.{pad-pad, pad-none}
-use Rattle.rules.proofs.Laws.Direct.{table-refused}
+use Rattle.meaning.proofs.Laws.Rows.{pad-pad, pad-none}
+use Rattle.meaning.proofs.Laws.Direct.{table-refused}
 use Rattle.rules.proofs.Laws.Converting.{of-read, is-shaped, is-narrow, is-refused, expansion-flat}
-use Rattle.machine.specs.Classes.{starts}
-use Rattle.machine.specs.States.{State, firstNumber, initial, acceptAtEndOf, acceptOf, successor, sameState, inhabited, distinct, nextLevel, levels, states, targetOf}
-use Rattle.machine.specs.Layout.{wordCount, stateWords, targetWords, parts, words}
-use Rattle.machine.specs.Gathered.{Gathered}
-use Rattle.machine.specs.Compile.{CompileOutcome, small, compilable, compileBy, compile}
+use Rattle.automaton.specs.Classes.{starts}
+use Rattle.automaton.specs.States.{State, firstNumber, initial, acceptAtEndOf, acceptOf, successor, sameState, inhabited, distinct, nextLevel, levels, states, targetOf}
+use Rattle.automaton.specs.Layout.{wordCount, stateWords, targetWords, parts, words}
+use Rattle.automaton.specs.Gathered.{Gathered}
+use Rattle.automaton.specs.Compile.{CompileOutcome, small, compilable, compileBy, compile}
 use Rattle.machine.specs.Compiled.{longestAt, headerAt, wordsAt, builtBy, built}
-use Rattle.machine.proofs.Laws.Gathering.{starts-bare}
-use Rattle.machine.proofs.Laws.Compile.{compile-answers}
+use Rattle.automaton.proofs.Laws.Gathering.{starts-bare}
+use Rattle.automaton.proofs.Laws.Compile.{compile-answers}
 
 -- six stores
 pub header-put : (w : List ℕ) (a b c d e f : ℕ) → 6 ≤ length w →

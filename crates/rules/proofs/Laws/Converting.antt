@@ -4,7 +4,7 @@ use mathlib.Core.Bool.{Bool, true, false, cond, or-false, true≢false, false≢
 use mathlib.Core.List.{List, [], _∷_, _++_}
 use mathlib.Core.Option.{Option, none, some, Option·some-injective, Option·none-ne-some}
 use mathlib.Core.Path.{_≡_, refl, sym, ap, ap₂, subst, _∙_}
-use Prim.Native.Nat.{ℕ, zero, suc, pred, max, _+_, _*_, _≤_, _<_}
+use Prim.Native.Nat.{ℕ, zero, suc, pred, _+_, _*_, _≤_, _<_}
 use native.Mathlib.Nat.{mul-le-mul-right, add-zero}
 use native.Mathlib.Decide.{ℕ-discrete}
 use native.Mathlib.Omega.{arith}
@@ -15,31 +15,31 @@ use lib.Seq.{length-take-le, getD-drop}
 use Rattle.lists.specs.Lists.{Each, greatest, isSome, optional}
 use Rattle.lists.specs.Decide.{select}
 use Rattle.lists.proofs.Laws.Tests.{and-true, to-between}
-use Rattle.lists.proofs.Laws.Each.{each-append, each-front, each-back, each-weaken, each-getD}
+use Rattle.lists.proofs.Laws.Each.{each-append, each-front, each-back, each-getD}
 use Rattle.lists.proofs.Laws.Sets.{greatest-above, greatest-le}
-use Rattle.rules.specs.Refusal.{Outcome, refused, accepted, andThen}
-use Rattle.rules.specs.Table.{Characters, Group, Table, everyCharacter, groups, ruleAt, group, defaultNumber, expansion}
-use Rattle.rules.specs.Value.{value, fitsWord, IsCharacter, SafeOutput, SafeTable}
-use Rattle.rules.specs.Reader.{readTable}
-use Rattle.rules.specs.Block.{at, block, blockOutput}
-use Rattle.rules.specs.Meaning.{best, orDefault, choose, written, textOf, Conversion, convertBy, convertFrom, convert, meaningText, covered}
-use Rattle.rules.specs.Direct.{limit, DirectOutcome, over, admitted, directBy, checked, direct}
-use Rattle.rules.specs.Flat.{slotWords, rangeWords, blockWords, expansionFrom, expansionAt, flatConversion, flatText, flatDirect, Flat}
+use Rattle.meaning.specs.Refusal.{Outcome, refused, accepted, andThen}
+use Rattle.meaning.specs.Table.{Characters, Group, Table, everyCharacter, groups, ruleAt, group, defaultNumber, expansion}
+use Rattle.meaning.specs.Value.{fitsWord, SafeTable}
+use Rattle.meaning.specs.Reader.{readTable}
+use Rattle.meaning.specs.Block.{at, block, blockOutput}
+use Rattle.meaning.specs.Meaning.{best, orDefault, choose, written, textOf, Conversion, convertBy, convertFrom, convert, meaningText, covered}
+use Rattle.meaning.specs.Direct.{limit, DirectOutcome, over, admitted, directBy, checked, direct}
+use Rattle.meaning.specs.Flat.{slotWords, rangeWords, blockWords, expansionFrom, expansionAt, flatConversion, flatText, flatDirect, Flat}
 use Rattle.rules.specs.Answers.{LoadedBy}
 use Rattle.rules.specs.declared.load.Load.{Load}
 use Rattle.rules.specs.declared.load.Load.the-variants as Load
-use Rattle.rules.proofs.Laws.Shape.{ShapedGroup, ShapedDefault, Shaped}
-use Rattle.rules.proofs.Laws.Narrow.{Narrow}
-use Rattle.rules.proofs.Laws.Groups.{rule-shaped, default-each, group-rule, group-default, some-default}
-use Rattle.rules.proofs.Laws.Choice.{Fits, fits-room, Chosen, best-chosen}
-use Rattle.rules.proofs.Laws.Length.{writes, text-short}
-use Rattle.rules.proofs.Laws.Exact.{block-size, block-count, block-writes}
-use Rattle.rules.proofs.Laws.Direct.{read-keeps}
-use Rattle.rules.proofs.Laws.Reading.{read-shaped}
-use Rattle.rules.proofs.Laws.Rows.{rows-at, rowsOf, rowsOf-rule, rowsOf-default}
+use Rattle.meaning.proofs.Laws.Shape.{ShapedDefault, Shaped}
+use Rattle.meaning.proofs.Laws.Narrow.{Narrow}
+use Rattle.meaning.proofs.Laws.Groups.{rule-shaped, default-each, group-rule, group-default, some-default, SafeGroup, safe-group}
+use Rattle.meaning.proofs.Laws.Choice.{Fits, fits-room, Chosen, best-chosen}
+use Rattle.meaning.proofs.Laws.Length.{writes, text-short}
+use Rattle.meaning.proofs.Laws.Exact.{block-size, block-count, block-writes}
+use Rattle.meaning.proofs.Laws.Direct.{read-keeps}
+use Rattle.meaning.proofs.Laws.Reading.{read-shaped}
+use Rattle.meaning.proofs.Laws.Rows.{rows-at, rowsOf, rowsOf-rule, rowsOf-default}
 use Rattle.rules.proofs.Laws.Flattened.{read-narrow, flat-flat}
-use Rattle.rules.proofs.Laws.SafeFlat.{each-numbers}
-use Rattle.rules.proofs.Laws.Bare.{conversion-flat}
+use Rattle.meaning.proofs.Laws.SafeFlat.{each-numbers}
+use Rattle.meaning.proofs.Laws.Bare.{conversion-flat}
 
 -- the greatest count of output characters
 
@@ -106,15 +106,6 @@ choose-cases {X} t u n e f d = go (best t (length (t .rules)) u) (best-chosen t 
     go : (o : Option ℕ) → Chosen t (length (t .rules)) u o → orDefault t o ≡ some n → X
     go none c q = none-left (isSome (t .default)) refl q
     go (some r) c q = let z = Option·some-injective r n q in f (subst (λ m. m < length (t .rules)) z (c .0)) (subst (λ m. Fits t m u) z (c .1))
-
--- the values of a safe group at a word that it takes
-
-abbrev SafeGroup : Group → Type 0
-SafeGroup g = Each (SafeOutput (g .ranges)) (g .outputs)
-
-safe-group : (g : Group) (w : List ℕ) → T (fitsWord (g .ranges) w) → SafeGroup g → Each (λ o. IsCharacter (value o w)) (g .outputs)
-unfolding SafeOutput
-safe-group g w f s = each-weaken (SafeOutput (g .ranges)) (λ o. IsCharacter (value o w)) (g .outputs) (λ o h. h w f) s
 
 every-fits : (g : Group) (x : ℕ) → ShapedDefault g → x < 65536 → T (fitsWord (g .ranges) (x ∷ []))
 unfolding fitsWord

@@ -2,7 +2,7 @@
 -- Record by record, by `admit-right`; what holds of every reading on the way holds of the table.
 use mathlib.Core.List.{List, [], _∷_, _++_, map}
 use mathlib.Core.Option.{Option, none, some}
-use mathlib.Core.Path.{_≡_, refl, sym, ap, ap₂, subst, _∙_}
+use mathlib.Core.Path.{_≡_, refl, sym, ap, ap₂, subst}
 use Prim.Native.Nat.{ℕ, zero, suc, _+_, _*_, _/_, _≤_, _<_}
 use native.Mathlib.Nat.{add-zero}
 use native.Mathlib.Omega.{arith}
@@ -12,21 +12,21 @@ use Rattle.lists.specs.Lists.{pad, Each, optional}
 use Rattle.lists.specs.Decide.{select}
 use Rattle.lists.proofs.Laws.Tests.{by-cases}
 use Rattle.lists.proofs.Laws.Each.{each-append, each-front, each-back, each-weaken, each-getD}
-use Rattle.rules.specs.Refusal.{Outcome, refused, accepted, andThen}
-use Rattle.rules.specs.Table.{Group, Table, groups}
-use Rattle.rules.specs.Record.{Record, decode}
-use Rattle.rules.specs.Reader.{Reading, unread, latest, unfilled, readOne, readRecords, readEnd, readRules}
-use Rattle.rules.specs.Block.{at, block}
+use Rattle.meaning.specs.Refusal.{Outcome, refused, accepted, andThen}
+use Rattle.meaning.specs.Table.{Group, Table, groups}
+use Rattle.meaning.specs.Record.{Record, decode}
+use Rattle.meaning.specs.Reader.{Reading, unread, latest, unfilled, readOne, readRecords, readEnd, readRules}
+use Rattle.meaning.specs.Block.{at, block}
 use Rattle.rules.specs.Summary.{started, gap, admit, Arrays, arraysBy, Taken, takeOn, takeBy, takeRecords}
-use Rattle.rules.specs.Flat.{rows, slotWords, rangeWords, blockWords, constantWords, Flat}
+use Rattle.meaning.specs.Flat.{rows, slotWords, rangeWords, blockWords, constantWords, Flat}
 use Rattle.rules.specs.declared.reader.Reader.{Reader}
-use Rattle.rules.proofs.Laws.Refusal.{by-then}
-use Rattle.rules.proofs.Laws.Shape.{ShapedGroup, ShapedDefault, Shaped}
-use Rattle.rules.proofs.Laws.Narrow.{NarrowGroup, Narrow}
-use Rattle.rules.proofs.Laws.Rows.{pad-none, rowsOf, length-rowsOf, length-rows, rows-at, each-rowsOf, each-rows}
-use Rattle.rules.proofs.Laws.Stored.{slotRow, rangeRow}
+use Rattle.meaning.proofs.Laws.Refusal.{by-then}
+use Rattle.meaning.proofs.Laws.Shape.{ShapedGroup, ShapedDefault, Shaped}
+use Rattle.meaning.proofs.Laws.Narrow.{NarrowGroup, Narrow}
+use Rattle.meaning.proofs.Laws.Rows.{pad-none, rowsOf, length-rowsOf, length-rows, rows-at, each-rowsOf, each-rows}
+use Rattle.meaning.proofs.Laws.Stored.{slotRow, rangeRow}
 use Rattle.rules.proofs.Laws.Represents.{summary, flat, Read, unread-read}
-use Rattle.rules.proofs.Laws.Decoding.{decode-fits}
+use Rattle.meaning.proofs.Laws.Decoding.{decode-fits}
 use Rattle.rules.proofs.Laws.Admitted.{Alike, admit-right}
 
 -- what the check as run has taken in, beside what the definition has read

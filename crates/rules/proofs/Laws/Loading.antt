@@ -1,7 +1,7 @@
 -- Loading a table: how far its records have been taken, what the refusals of its end leave, and that the check's answer is the definition's.
 -- Each record that is taken leaves the same work before and after; at the end the arrays are those of the table that is read.
 use mathlib.Core.Bool.{Bool, true, false, not}
-use mathlib.Core.List.{List, [], _∷_, _++_}
+use mathlib.Core.List.{List, [], _∷_}
 use mathlib.Core.Option.{Option, none, some}
 use mathlib.Core.Path.{_≡_, refl, sym, ap, subst, _∙_}
 use Prim.Native.Nat.{ℕ, zero, suc, _+_, _*_, _%_, _/_, _≤_, _<_}
@@ -13,26 +13,25 @@ use lib.Seq.{drop-drop}
 use Rattle.lists.specs.Lists.{Each, isSome}
 use Rattle.lists.specs.Decide.{select}
 use Rattle.lists.proofs.Laws.Each.{each-front, each-back}
-use Rattle.rules.specs.Refusal.{Outcome, refused, accepted, andThen}
-use Rattle.rules.specs.Record.{Record, rule, range, output, term, default, decode}
+use Rattle.meaning.specs.Refusal.{Outcome, refused, accepted, andThen}
+use Rattle.meaning.specs.Record.{Record, rule, range, output, term, default, decode}
 use Rattle.rules.specs.Summary.{started, gap, admit, admitted, Arrays, slotsBy, rangesBy, blocksBy, constantsBy, ifAdmitted, ifTaken, arraysBy, Taken, takeOn, takeBy, takeRecords, Fitting}
 use Rattle.rules.specs.declared.reader.Reader.{Reader}
 use Rattle.rules.specs.declared.load.Load.{Load}
 use Rattle.rules.specs.declared.load.Load.the-variants as Load
-use Rattle.rules.specs.Table.{Table}
-use Rattle.rules.specs.Value.{safe}
-use Rattle.rules.specs.Reader.{Reading, unread, readRecords, readEnd, readRules, readTable}
-use Rattle.rules.specs.Flat.{slotWords, rangeWords, blockWords, constantWords, safeAt, Flat}
+use Rattle.meaning.specs.Table.{Table}
+use Rattle.meaning.specs.Value.{safe}
+use Rattle.meaning.specs.Reader.{Reading, unread, readRecords, readEnd, readRules, readTable}
+use Rattle.meaning.specs.Flat.{slotWords, rangeWords, blockWords, constantWords, safeAt, Flat}
 use Rattle.rules.specs.Answers.{endOf, LoadedBy}
-use Rattle.rules.proofs.Laws.Refusal.{accepted-not, accepted-same, refused-same}
-use Rattle.rules.proofs.Laws.Shape.{Shaped}
-use Rattle.rules.proofs.Laws.Narrow.{Narrow}
-use Rattle.rules.proofs.Laws.Reading.{read-shaped}
-use Rattle.rules.proofs.Laws.Rows.{length-rows}
+use Rattle.meaning.proofs.Laws.Refusal.{accepted-not, accepted-same, refused-same}
+use Rattle.meaning.proofs.Laws.Shape.{Shaped}
+use Rattle.meaning.proofs.Laws.Reading.{read-shaped}
+use Rattle.meaning.proofs.Laws.Rows.{length-rows}
 use Rattle.rules.proofs.Laws.Represents.{summary, flat, Read, read-fitting}
 use Rattle.rules.proofs.Laws.Flattened.{TakenRight, emptied, take-right, end-right, flat-flat}
-use Rattle.rules.proofs.Laws.SafeFlat.{each-numbers, safe-flat}
-use Rattle.rules.proofs.Laws.Decoding.{FittingRecord, decode-fits}
+use Rattle.meaning.proofs.Laws.SafeFlat.{each-numbers, safe-flat}
+use Rattle.meaning.proofs.Laws.Decoding.{FittingRecord, decode-fits}
 use Rattle.rules.proofs.Laws.Stepping.{SmallRecord, started-fitting, admit-fitting, slotsBy-length, rangesBy-length, blocksBy-length, constantsBy-length, ifTaken-length}
 
 -- what is known of a slice's elements by number
@@ -48,9 +47,6 @@ arraysIf r x m =
       blocks = ifTaken r x blocksBy (m .blocks);
       constants = ifTaken r x constantsBy (m .constants);
     }
-
-pub arrays-same : {m k : Arrays} → m .slots ≡ k .slots → m .ranges ≡ k .ranges → m .blocks ≡ k .blocks → m .constants ≡ k .constants → m ≡ k
-arrays-same p q r s = λ i. record { slots = p i; ranges = q i; blocks = r i; constants = s i }
 
 -- one record: refused, or the rest is taken on from what it leaves
 abbrev leaving : Reader → Record → Arrays → Outcome Reader → Arrays

@@ -3,24 +3,24 @@
 use mathlib.Core.Bool.{Bool, false, not, _||_, true≢false}
 use mathlib.Core.List.{List, [], _∷_, _++_}
 use mathlib.Core.Option.{Option, none, some}
-use mathlib.Core.Path.{_≡_, refl, sym, ap, ap₂, subst, _∙_}
-use Prim.Native.Nat.{ℕ, zero, suc, _+_, _^_, _≤_, _<_}
+use mathlib.Core.Path.{_≡_, refl, sym, ap₂, subst}
+use Prim.Native.Nat.{ℕ, _≤_}
 use native.Mathlib.Omega.{arith}
 use lib.Dec.{T, eqb, eqb→eq}
 use lib.IntN.{pos}
-use lib.ListN.{length, length-append}
+use lib.ListN.{length}
 use Rattle.lists.specs.Lists.{Each, atLast, lastD, isSome, optional}
 use Rattle.lists.proofs.Laws.Tests.{of-T, of-not, or-cases}
 use Rattle.lists.proofs.Laws.Each.{each-append, each-front, each-back, each-weaken}
-use Rattle.rules.specs.Table.{Range, Output, sum, Group, Table, everyCharacter, groups}
-use Rattle.rules.specs.Reader.{Reading, unread, reach, ranging, changeLatest}
+use Rattle.meaning.specs.Table.{sum, Group, Table, everyCharacter}
+use Rattle.meaning.specs.Reader.{Reading, unread, reach, ranging, changeLatest}
 use Rattle.rules.specs.Summary.{Arrays, started, Fitting}
-use Rattle.rules.specs.Flat.{slotWords, rangeWords, blockWords, constantWords}
+use Rattle.meaning.specs.Flat.{slotWords, rangeWords, blockWords, constantWords}
 use Rattle.rules.specs.declared.reader.Reader.{Reader}
-use Rattle.rules.proofs.Laws.Reading.{Begun, Plain, Ended, KeptReading, top, atLast-length, last-each, unread-kept}
-use Rattle.rules.proofs.Laws.Narrow.{NarrowGroup, Narrow}
-use Rattle.rules.proofs.Laws.Rows.{Grouped}
-use Rattle.rules.proofs.Laws.Stored.{last-atLast}
+use Rattle.meaning.proofs.Laws.Reading.{Begun, Plain, Ended, KeptReading, top, atLast-length, last-each, unread-kept}
+use Rattle.meaning.proofs.Laws.Narrow.{NarrowGroup, Narrow}
+use Rattle.meaning.proofs.Laws.Rows.{Grouped}
+use Rattle.meaning.proofs.Laws.Stored.{last-atLast}
 
 -- the last record's kind, the number of rules, whether there is a default, and the group read last
 abbrev pub summaryOf : ℕ → ℕ → Bool → Group → Reader
@@ -45,6 +45,9 @@ summary s = summaryOf (s .kind) (length (s .table .rules)) (isSome (s .table .de
 
 abbrev pub flat : Table → Arrays
 flat t = record { slots = slotWords t; ranges = rangeWords t; blocks = blockWords t; constants = constantWords t }
+
+pub arrays-same : {m k : Arrays} → m .slots ≡ k .slots → m .ranges ≡ k .ranges → m .blocks ≡ k .blocks → m .constants ≡ k .constants → m ≡ k
+arrays-same p q r s = λ i. record { slots = p i; ranges = q i; blocks = r i; constants = s i }
 
 -- what holds of every reading on the way
 pub record Read (s : Reading) : Type 0 where

@@ -4,15 +4,15 @@ use mathlib.Core.Bool.{Bool, true, false, _&&_, _||_, not, cond, true≢false}
 use mathlib.Core.List.{List}
 use mathlib.Core.Logic.{_≢_}
 use mathlib.Core.Option.{Option, none, some}
-use mathlib.Core.Path.{_≡_, refl, sym, subst}
+use mathlib.Core.Path.{_≡_, refl, sym, ap, subst}
 use Prim.Native.Nat.{ℕ, pred, _+_, _≤_, _<_}
 use native.Mathlib.Omega.{arith}
 use borrow.Author.Tests.{eqb-false, eq-eqb}
 use lib.Dec.{T, eqb, leb, ltb, nleb→lt, nltb→le, eqb→eq}
 use lib.ListN.{length, length-set}
-use Rattle.lists.proofs.Laws.Tests.{of-not, not-not, or-none, or-cases, of-cond, by-cases}
-use Rattle.rules.specs.Refusal.{Outcome, refused, accepted}
-use Rattle.rules.specs.Record.{Record, rule, range, output, term, default}
+use Rattle.lists.proofs.Laws.Tests.{of-not, not-not, or-none, or-cases, of-cond, by-cases, neqb→ne}
+use Rattle.meaning.specs.Refusal.{Outcome, refused, accepted}
+use Rattle.meaning.specs.Record.{Record, rule, range, output, term, default}
 use Rattle.rules.specs.Summary.{started, rangesRead, admit, groupNumber, slotNumber, slotsBy, rangesBy, blocksBy, constantsBy, ifAdmitted, ifTaken, Fitting}
 use Rattle.rules.specs.declared.reader.Reader.{Reader}
 
@@ -20,13 +20,17 @@ pub fails : (b : Bool) → b ≡ false → T (not b)
 fails true e = absurd (true≢false e)
 fails false e = tt
 
-other-than : (a b : ℕ) → T (not (eqb a b)) → a ≢ b
-other-than a b t = eqb-false a b (of-not (eqb a b) t)
-
 -- an array that the record leaves as it is
 pub untouched : (o : Outcome Reader) (l : List ℕ) → l ≡ ifAdmitted o l l
 untouched (refused n) l = refl
 untouched (accepted r) l = refl
+
+-- an array that the record changes if it is admitted
+pub kept : {o : Outcome Reader} {n : ℕ} (new old : List ℕ) → o ≡ refused n → old ≡ ifAdmitted o new old
+kept new old e = ap (λ x. ifAdmitted x new old) (sym e)
+
+pub changed : {o : Outcome Reader} {r : Reader} (new old : List ℕ) → o ≡ accepted r → new ≡ ifAdmitted o new old
+changed new old e = ap (λ x. ifAdmitted x new old) (sym e)
 
 -- the arrays keep their lengths
 
@@ -93,7 +97,7 @@ range-comes r p lowest h =
 
 pub slot-free : (r : Reader) (p : ℕ) → r .slots ≤ 4 → r .positions ≤ p + 1 → p ≤ r .positions → positionFull r p ≡ false → slotNumber r p < 4
 slot-free r p s n m e =
-    of-cond (λ k. k < 4) (eqb p (r .positions)) 0 (r .slots) (λ _. omega arith) (λ t. few (other-than p (r .positions) t))
+    of-cond (λ k. k < 4) (eqb p (r .positions)) 0 (r .slots) (λ _. omega arith) (λ t. few (neqb→ne p (r .positions) t))
   where
     few : p ≢ r .positions → r .slots < 4
     few d =
@@ -171,7 +175,7 @@ admit-fit r (rule k a) f s =
           λ _. tt,
           λ n.
               let few : r .rules ≤ 32 = f .rules in
-              let other : r .rules ≢ 32 = other-than (r .rules) 32 n in
+              let other : r .rules ≢ 32 = neqb→ne (r .rules) 32 n in
               record {
                 rules = omega arith;
                 size = s;
@@ -222,7 +226,7 @@ admit-fit r (output c) f s =
           λ _. tt,
           λ n.
               let few : r .outputs ≤ 8 = f .outputs in
-              let other : r .outputs ≢ 8 = other-than (r .outputs) 8 n in
+              let other : r .outputs ≢ 8 = neqb→ne (r .outputs) 8 n in
               record {
                 rules = f .rules;
                 size = f .size;

@@ -1,6 +1,6 @@
 -- The run over machine words: what each move asks and leaves, and that a turn leads on to the same end.
 -- A step of the machine that leads on uses one of its fuel, of which more changes nothing; the rest is the text's places.
-use mathlib.Core.Bool.{Bool, true, false, _&&_, not}
+use mathlib.Core.Bool.{Bool, true, false, not}
 use mathlib.Core.List.{List, [], _∷_, _++_, append-nil}
 use mathlib.Core.Logic.{_≢_}
 use mathlib.Core.Path.{_≡_, refl, sym, ap, subst, _∙_}
@@ -9,31 +9,27 @@ use native.Mathlib.Nat.{mul-le-mul-left}
 use native.Mathlib.Omega.{arith}
 use lib.Dec.{T, eqb, eqb→eq}
 use lib.ListN.{length, getD, set, take, drop, length-append, length-drop, take-append-drop, drop-of-length-le}
-use lib.Seq.{take-all, drop-nil, length-take-le, take-suc, drop-cons, getD-drop, take-suc-set, take-append-seam, drop-append-seam, take-at, drop-at, take-add, drop-drop}
-use Rattle.lists.specs.Lists.{isEmpty}
+use lib.Seq.{take-all, drop-nil, length-take-le, take-suc, drop-cons, append-snoc, getD-drop, set-at, take-append-seam, drop-append-seam, take-at, drop-at, take-add, drop-drop}
 use Rattle.lists.proofs.Laws.Tests.{to-T}
-use Rattle.rules.specs.Table.{defaultNumber}
-use Rattle.rules.specs.Block.{at, blockOutput}
-use Rattle.rules.specs.Meaning.{Emission, textOf, covered}
-use Rattle.rules.specs.Direct.{over}
-use Rattle.machine.specs.Sound.{longestWord, expansionWord, ruleCount, stateCount, depthWord, acceptAtEndWord, acceptWord, targetWord, classCount, blockAt, used, sound}
-use Rattle.machine.specs.Classes.{classOf}
-use Rattle.machine.specs.Automaton.{Automaton, fromWords}
+use Rattle.meaning.specs.Table.{defaultNumber}
+use Rattle.meaning.specs.Block.{at, blockOutput}
+use Rattle.meaning.specs.Meaning.{Emission, textOf, covered}
+use Rattle.meaning.specs.Direct.{over}
+use Rattle.meaning.proofs.Laws.Writing.{text-append, covered-append}
+use Rattle.automaton.specs.Sound.{longestWord, expansionWord, ruleCount, stateCount, depthWord, acceptWord, targetWord, classCount, blockAt, sound}
+use Rattle.automaton.specs.Classes.{classOf}
+use Rattle.automaton.specs.Automaton.{Automaton, fromWords}
 use Rattle.machine.specs.declared.numbers.RuleNo.{RuleNo}
 use Rattle.machine.specs.declared.numbers.StateNo.{StateNo}
-use Rattle.machine.proofs.Laws.Good.{after, Leads}
-use Rattle.machine.proofs.Laws.Words.{Names, sound-header, sound-rule, sound-default, sound-state, sound-class, sound-good, sound-longest, length-blockOutput}
-use Rattle.session.specs.Machine.{Configuration, Status, Open, Closed, Stopped, onward, halt, step, Ended, steps, run, start}
-use Rattle.session.specs.Session.{settled, path, isAt}
+use Rattle.automaton.proofs.Laws.Good.{after, Leads}
+use Rattle.automaton.proofs.Laws.Words.{Names, sound-header, sound-rule, sound-default, sound-state, sound-class, sound-good, sound-longest, length-blockOutput}
+use Rattle.reckoning.specs.Machine.{Configuration, Status, Open, Closed, Stopped, onward, halt, step, Ended, steps, run, start}
+use Rattle.reckoning.specs.Session.{path, isAt}
 use Rattle.session.specs.Keeping.{statusOf}
-use Rattle.session.specs.Running.{firstOf, standing, stepOf, OnCharacter, AtEnd, Fits, Within, Decides, storeOf, Placed, Going, Finished, left, Onward, Beyond}
-use Rattle.session.specs.declared.run.Move.{Move}
-use Rattle.session.specs.declared.run.Move.the-variants.{Emit, Read, Back, Wait, Close}
+use Rattle.session.specs.Running.{firstOf, standing, stepOf, Fits, Decides, storeOf, Placed, Going, Finished, left, Onward, Beyond, Move, Emit, Read, Back, Wait, Close}
 use Rattle.session.specs.declared.run.Ran.{Ran}
-use Rattle.session.proofs.Laws.Walk.{settled-both}
-use Rattle.session.proofs.Laws.Run.{step-accept, step-read, step-back, step-settled, step-wait, step-end, step-close, step-giveBack, due-read, due-stop, due-emit, steps-onward, steps-halt, fuel-enough}
-use Rattle.session.proofs.Laws.Kept.{path-leads}
-use Rattle.session.proofs.Laws.Calls.{textOf-append, covered-append}
+use Rattle.reckoning.proofs.Laws.Run.{step-accept, step-read, step-back, due-read, due-stop, due-emit, steps-onward, steps-halt, fuel-enough}
+use Rattle.reckoning.proofs.Laws.Kept.{path-leads}
 
 pub of-not-true : (b : Bool) → not b ≡ true → b ≡ false
 of-not-true false e = refl
@@ -62,16 +58,33 @@ first-at (x ∷ given) piece (suc i) h =
     let e : suc i - suc (length given) ≡ i - length given = omega arith in
     rw e (first-at given piece i (omega arith))
 
--- one more character of the text is in the store
-pub gather-step : (u store : List ℕ) (n i x : ℕ) → i < length store → n + i < length u → x ≡ getD u (n + i) 0 →
-    take i store ≡ take i (drop n u) → take (i + 1) (set store i x) ≡ take (i + 1) (drop n u)
-gather-step u store n i x h k e p =
+-- one more character of the text is in the store, which was found with other characters
+pub gather-step : (u found store : List ℕ) (n i x : ℕ) → i < length found → n + i < length u → x ≡ getD u (n + i) 0 →
+    store ≡ over (take i (drop n u)) found → set store i x ≡ over (take (i + 1) (drop n u)) found
+gather-step u found store n i x h k e p =
+    let room = length-drop n u in
+    let done = take i (drop n u) in
+    let beyond = drop (suc i) found in
     let z : i + 1 ≡ suc i = omega arith in
-    let y : x ≡ getD (drop n u) i 0 = e ∙ sym (getD-drop n u i 0) in
-    rw z (take-suc-set store i x h ∙ ap (λ l. l ++ (x ∷ [])) p ∙ ap (λ c. take i (drop n u) ++ (c ∷ [])) y ∙ sym (take-suc (drop n u) i 0 (omega (arith, length-drop n u))))
+    let size : length done ≡ i = length-take-le i (drop n u) (omega arith) in
+    let full : length (take (suc i) (drop n u)) ≡ suc i = length-take-le (suc i) (drop n u) (omega arith) in
+    let split : drop (length done) found ≡ getD found i 0 ∷ beyond = ap (λ m. drop m found) size ∙ drop-cons found i 0 h in
+    let next : take (suc i) (drop n u) ≡ done ++ (x ∷ []) = take-suc (drop n u) i 0 (omega arith) ∙ ap (λ c. done ++ (c ∷ [])) (getD-drop n u i 0 ∙ sym e) in
+    let joined : done ++ x ∷ beyond ≡ over (take (i + 1) (drop n u)) found = rw (z, full) (sym (ap (λ l. l ++ beyond) next ∙ append-snoc done x beyond)) in
+    ap (λ l. set l i x) (p ∙ ap (λ l. done ++ l) split) ∙ set-at done (getD found i 0) beyond x i size ∙ joined
+
+-- the store's first places, once m characters are in it
+pub gathered : (u found store : List ℕ) (n m : ℕ) → n + m ≤ length u → store ≡ over (take m (drop n u)) found → take m store ≡ take m (drop n u)
+gathered u found store n m h e = ap (take m) e ∙ take-at (take m (drop n u)) _ m (length-take-le m (drop n u) (omega (arith, length-drop n u)))
+
+-- the move is the machine's step in state q before the character x, whatever the store and the rest
+abbrev OnCharacter : Automaton → ℕ → ℕ → Move → Type 0
+OnCharacter m q x v =
+    (ended : Bool) (store rest : List ℕ) (log : List Emission) (n : ℕ) →
+    step m ended (standing store (x ∷ rest) q log n) ≡ stepOf v (standing store (x ∷ rest) q log n)
 
 module _ (w : List ℕ) (W : T (sound w)) (q : ℕ) (b : q < stateCount w) where
-  rule-fits : (g : RuleNo) (n : ℕ) → suc (g .0) ≡ n → (n ≢ 0 → Names w (depthWord w q) n) → Fits w q (Emit g)
+  pub rule-fits : (g : RuleNo) (n : ℕ) → suc (g .0) ≡ n → (n ≢ 0 → Names w (depthWord w q) n) → Fits w q (Emit g)
   rule-fits g n e f =
       let k = f (omega arith) in
       let p : pred n ≡ g .0 = omega arith in
@@ -80,7 +93,7 @@ module _ (w : List ℕ) (W : T (sound w)) (q : ℕ) (b : q < stateCount w) where
       let z : at (blockAt w (g .0)) 0 ≡ depthWord w q = rw p at (k .size) in
       (omega (arith, sound-header w W .few-rules), z, omega (arith, s .positive), s .outputs)
 
-  -- before a character
+  -- what the machine does before a character
   module _ (x : ℕ) where
     pub character-emits : (g : RuleNo) → suc (g .0) ≡ acceptWord w q → OnCharacter (fromWords w) q x (Emit g) × Fits w q (Emit g)
     unfolding fromWords
@@ -104,100 +117,13 @@ module _ (w : List ℕ) (W : T (sound w)) (q : ℕ) (b : q < stateCount w) where
         reads zero y = absurd (h y)
         reads (suc t) y = λ ended store rest log n. rw y (step-read (fromWords w) ended store x rest q log n t (sym e) (sym z ∙ y))
 
-  -- where nothing is unread
-  pub pause-waits : (stored : Bool) → settled (fromWords w) q ≡ false → AtEnd (fromWords w) q stored false Wait
-  pause-waits stored h store log n e = step-wait (fromWords w) store q log n h
-
-  pub pause-emits : (g : RuleNo) → settled (fromWords w) q ≡ true → suc (g .0) ≡ acceptAtEndWord w q →
-      ((stored : Bool) → AtEnd (fromWords w) q stored false (Emit g)) × Fits w q (Emit g)
-  unfolding fromWords
-  pause-emits g h e =
-      let k = settled-both (fromWords w) q (to-T (settled (fromWords w) q) h) in
-      let p : pred (acceptWord w q) ≡ g .0 = omega (arith, k .1, k .2) in
-      (λ stored store log n _. rw (← p) (step-settled (fromWords w) store q log n h), rule-fits g (acceptAtEndWord w q) e (sound-state w W q b .end))
-
-  pub settled-words : (r : Bool) → r ≡ (used (acceptWord w q) && eqb (acceptWord w q) (acceptAtEndWord w q)) → settled (fromWords w) q ≡ r
-  unfolding fromWords
-  settled-words r e = sym e
-
-  pub pause-rule : settled (fromWords w) q ≡ true → acceptAtEndWord w q ≢ 0
-  unfolding fromWords
-  pause-rule h = let k = settled-both (fromWords w) q (to-T (settled (fromWords w) q) h) in omega (arith, k .2)
-
-  pub end-emits : (stored : Bool) (g : RuleNo) → suc (g .0) ≡ acceptAtEndWord w q → AtEnd (fromWords w) q stored true (Emit g) × Fits w q (Emit g)
-  unfolding fromWords
-  end-emits stored g e =
-      (λ store log n _. step-end (fromWords w) store q log n (g .0) (sym e), rule-fits g (acceptAtEndWord w q) e (sound-state w W q b .end))
-
-  pub end-backs : 0 ≡ acceptAtEndWord w q → AtEnd (fromWords w) q true true Back
-  unfolding fromWords
-  end-backs e [] log n h = absurd (subst T h tt)
-  end-backs e (y ∷ store) log n h = step-giveBack (fromWords w) q log n y store (sym e)
-
-  pub end-closes : 0 ≡ acceptAtEndWord w q → AtEnd (fromWords w) q false true Close
-  unfolding fromWords
-  end-closes e [] log n h = step-close (fromWords w) q log n (sym e)
-  end-closes e (y ∷ store) log n h = absurd (subst T (sym h) tt)
-
--- The store of a text, empty or not.
-
-empty-store : (u : List ℕ) (before after : ℕ) → after ≤ before → isEmpty (take (after - before) (drop before u)) ≡ true
-empty-store u before after h = let z : after - before ≡ 0 = omega arith in rw z refl
-
-some-store : (u : List ℕ) (before after : ℕ) → before < after → after ≤ length u → isEmpty (take (after - before) (drop before u)) ≡ false
-some-store u before after h i =
-    let z : after - before ≡ suc (after - before - 1) = omega arith in
-    rw (z, drop-cons u before 0 (omega arith)) refl
-
--- The decision, by the place in the text.
+-- The step, by the place in the text.
 module _ (w u : List ℕ) (ended : Bool) (q before after : ℕ) (v : Move) where
   pub decides-character : (x : ℕ) → after < length u → x ≡ getD u after 0 → OnCharacter (fromWords w) q x v → Decides w u ended q before after v
   decides-character x h e f log n =
       let store = take (after - before) (drop before u) in
       let p : x ∷ drop (suc after) u ≡ drop after u = ap (λ y. y ∷ drop (suc after) u) e ∙ sym (drop-cons u after 0 h) in
       subst (λ z. step (fromWords w) ended (standing store z q log n) ≡ stepOf v (standing store z q log n)) p (f ended store (drop (suc after) u) log n)
-
-  decides-none : (stored : Bool) → length u ≤ after → isEmpty (take (after - before) (drop before u)) ≡ not stored →
-      AtEnd (fromWords w) q stored ended v → Decides w u ended q before after v
-  decides-none stored h e f log n =
-      let store = take (after - before) (drop before u) in
-      subst (λ z. step (fromWords w) ended (standing store z q log n) ≡ stepOf v (standing store z q log n)) (sym (drop-of-length-le u h)) (f store log n e)
-
-  pub decides-stored : length u ≤ after → after ≤ length u → before < after → AtEnd (fromWords w) q true ended v → Decides w u ended q before after v
-  decides-stored h i j f = decides-none true h (some-store u before after j i) f
-
-  pub decides-empty : length u ≤ after → after ≤ before → AtEnd (fromWords w) q false ended v → Decides w u ended q before after v
-  decides-empty h i f = decides-none false h (empty-store u before after i) f
-
-  pub decides-pause : length u ≤ after → ((stored : Bool) → AtEnd (fromWords w) q stored ended v) → Decides w u ended q before after v
-  decides-pause h f = by-store (take (after - before) (drop before u)) refl
-    where
-      by-store : (l : List ℕ) → take (after - before) (drop before u) ≡ l → Decides w u ended q before after v
-      by-store [] e = decides-none false h (ap isEmpty e) (f false)
-      by-store (y ∷ l) e = decides-none true h (ap isEmpty e) (f true)
-
--- A move's places, by the place in the text.
-
-pub within-character : (before after n : ℕ) (v : Move) → before < n → after < n → Within before after n v
-within-character before after n (Emit g) h i = tt
-within-character before after n (Read p) h i = i
-within-character before after n Back h i = h
-within-character before after n Wait h i = tt
-within-character before after n Close h i = tt
-
-pub within-stored : (before after n : ℕ) (v : Move) → before < n → Within 0 1 1 v → Within before after n v
-within-stored before after n (Emit g) h i = tt
-within-stored before after n (Read p) h i = absurd (omega arith)
-within-stored before after n Back h i = h
-within-stored before after n Wait h i = tt
-within-stored before after n Close h i = tt
-
-pub within-none : (before after n : ℕ) (v : Move) → Within 1 1 1 v → Within before after n v
-within-none before after n (Emit g) i = tt
-within-none before after n (Read p) i = absurd (omega arith)
-within-none before after n Back i = absurd (omega arith)
-within-none before after n Wait i = tt
-within-none before after n Close i = tt
 
 -- A run with fuel enough: a step that leads on changes nothing, and one that halts is its end.
 module _ (A : Automaton) (ended : Bool) (most : ℕ) (r : Ended) where
@@ -233,7 +159,7 @@ module _ (write : ℕ → List ℕ → List ℕ) (log : List Emission) (g : ℕ)
 
   text-one : textOf write (log ++ (emission ∷ [])) ≡ textOf write log ++ write g word
   unfolding textOf
-  text-one = textOf-append write log (emission ∷ []) ∙ ap (λ l. textOf write log ++ l) (append-nil (write g word))
+  text-one = text-append write log (emission ∷ []) ∙ ap (λ l. textOf write log ++ l) (append-nil (write g word))
 
   covers-one : covered (log ++ (emission ∷ [])) ≡ covered log + length word
   unfolding covered
@@ -251,6 +177,20 @@ turn-room w u room now P some k few =
     let z : expansionWord w * (now .from + 1) ≤ expansionWord w * length u = mul-le-mul-left (expansionWord w) (omega arith) in
     let x : expansionWord w * (now .from + 1) ≡ expansionWord w * now .from + expansionWord w = omega arith in
     omega (arith, P .written, P .enough)
+
+-- group g is written for a word after what was written, and what stands beyond it is as found
+module _ (w u : List ℕ) (old : Ran) (before : List ℕ) (P : Placed w u (length before) old) where
+  group-put : (g : ℕ) (word after : List ℕ) → after ≡ take (old .count) before ++ blockOutput (blockAt w g) word ++ drop (old .count + at (blockAt w g) 2) before →
+      (take (old .count + at (blockAt w g) 2) after ≡ take (old .count) before ++ blockOutput (blockAt w g) word)
+      × (drop (old .count + at (blockAt w g) 2) after ≡ drop (old .count + at (blockAt w g) 2) before)
+  group-put g word after wrote =
+      let z : expansionWord w * old .from ≤ expansionWord w * length u = mul-le-mul-left (expansionWord w) (omega (arith, P .order, P .inside)) in
+      let room : old .count ≤ length before = omega (arith, P .written, P .enough) in
+      placed-text before (blockOutput (blockAt w g) word) after (old .count) (at (blockAt w g) 2) room (length-blockOutput (blockAt w g) word) wrote
+
+  pub beyond-put : (new : Ran) (g : ℕ) (word after : List ℕ) → new .count ≡ old .count + at (blockAt w g) 2 →
+      after ≡ take (old .count) before ++ blockOutput (blockAt w g) word ++ drop (old .count + at (blockAt w g) 2) before → Beyond old before new after
+  beyond-put new g word after e wrote = (omega arith, rw e (group-put g word after wrote .1))
 
 pub default-words : (w : List ℕ) (b : Bool) → b ≡ eqb (at w 5) 1 → fromWords w .default ≡ b
 unfolding fromWords
@@ -283,11 +223,13 @@ module _ (w u : List ℕ) (ended : Bool) (W : T (sound w)) (old : Ran) (before :
   -- the run ended with the old log
   ended-as : (r : Ended) (G : Going w u ended r old before) (b : Status) (f : Configuration) → r ≡ record { status = b; final = f } → statusOf (new .status) ≡ b →
       new .state .0 ≡ f .state → storeOf u new ≡ f .store → new .from ≡ old .from → new .count ≡ old .count → new .steps ≡ f .steps → f .log ≡ G .log →
-      Finished w u r new before
-  ended-as r G b f e e₀ e₁ e₂ e₃ e₄ e₅ e₆ =
+      new .from ≤ new .at → new .at ≤ old .at → Finished w u r new before
+  ended-as r G b f e e₀ e₁ e₂ e₃ e₄ e₅ e₆ p₁ p₂ =
       subst (λ z. Finished w u z new before) (sym e) (record {
         status = e₀;
         state = e₁;
+        order = p₁;
+        inside = omega (arith, P .inside);
         store = e₂;
         covers = ap covered e₆ ∙ G .covers ∙ sym e₃;
         count = e₄ ∙ G .count ∙ ap (λ l. length (textOf (fromWords w .write) l)) (sym e₆);
@@ -353,16 +295,8 @@ module _ (w u : List ℕ) (ended : Bool) (W : T (sound w)) (old : Ran) (before :
     abbrev k : ℕ
     k = at (blockAt w g) 2
 
-    room : old .count ≤ length before
-    room =
-        let z : expansionWord w * old .from ≤ expansionWord w * length u = mul-le-mul-left (expansionWord w) (omega arith) in
-        omega (arith, P .written, P .enough)
-
     text-put : (take (old .count + k) after ≡ take (old .count) before ++ blockOutput (blockAt w g) word) × (drop (old .count + k) after ≡ drop (old .count + k) before)
-    text-put = placed-text before (blockOutput (blockAt w g) word) after (old .count) k room (length-blockOutput (blockAt w g) word) wrote
-
-    pub beyond-emit : Beyond old before new after
-    beyond-emit = (omega arith, rw e₄ (text-put .1))
+    text-put = group-put w u old before P g word after wrote
 
     emit-placed : Placed w u (length before) new
     emit-placed =
@@ -406,7 +340,7 @@ module _ (w u : List ℕ) (ended : Bool) (W : T (sound w)) (old : Ran) (before :
           text = ap (λ x. take x after) e₄ ∙ text-put .0 ∙ ap (λ l. l ++ blockOutput (blockAt w g) word) (G .text) ∙ sym t;
         }
 
-    pub onward-put : Onward w u ended (length before) old before false new after
+    onward-put : Onward w u ended (length before) old before false new after
     onward-put = (emit-placed, omega (arith, P .order, P .inside), emit-going)
 
   -- *emit*
@@ -425,7 +359,7 @@ module _ (w u : List ℕ) (ended : Bool) (W : T (sound w)) (old : Ran) (before :
         subst (Runs A ended most r) (λ i. standing [] (drop (sym to-end i) u) 0 later (old .steps + 1))
         (runs-on A ended most r (stood log (old .steps)) d (st log (old .steps)) h)
 
-    pub onward-emit : Onward w u ended (length before) old before false new after × Beyond old before new after
+    pub onward-emit : Onward w u ended (length before) old before false new after
     onward-emit =
         let i₁ = fits .2 in
         let i₂ = P .depth in
@@ -436,7 +370,7 @@ module _ (w u : List ℕ) (ended : Bool) (W : T (sound w)) (old : Ran) (before :
         let p₄ : n < 9 * n = omega arith in
         let p₅ : new .from ≡ old .from + n = e₂ ∙ sym to-end in
         let p₆ : new .at ≡ old .from + n = e₃ ∙ sym to-end in
-        (onward-put (g .0) n after 1 e₁ p₅ p₆ e₄ e₅ p₁ p₂ p₃ p₄ (fits .3) wrote emit-leads, beyond-emit (g .0) n after 1 e₁ p₅ p₆ e₄ e₅ p₁ p₂ p₃ p₄ (fits .3) wrote emit-leads)
+        onward-put (g .0) n after 1 e₁ p₅ p₆ e₄ e₅ p₁ p₂ p₃ p₄ (fits .3) wrote emit-leads
 
   -- *back*, where something stands before the end
   module _ (st : (log : List Emission) (n : ℕ) → step A ended (stood log n) ≡ stepOf Back (stood log n)) (some : old .from < length u) where
@@ -485,7 +419,7 @@ module _ (w u : List ℕ) (ended : Bool) (W : T (sound w)) (old : Ran) (before :
           let p₂ : old .from + 1 ≤ length u = omega arith in
           let p₃ : old .at - old .from + 3 ≤ 11 * 1 = omega (arith, shallow) in
           let p₄ : old .at - old .from < 9 * 1 = omega (arith, shallow) in
-          (onward-put defaultNumber 1 after 3 e₁ e₂ e₃ e₄ e₅ p₁ p₂ p₃ p₄ few-default wrote default-leads, beyond-emit defaultNumber 1 after 3 e₁ e₂ e₃ e₄ e₅ p₁ p₂ p₃ p₄ few-default wrote default-leads)
+          (onward-put defaultNumber 1 after 3 e₁ e₂ e₃ e₄ e₅ p₁ p₂ p₃ p₄ few-default wrote default-leads, beyond-put w u old before P new defaultNumber (take 1 (drop (old .from) u)) after e₄ wrote)
 
     pub onward-stop : A .default ≡ false → statusOf (new .status) ≡ Stopped → new .state .0 ≡ 0 → new .from ≡ old .from → new .at ≡ old .from →
         new .count ≡ old .count → new .steps ≡ old .steps + 2 → Onward w u ended (length before) old before true new before
@@ -495,7 +429,7 @@ module _ (w u : List ℕ) (ended : Bool) (W : T (sound w)) (old : Ran) (before :
         let f : Configuration = standing [] [] 0 (G .log) (s + 1 + 1) in
         let h₁ : Runs A ended most r c₁ = runs-on A ended most r (stood (G .log) s) c₁ (back-step (G .log)) (G .runs) in
         let e : r ≡ record { status = Stopped; final = f } = runs-halt A ended most r c₁ f Stopped (due-stop A ended (y ∷ v) (G .log) (s + 1) d) h₁ in
-        ended-as r G Stopped f e e₀ e₁ (none-of u (new .at) (new .from) (e₃ ∙ sym e₂)) e₂ e₄ (omega arith) refl
+        ended-as r G Stopped f e e₀ e₁ (none-of u (new .at) (new .from) (e₃ ∙ sym e₂)) e₂ e₄ (omega arith) refl (omega arith) (omega (arith, P .order))
 
   -- the run waits, or closes
   pub onward-wait : ((log : List Emission) (n : ℕ) → step A ended (stood log n) ≡ stepOf Wait (stood log n)) → statusOf (new .status) ≡ Open →
@@ -504,7 +438,7 @@ module _ (w u : List ℕ) (ended : Bool) (W : T (sound w)) (old : Ran) (before :
   onward-wait st e₀ e₁ e₂ e₃ e₄ e₅ r G =
       let f : Configuration = stood (G .log) (old .steps) in
       let s : storeOf u new ≡ storeOf u old = λ i. take (e₃ i - e₂ i) (drop (e₂ i) u) in
-      ended-as r G Open f (runs-halt A ended most r f f Open (st (G .log) (old .steps)) (G .runs)) e₀ e₁ s e₂ e₄ e₅ refl
+      ended-as r G Open f (runs-halt A ended most r f f Open (st (G .log) (old .steps)) (G .runs)) e₀ e₁ s e₂ e₄ e₅ refl (omega (arith, P .order)) (omega arith)
 
   pub onward-close : ((log : List Emission) (n : ℕ) → step A ended (stood log n) ≡ stepOf Close (stood log n)) → statusOf (new .status) ≡ Closed →
       new .state .0 ≡ 0 → new .from ≡ old .from → new .at ≡ old .from → new .count ≡ old .count → new .steps ≡ old .steps + 1 →
@@ -512,7 +446,7 @@ module _ (w u : List ℕ) (ended : Bool) (W : T (sound w)) (old : Ran) (before :
   onward-close st e₀ e₁ e₂ e₃ e₄ e₅ r G =
       let f : Configuration = standing [] [] 0 (G .log) (old .steps + 1) in
       ended-as r G Closed f (runs-halt A ended most r (stood (G .log) (old .steps)) f Closed (st (G .log) (old .steps)) (G .runs)) e₀ e₁
-      (none-of u (new .at) (new .from) (e₃ ∙ sym e₂)) e₂ e₄ e₅ refl
+      (none-of u (new .at) (new .from) (e₃ ∙ sym e₂)) e₂ e₄ e₅ refl (omega arith) (omega (arith, P .order))
 
 -- A whole run: done, or placed and going on.
 

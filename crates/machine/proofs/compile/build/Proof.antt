@@ -8,14 +8,14 @@ use native.Mathlib.Omega.{arith}
 use borrow.Author.Needs.{needs}
 use lib.ListN.{length, drop}
 use Rattle.lists.specs.Lists.{pad}
-use Rattle.rules.specs.Table.{Table}
-use Rattle.rules.specs.Flat.{tableAt}
+use Rattle.meaning.specs.Table.{Table}
+use Rattle.meaning.specs.Flat.{tableAt}
 use Rattle.rules.proofs.Laws.Converting.{expansion-eight}
-use Rattle.machine.specs.Classes.{starts}
-use Rattle.machine.specs.States.{states}
-use Rattle.machine.specs.Layout.{wordCount}
-use Rattle.machine.specs.Gathered.{Gathered}
-use Rattle.machine.specs.Noted.{Kept}
+use Rattle.automaton.specs.Classes.{starts}
+use Rattle.automaton.specs.States.{states}
+use Rattle.automaton.specs.Layout.{wordCount}
+use Rattle.automaton.specs.Gathered.{Gathered}
+use Rattle.automaton.specs.Noted.{Kept}
 use Rattle.machine.proofs.Laws.Compiling.{longest-eight, drop-later, zero-starts, gathered-back, gathered-zero, gathered-number, gathered-over, gathered-start, states-over, states-few, put-together, built-classes, built-states, built-words}
 use Rattle.machine.proofs.compile.build.Statement.{statement}
 use Rattle.machine.proofs.compile.build.Tie as tie

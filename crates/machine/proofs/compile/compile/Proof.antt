@@ -8,7 +8,7 @@ use lib.ListN.{length}
 use Rattle.lists.specs.Lists.{Each}
 use Rattle.rules.proofs.Laws.Flattened.{pad-zeros}
 use Rattle.rules.proofs.Laws.Loading.{each-known}
-use Rattle.machine.specs.Layout.{wordCount}
+use Rattle.automaton.specs.Layout.{wordCount}
 use Rattle.machine.proofs.Laws.Compiling.{cleared-back, cleared, compile-short, compile-refused, compile-flat, compile-built}
 use Rattle.machine.proofs.compile.compile.Statement.{statement}
 use Rattle.machine.proofs.compile.compile.Tie as tie

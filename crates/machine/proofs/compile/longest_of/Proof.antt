@@ -5,7 +5,7 @@ use mathlib.Core.Path.{_≡_, refl, ap, _∙_}
 use Prim.Native.Nat.{_*_, _-_, _≤_, _<_}
 use native.Mathlib.Numerals.{add-one}
 use native.Mathlib.Omega.{arith}
-use Rattle.rules.specs.Block.{at}
+use Rattle.meaning.specs.Block.{at}
 use Rattle.machine.specs.Compiled.{longestAt}
 use Rattle.machine.proofs.compile.longest_of.Statement.{statement}
 use Rattle.machine.proofs.compile.longest_of.Tie as tie

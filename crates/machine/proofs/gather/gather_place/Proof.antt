@@ -5,11 +5,11 @@ use Prim.Native.Nat.{_≤_, _+_, _-_, _*_}
 use borrow.Author.Needs.{needs}
 use lib.ListN.{length}
 use Rattle.lists.specs.Lists.{flatMap, tabFrom}
-use Rattle.rules.specs.Block.{at}
-use Rattle.rules.specs.Flat.{rangesAt}
-use Rattle.machine.specs.Classes.{edges}
-use Rattle.machine.specs.Gathered.{rangeFrom, Gathers}
-use Rattle.machine.proofs.Laws.Gathering.{gathers-next}
+use Rattle.meaning.specs.Block.{at}
+use Rattle.meaning.specs.Flat.{rangesAt}
+use Rattle.automaton.specs.Classes.{edges}
+use Rattle.automaton.specs.Gathered.{rangeFrom, Gathers}
+use Rattle.automaton.proofs.Laws.Gathering.{gathers-next}
 use Rattle.machine.proofs.gather.gather_place.Statement.{statement}
 use Rattle.machine.proofs.gather.gather_place.Tie as tie
 

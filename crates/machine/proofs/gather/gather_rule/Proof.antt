@@ -6,11 +6,11 @@ use native.Mathlib.Omega.{arith}
 use borrow.Author.Needs.{needs}
 use lib.ListN.{length}
 use Rattle.lists.specs.Lists.{flatMap, tabFrom}
-use Rattle.rules.specs.Block.{at}
-use Rattle.rules.specs.Flat.{patternAt, rangesAt}
-use Rattle.machine.specs.Classes.{edges}
-use Rattle.machine.specs.Gathered.{Gathers}
-use Rattle.machine.proofs.Laws.Gathering.{gathers-next}
+use Rattle.meaning.specs.Block.{at}
+use Rattle.meaning.specs.Flat.{patternAt, rangesAt}
+use Rattle.automaton.specs.Classes.{edges}
+use Rattle.automaton.specs.Gathered.{Gathers}
+use Rattle.automaton.proofs.Laws.Gathering.{gathers-next}
 use Rattle.machine.proofs.gather.gather_rule.Statement.{statement}
 use Rattle.machine.proofs.gather.gather_rule.Tie as tie
 

@@ -3,13 +3,14 @@
 use mathlib.Core.Bool.{false}
 use mathlib.Core.Path.{_≡_}
 use Prim.Native.Nat.{_≤_, _-_}
+use native.Mathlib.Omega.{arith}
 use borrow.Author.Needs.{needs}
 use lib.ListN.{length}
 use Rattle.lists.specs.Lists.{flatMap, tabFrom}
-use Rattle.rules.specs.Flat.{tableAt, groupAt}
-use Rattle.machine.specs.Classes.{edges}
-use Rattle.machine.specs.Gathered.{Gathers}
-use Rattle.machine.proofs.Laws.Gathering.{gathered, gathers-next}
+use Rattle.meaning.specs.Flat.{tableAt, groupAt}
+use Rattle.automaton.specs.Classes.{edges}
+use Rattle.automaton.specs.Gathered.{Gathers}
+use Rattle.automaton.proofs.Laws.Gathering.{gathered, gathers-next}
 use Rattle.machine.proofs.gather.gather_starts.Statement.{statement}
 use Rattle.machine.proofs.gather.gather_starts.Tie as tie
 
@@ -24,7 +25,10 @@ loop-holds : tie.Need-loop-holds Inv-loop μ-loop
 loop-holds c = search needs
 
 gather-rule-requires : tie.Need-gather-rule-requires Inv-loop μ-loop
-gather-rule-requires c κs = search needs
+gather-rule-requires c κs =
+    let l = c .before .before in
+    let s = l .before .before .before .before .before in
+    ((s .pre .0 .0, omega (arith, c .before .loop-test .taken, s .pre .0 .1)), (omega (arith, l .loop .inv .1, s .pre .1 .0), l .loop .inv .2 .few))
 
 add-rule : tie.Need-add-rule Inv-loop μ-loop
 add-rule c = search needs

@@ -3,7 +3,7 @@
 use Prim.Native.Nat.{_≤_, _<_}
 use native.Mathlib.Omega.{arith}
 use borrow.Author.Needs.{needs}
-use Rattle.machine.proofs.Laws.Gathering.{place-few, gathers-full, met-there, met-over, met-new}
+use Rattle.automaton.proofs.Laws.Gathering.{place-few, gathers-full, met-there, met-over, met-new}
 use Rattle.machine.proofs.gather.insert_start.Statement.{statement}
 use Rattle.machine.proofs.gather.insert_start.Tie as tie
 

@@ -4,8 +4,8 @@ use mathlib.Core.Path.{_≡_, sym, _∙_}
 use Prim.Native.Nat.{_≤_, _+_, _-_}
 use borrow.Author.Needs.{needs}
 use lib.ListN.{take, drop}
-use Rattle.machine.specs.Gathered.{placeIn}
-use Rattle.machine.proofs.Laws.Gathering.{place-start, place-further, place-found, place-end}
+use Rattle.automaton.specs.Gathered.{placeIn}
+use Rattle.automaton.proofs.Laws.Gathering.{place-start, place-further, place-found, place-end}
 use Rattle.machine.proofs.gather.place_of.Statement.{statement}
 use Rattle.machine.proofs.gather.place_of.Tie as tie
 

@@ -4,10 +4,10 @@ use mathlib.Core.Path.{_≡_, sym}
 use Prim.Native.Nat.{_+_, _-_, _≤_, _<_}
 use native.Mathlib.Omega.{arith}
 use lib.ListN.{length}
-use Rattle.rules.specs.Block.{at}
-use Rattle.machine.specs.Layout.{wordCount}
-use Rattle.machine.proofs.Laws.Words.{sound-header}
-use Rattle.machine.proofs.Laws.Reading.{first-start, class-found}
+use Rattle.meaning.specs.Block.{at}
+use Rattle.automaton.specs.Layout.{wordCount}
+use Rattle.automaton.proofs.Laws.Words.{sound-header}
+use Rattle.automaton.proofs.Laws.Reading.{first-start, class-found}
 use Rattle.machine.proofs.read.class_of.Statement.{statement}
 use Rattle.machine.proofs.read.class_of.Tie as tie
 

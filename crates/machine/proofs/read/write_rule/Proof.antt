@@ -1,13 +1,12 @@
 -- `read::write_rule` meets its contract: the blocks of the words, taken by themselves, hold the group's block.
 -- Assumes nothing.
-use mathlib.Core.Path.{_≡_, ap, _∙_}
+use mathlib.Core.Path.{sym, ap, subst, _∙_}
 use Prim.Native.Nat.{_+_, _*_, _≤_}
-use native.Mathlib.Omega.{arith}
+use native.Mathlib.Nat.{zero-add}
 use borrow.Author.Needs.{needs}
-use lib.ListN.{length, drop, length-drop}
-use lib.Seq.{length-take-le}
-use Rattle.rules.specs.Block.{at}
-use Rattle.machine.proofs.Laws.Reading.{blocksOf, blocks-size, blocks-count, blocks-written}
+use lib.ListN.{length}
+use Rattle.meaning.specs.Block.{at}
+use Rattle.automaton.proofs.Laws.Reading.{blocksOf, blocks-long, blocks-size, blocks-count, blocks-written}
 use Rattle.machine.proofs.read.write_rule.Statement.{statement}
 use Rattle.machine.proofs.read.write_rule.Tie as tie
 
@@ -27,11 +26,18 @@ write-group-requires c κs =
     let w = a .words .now in
     let g = a .group in
     let h = s .pre .0 .1 in
-    let size = blocks-size w g h in
-    let few = blocks-count w g h in
-    let long : length (blocksOf w) ≡ 2475 = length-take-le 2475 (drop 17222 w) (omega (arith, length-drop 17222 w)) in
-    let room : a .count + at (blocksOf w) (75 * g + 2) ≤ length (a .output .now) = omega arith in
-    ((h, long), ((omega arith, omega arith), (omega arith, room)))
+    let small = s .pre .1 .0 in
+    let size = sym (blocks-size w g h) in
+    let few = sym (blocks-count w g h) in (
+      (h, blocks-long w (s .pre .0 .0)),
+      (
+        (subst (λ n. n ≤ 8) size (small .0), subst (λ n. n ≤ 8) few (small .1)),
+        (
+          subst (λ n. n ≤ length (a .store .now)) (size ∙ sym (zero-add (at (blocksOf w) (75 * g)))) (s .pre .1 .1 .0),
+          subst (λ n. a .count + n ≤ length (a .output .now)) few (s .pre .1 .1 .1),
+        ),
+      ),
+    )
 
 same-length : tie.Need-same-length
 same-length c = search needs

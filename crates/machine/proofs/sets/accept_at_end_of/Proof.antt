@@ -2,7 +2,7 @@
 -- Assumes nothing.
 use mathlib.Core.Path.{sym, _∙_}
 use borrow.Author.Needs.{needs}
-use Rattle.machine.proofs.Laws.Sets.{accept-end-flat}
+use Rattle.automaton.proofs.Laws.Sets.{accept-end-flat}
 use Rattle.machine.proofs.sets.accept_at_end_of.Statement.{statement}
 use Rattle.machine.proofs.sets.accept_at_end_of.Tie as tie
 

@@ -3,7 +3,7 @@
 use mathlib.Core.Path.{_≡_, subst}
 use Prim.Native.Nat.{_-_, _≤_}
 use native.Mathlib.Omega.{arith}
-use Rattle.machine.proofs.Laws.Sets.{Whole, whole-none, whole-more, power-up-to}
+use Rattle.automaton.proofs.Laws.Sets.{Whole, whole-none, whole-more, power-up-to}
 use Rattle.machine.proofs.sets.all_rules.Statement.{statement}
 use Rattle.machine.proofs.sets.all_rules.Tie as tie
 

@@ -4,7 +4,7 @@ use Prim.Native.Nat.{_+_, _*_, _≤_}
 use native.Mathlib.Omega.{arith}
 use borrow.Author.Needs.{needs}
 use borrow.Author.Tests.{lt-ltb, le-ltb}
-use Rattle.rules.specs.Block.{at}
+use Rattle.meaning.specs.Block.{at}
 use Rattle.machine.proofs.sets.goes_on.Statement.{statement}
 use Rattle.machine.proofs.sets.goes_on.Tie as tie
 

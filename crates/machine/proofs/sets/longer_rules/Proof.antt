@@ -5,7 +5,7 @@ use mathlib.Core.Logic.{⊎-elim}
 use mathlib.Core.Path.{_≡_, sym, subst, _∙_}
 use Prim.Native.Nat.{ℕ, _^_, _≤_, _<_}
 use native.Mathlib.Omega.{arith}
-use Rattle.machine.proofs.Laws.Sets.{power-up-to, left-rule, Filtered, Built, built-start, built-end, built-take, built-skip, goesOn, longer-flat}
+use Rattle.automaton.proofs.Laws.Sets.{power-up-to, left-rule, Filtered, Built, built-start, built-end, built-take, built-skip, goesOn, longer-flat}
 use Rattle.machine.proofs.sets.longer_rules.Statement.{statement}
 use Rattle.machine.proofs.sets.longer_rules.Tie as tie
 

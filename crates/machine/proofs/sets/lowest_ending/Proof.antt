@@ -5,7 +5,7 @@ use mathlib.Core.Logic.{⊎-elim}
 use mathlib.Core.Path.{_≡_, sym, subst, _∙_}
 use Prim.Native.Nat.{ℕ, _<_}
 use native.Mathlib.Omega.{arith}
-use Rattle.machine.proofs.Laws.Sets.{left-rule, Sought, sought-start, sought-end, sought-found, sought-skip, endsAt}
+use Rattle.automaton.proofs.Laws.Sets.{left-rule, Sought, sought-start, sought-end, sought-found, sought-skip, endsAt}
 use Rattle.machine.proofs.sets.lowest_ending.Statement.{statement}
 use Rattle.machine.proofs.sets.lowest_ending.Tie as tie
 

@@ -2,7 +2,7 @@
 -- Assumes nothing.
 use mathlib.Core.Path.{sym, _∙_}
 use denote.Ref.{now}
-use Rattle.machine.proofs.Laws.Checking.{unused, in-use, names-word}
+use Rattle.automaton.proofs.Laws.Checking.{unused, in-use, names-word}
 use borrow.Author.Needs.{needs}
 use Rattle.machine.proofs.sound_words.accept_at_end_sound.Statement.{statement}
 use Rattle.machine.proofs.sound_words.accept_at_end_sound.Tie as tie

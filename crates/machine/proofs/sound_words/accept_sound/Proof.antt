@@ -4,8 +4,9 @@ use mathlib.Core.Path.{_≡_, sym, ap, _∙_}
 use native.Mathlib.Omega.{arith}
 use borrow.Author.Tests.{eq-eqb, ne-eqb}
 use denote.Ref.{now}
-use Rattle.machine.specs.Sound.{depthWord, acceptWord, used, namesRule}
-use Rattle.machine.proofs.Laws.Checking.{passed, failed, all-stops, all-next, all-last, unused, in-use, names-small, names-word, named-word}
+use Rattle.lists.proofs.Laws.Tests.{passed, failed, all-stops, all-next, all-last}
+use Rattle.automaton.specs.Sound.{depthWord, acceptWord, used, namesRule}
+use Rattle.automaton.proofs.Laws.Checking.{unused, in-use, names-small, names-word, named-word}
 use borrow.Author.Needs.{needs}
 use Rattle.machine.proofs.sound_words.accept_sound.Statement.{statement}
 use Rattle.machine.proofs.sound_words.accept_sound.Tie as tie

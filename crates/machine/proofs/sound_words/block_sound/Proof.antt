@@ -3,7 +3,8 @@
 use mathlib.Core.Path.{sym, _∙_}
 use borrow.Author.Tests.{le-leb, lt-leb}
 use denote.Ref.{now}
-use Rattle.machine.proofs.Laws.Checking.{passed, failed, all-stops, all-next, all-last, block-words}
+use Rattle.lists.proofs.Laws.Tests.{passed, failed, all-stops, all-next, all-last}
+use Rattle.automaton.proofs.Laws.Checking.{block-words}
 use borrow.Author.Needs.{needs}
 use Rattle.machine.proofs.sound_words.block_sound.Statement.{statement}
 use Rattle.machine.proofs.sound_words.block_sound.Tie as tie

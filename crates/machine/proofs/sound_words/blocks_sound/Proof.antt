@@ -2,8 +2,9 @@
 -- Assumes nothing.
 use mathlib.Core.Path.{sym, _∙_}
 use borrow.Author.Tests.{eq-eqb, ne-eqb}
-use Rattle.machine.specs.Sound.{soundBlocks}
-use Rattle.machine.proofs.Laws.Checking.{passed, failed, all-stops, all-next, all-last, counts, waived}
+use Rattle.lists.proofs.Laws.Tests.{passed, failed, all-stops, all-next, all-last}
+use Rattle.automaton.specs.Sound.{soundBlocks}
+use Rattle.automaton.proofs.Laws.Checking.{counts, waived}
 use borrow.Author.Needs.{needs}
 use Rattle.machine.proofs.sound_words.blocks_sound.Statement.{statement}
 use Rattle.machine.proofs.sound_words.blocks_sound.Tie as tie

@@ -4,8 +4,9 @@ use mathlib.Core.Bool.{not}
 use mathlib.Core.Path.{_≡_, sym, ap, _∙_}
 use borrow.Author.Tests.{eq-eqb, ne-eqb}
 use denote.Ref.{now}
-use Rattle.machine.specs.Sound.{targetWord, soundTarget}
-use Rattle.machine.proofs.Laws.Checking.{all-stops, all-next, all-last, unused, in-use}
+use Rattle.lists.proofs.Laws.Tests.{all-stops, all-next, all-last}
+use Rattle.automaton.specs.Sound.{targetWord, soundTarget}
+use Rattle.automaton.proofs.Laws.Checking.{unused, in-use}
 use borrow.Author.Needs.{needs}
 use Rattle.machine.proofs.sound_words.class_target_sound.Statement.{statement}
 use Rattle.machine.proofs.sound_words.class_target_sound.Tie as tie

@@ -4,7 +4,7 @@ use mathlib.Core.Path.{ap, _∙_}
 use borrow.Author.Tests.{eq-eqb, ne-eqb}
 use denote.Ref.{now}
 use lib.Dec.{eqb}
-use Rattle.machine.specs.Sound.{longestWord, between}
+use Rattle.automaton.specs.Sound.{longestWord, between}
 use borrow.Author.Needs.{needs}
 use Rattle.machine.proofs.sound_words.depth_sound.Statement.{statement}
 use Rattle.machine.proofs.sound_words.depth_sound.Tie as tie

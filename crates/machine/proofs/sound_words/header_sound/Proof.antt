@@ -7,9 +7,9 @@ use borrow.Author.Tests.{le-leb, lt-leb}
 use denote.Ref.{now}
 use lib.Dec.{leb}
 use Rattle.lists.specs.Decide.{allOf}
-use Rattle.rules.specs.Block.{at}
-use Rattle.machine.specs.Sound.{between, soundHeader}
-use Rattle.machine.proofs.Laws.Checking.{passed, failed, all-stops, all-next, all-last}
+use Rattle.lists.proofs.Laws.Tests.{passed, failed, all-stops, all-next, all-last}
+use Rattle.meaning.specs.Block.{at}
+use Rattle.automaton.specs.Sound.{between, soundHeader}
 use borrow.Author.Needs.{needs}
 use Rattle.machine.proofs.sound_words.header_sound.Statement.{statement}
 use Rattle.machine.proofs.sound_words.header_sound.Tie as tie

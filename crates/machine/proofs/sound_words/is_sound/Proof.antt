@@ -6,8 +6,9 @@ use Prim.Native.Nat.{ℕ, _≤_}
 use borrow.Author.Tests.{le-leb, lt-leb}
 use denote.Ref.{now}
 use Rattle.lists.specs.Decide.{allOf, forBelow}
-use Rattle.machine.specs.Sound.{stateCount, classCount, ruleCount, soundStarts, soundBlocks, soundState, sound}
-use Rattle.machine.proofs.Laws.Checking.{passed, failed, all-stops, all-next, all-last, header-small}
+use Rattle.lists.proofs.Laws.Tests.{passed, failed, all-stops, all-next, all-last}
+use Rattle.automaton.specs.Sound.{stateCount, classCount, ruleCount, soundStarts, soundBlocks, soundState, sound}
+use Rattle.automaton.proofs.Laws.Checking.{header-small}
 use borrow.Author.Needs.{needs}
 use Rattle.machine.proofs.sound_words.is_sound.Statement.{statement}
 use Rattle.machine.proofs.sound_words.is_sound.Tie as tie

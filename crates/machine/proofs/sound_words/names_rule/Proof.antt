@@ -2,7 +2,7 @@
 -- Assumes nothing.
 use mathlib.Core.Path.{sym}
 use denote.Ref.{now}
-use Rattle.machine.proofs.Laws.Checking.{names-none, names-one}
+use Rattle.automaton.proofs.Laws.Checking.{names-none, names-one}
 use borrow.Author.Needs.{needs}
 use Rattle.machine.proofs.sound_words.names_rule.Statement.{statement}
 use Rattle.machine.proofs.sound_words.names_rule.Tie as tie

@@ -9,10 +9,10 @@ use borrow.Author.Tests.{lt-ltb, le-ltb, eq-eqb, ne-eqb}
 use denote.Ref.{now}
 use lib.Dec.{ltb}
 use Rattle.lists.specs.Decide.{forBelow}
-use Rattle.rules.specs.Block.{at}
-use Rattle.rules.proofs.Laws.Extremes.{none-below, below-again, below-fails}
-use Rattle.machine.specs.Sound.{classCount, soundStarts}
-use Rattle.machine.proofs.Laws.Checking.{all-stops, all-next, all-last}
+use Rattle.lists.proofs.Laws.Tests.{all-stops, all-next, all-last}
+use Rattle.meaning.specs.Block.{at}
+use Rattle.meaning.proofs.Laws.Extremes.{none-below, below-again, below-fails}
+use Rattle.automaton.specs.Sound.{classCount, soundStarts}
 use Rattle.machine.proofs.sound_words.starts_sound.Statement.{statement}
 use Rattle.machine.proofs.sound_words.starts_sound.Tie as tie
 

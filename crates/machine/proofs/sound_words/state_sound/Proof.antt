@@ -1,8 +1,8 @@
 -- `state_sound` meets its contract: the first clause that fails decides, and past three the targets.
 -- Assumes nothing.
 use mathlib.Core.Path.{sym, _∙_}
-use Rattle.machine.specs.Sound.{soundState}
-use Rattle.machine.proofs.Laws.Checking.{passed, failed, all-stops, all-next, all-last}
+use Rattle.lists.proofs.Laws.Tests.{passed, failed, all-stops, all-next, all-last}
+use Rattle.automaton.specs.Sound.{soundState}
 use borrow.Author.Needs.{needs}
 use Rattle.machine.proofs.sound_words.state_sound.Statement.{statement}
 use Rattle.machine.proofs.sound_words.state_sound.Tie as tie

@@ -6,8 +6,8 @@ use Prim.Native.Nat.{_-_, _≤_}
 use native.Mathlib.Omega.{arith}
 use denote.Ref.{now}
 use Rattle.lists.specs.Decide.{forBelow}
-use Rattle.rules.proofs.Laws.Extremes.{none-below, below-again, below-fails}
-use Rattle.machine.specs.Sound.{stateCount, soundState}
+use Rattle.meaning.proofs.Laws.Extremes.{none-below, below-again, below-fails}
+use Rattle.automaton.specs.Sound.{stateCount, soundState}
 use Rattle.machine.proofs.sound_words.states_sound.Statement.{statement}
 use Rattle.machine.proofs.sound_words.states_sound.Tie as tie
 

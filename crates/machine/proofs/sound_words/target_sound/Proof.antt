@@ -2,8 +2,9 @@
 -- Assumes nothing.
 use mathlib.Core.Path.{sym, _∙_}
 use borrow.Author.Tests.{lt-ltb, le-ltb}
-use Rattle.machine.specs.Sound.{soundTarget}
-use Rattle.machine.proofs.Laws.Checking.{all-stops, all-next, all-last, one-deeper}
+use Rattle.lists.proofs.Laws.Tests.{all-stops, all-next, all-last}
+use Rattle.automaton.specs.Sound.{soundTarget}
+use Rattle.automaton.proofs.Laws.Checking.{one-deeper}
 use borrow.Author.Needs.{needs}
 use Rattle.machine.proofs.sound_words.target_sound.Statement.{statement}
 use Rattle.machine.proofs.sound_words.target_sound.Tie as tie

@@ -7,8 +7,8 @@ use Prim.Native.Nat.{ℕ, _-_, _≤_}
 use native.Mathlib.Omega.{arith}
 use denote.Ref.{now}
 use Rattle.lists.specs.Decide.{allOf, forBelow, implies}
-use Rattle.rules.proofs.Laws.Extremes.{none-below, below-again, below-fails}
-use Rattle.machine.specs.Sound.{classCount, acceptWord, targetWord, used, soundTarget}
+use Rattle.meaning.proofs.Laws.Extremes.{none-below, below-again, below-fails}
+use Rattle.automaton.specs.Sound.{classCount, acceptWord, targetWord, used, soundTarget}
 use Rattle.machine.proofs.sound_words.targets_sound.Statement.{statement}
 use Rattle.machine.proofs.sound_words.targets_sound.Tie as tie
 

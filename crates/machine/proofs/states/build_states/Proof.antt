@@ -8,12 +8,12 @@ use native.Mathlib.Numerals.{add-one}
 use borrow.Author.Tests.{lt-ltb, le-ltb}
 use native.Mathlib.Omega.{arith}
 use lib.ListN.{length, set, length-set}
-use Rattle.rules.specs.Table.{Table}
-use Rattle.rules.specs.Flat.{tableAt}
-use Rattle.machine.specs.States.{states}
-use Rattle.machine.specs.Noted.{NotedAt, Kept}
-use Rattle.machine.proofs.Laws.Noting.{kept-same, kept-set, kept-on}
-use Rattle.machine.proofs.Laws.Building.{rules-counted, noted-start, noted-below, noted-count, noted-words}
+use Rattle.meaning.specs.Table.{Table}
+use Rattle.meaning.specs.Flat.{tableAt}
+use Rattle.automaton.specs.States.{states}
+use Rattle.automaton.specs.Noted.{NotedAt, Kept}
+use Rattle.automaton.proofs.Laws.Noting.{kept-same, kept-set, kept-on}
+use Rattle.automaton.proofs.Laws.Building.{rules-counted, noted-start, noted-below, noted-count, noted-words}
 use Rattle.machine.proofs.states.build_states.Statement.{statement}
 use Rattle.machine.proofs.states.build_states.Tie as tie
 

@@ -4,7 +4,7 @@ use mathlib.Core.Logic.{⊎-elim}
 use mathlib.Core.Path.{sym}
 use Prim.Native.Nat.{_+_, _-_, _*_}
 use native.Mathlib.Omega.{arith}
-use Rattle.machine.proofs.Laws.Looking.{Looked, looked-from, looked-next, looked-found, looked-end}
+use Rattle.automaton.proofs.Laws.Looking.{Looked, looked-from, looked-next, looked-found, looked-end}
 use Rattle.machine.proofs.states.find_state.Statement.{statement}
 use Rattle.machine.proofs.states.find_state.Tie as tie
 

@@ -6,12 +6,12 @@ use Prim.Native.Nat.{_+_, _*_, _≤_}
 use borrow.Author.Needs.{needs}
 use native.Mathlib.Omega.{arith}
 use lib.ListN.{set, length-set}
-use Rattle.rules.specs.Table.{Table}
-use Rattle.rules.specs.Flat.{tableAt}
-use Rattle.machine.specs.Sound.{depthWord}
-use Rattle.machine.specs.Build.{stateOf, numberIn, statesAt}
-use Rattle.machine.proofs.Laws.Noting.{kept-same, kept-set, kept-on, onward, too-large}
-use Rattle.machine.proofs.Laws.Meeting.{noted-depths, Ways, ways-on}
+use Rattle.meaning.specs.Table.{Table}
+use Rattle.meaning.specs.Flat.{tableAt}
+use Rattle.automaton.specs.Sound.{depthWord}
+use Rattle.automaton.specs.Build.{stateOf, numberIn, statesAt}
+use Rattle.automaton.proofs.Laws.Noting.{kept-same, kept-set, kept-on, onward, too-large}
+use Rattle.automaton.proofs.Laws.Meeting.{noted-depths, Ways, ways-on}
 use Rattle.machine.proofs.states.note_class.Statement.{statement}
 use Rattle.machine.proofs.states.note_class.Tie as tie
 

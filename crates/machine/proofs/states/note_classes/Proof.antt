@@ -6,12 +6,12 @@ use Prim.Native.Nat.{suc, _-_, _≤_}
 use native.Mathlib.Numerals.{add-one}
 use native.Mathlib.Omega.{arith}
 use lib.ListN.{length}
-use Rattle.rules.specs.Table.{Table}
-use Rattle.rules.specs.Flat.{tableAt}
-use Rattle.machine.specs.Classes.{starts}
-use Rattle.machine.specs.Noted.{NotedAt, Kept}
-use Rattle.machine.proofs.Laws.Noting.{kept-same, kept-on, onward, too-large}
-use Rattle.machine.proofs.Laws.Meeting.{noted-here, row-done}
+use Rattle.meaning.specs.Table.{Table}
+use Rattle.meaning.specs.Flat.{tableAt}
+use Rattle.automaton.specs.Classes.{starts}
+use Rattle.automaton.specs.Noted.{NotedAt, Kept}
+use Rattle.automaton.proofs.Laws.Noting.{kept-same, kept-on, onward, too-large}
+use Rattle.automaton.proofs.Laws.Meeting.{noted-here, row-done}
 use Rattle.machine.proofs.states.note_classes.Statement.{statement}
 use Rattle.machine.proofs.states.note_classes.Tie as tie
 

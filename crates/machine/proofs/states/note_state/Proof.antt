@@ -6,15 +6,15 @@ use mathlib.Core.Path.{_≡_, sym, _∙_}
 use Prim.Native.Nat.{ℕ, suc, _+_, _*_, _≤_}
 use native.Mathlib.Omega.{arith}
 use lib.ListN.{length, set, length-set}
-use Rattle.rules.specs.Table.{Table}
-use Rattle.rules.specs.Flat.{tableAt}
-use Rattle.machine.specs.Classes.{starts}
-use Rattle.machine.specs.States.{acceptOf}
-use Rattle.machine.specs.Sound.{depthWord}
-use Rattle.machine.specs.Noted.{NotedAt, Kept}
-use Rattle.machine.proofs.Laws.Good.{stateAt}
-use Rattle.machine.proofs.Laws.Noting.{kept-set, kept-on, onward}
-use Rattle.machine.proofs.Laws.Meeting.{accepts-noted, accepting, row-done}
+use Rattle.meaning.specs.Table.{Table}
+use Rattle.meaning.specs.Flat.{tableAt}
+use Rattle.automaton.specs.Classes.{starts}
+use Rattle.automaton.specs.States.{acceptOf}
+use Rattle.automaton.specs.Sound.{depthWord}
+use Rattle.automaton.specs.Noted.{NotedAt, Kept}
+use Rattle.automaton.proofs.Laws.Good.{stateAt}
+use Rattle.automaton.proofs.Laws.Noting.{kept-set, kept-on, onward}
+use Rattle.automaton.proofs.Laws.Meeting.{accepts-noted, accepting, row-done}
 use Rattle.machine.proofs.states.note_state.Statement.{statement}
 use Rattle.machine.proofs.states.note_state.Tie as tie
 

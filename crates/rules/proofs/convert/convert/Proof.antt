@@ -1,6 +1,6 @@
 -- `rules::convert::convert` meets its contract: the arrays are zeros, and what was loaded into them converts as the table does.
 -- The answer of the table check is the definition's.
-use mathlib.Core.Path.{_≡_, sym, ap, _∙_}
+use mathlib.Core.Path.{sym, ap, _∙_}
 use Prim.Native.Nat.{_<_}
 use native.Mathlib.Omega.{arith}
 use borrow.Author.Needs.{needs}
@@ -10,28 +10,19 @@ use Rattle.rules.proofs.Laws.Loading.{each-known}
 use Rattle.rules.proofs.Laws.Converting.{loaded-ready, loaded-direct, refused-direct}
 use Rattle.rules.proofs.convert.convert.Statement.{statement}
 use Rattle.rules.proofs.convert.convert.Tie as tie
-use Rattle.rules.proofs.convert.convert.Reads as reads
-use Rattle.rules.proofs.convert.convert.Lts as lts
-use Rattle.rules.proofs.convert.convert_loaded.Reads as convert-loaded-reads
-use Rattle.rules.proofs.load.load_table.Reads as load-table-reads
 
--- src/convert.rt:125:36
 slice-aggregate-load-table : tie.Need-slice-aggregate-load-table
 slice-aggregate-load-table c = search needs
 
--- src/convert.rt:125:48
 slice-aggregate-load-table-2 : tie.Need-slice-aggregate-load-table-2
 slice-aggregate-load-table-2 c = search needs
 
--- src/convert.rt:125:61
 slice-aggregate-load-table-3 : tie.Need-slice-aggregate-load-table-3
 slice-aggregate-load-table-3 c = search needs
 
--- src/convert.rt:125:9
 load-table-requires : tie.Need-load-table-requires
 load-table-requires c κs = (sym (pad-zeros 264), sym (pad-zeros 2112), sym (pad-zeros 2475))
 
--- src/convert.rt:127:23
 -- where the table has been loaded: the function's entry, the bytes and the input's characters
 abbrev start : tie.After-load-table → tie.Start
 start c = c .before .before .before .before .before .before .before
@@ -45,23 +36,18 @@ characters c = each-known 65536 (start c .args .input .now) (λ i. omega (arith,
 enum-known-loaded : tie.Need-enum-known-loaded
 enum-known-loaded c = search needs
 
--- src/convert.rt:128:26
 enum-known-loaded-2 : tie.Need-enum-known-loaded-2
 enum-known-loaded-2 c = search needs
 
--- src/convert.rt:129:28
 slice-aggregate-convert-loaded : tie.Need-slice-aggregate-convert-loaded
 slice-aggregate-convert-loaded c = search needs
 
--- src/convert.rt:129:36
 slice-aggregate-convert-loaded-2 : tie.Need-slice-aggregate-convert-loaded-2
 slice-aggregate-convert-loaded-2 c = search needs
 
--- src/convert.rt:129:45
 slice-aggregate-convert-loaded-3 : tie.Need-slice-aggregate-convert-loaded-3
 slice-aggregate-convert-loaded-3 c = search needs
 
--- src/convert.rt:129:13
 convert-loaded-requires : tie.Need-convert-loaded-requires
 convert-loaded-requires c κs =
     let l = c .before .before .before .before .before .before .before .before .before .before in
@@ -69,17 +55,14 @@ convert-loaded-requires c κs =
     let ready = loaded-ready (start l .args .table .now) (l .load-table .result) _ _ _ (l .load-table .ensures) (told .0 .0) (told .0 .1 .0) (told .1) (bytes l) (start l .args .input .now) (characters l) in
     (ready .flat, (ready .few, (ready .positive, (ready .default, ready .room))))
 
--- src/convert.rt:118:1
 returns : tie.Need-returns
 returns c =
     let l = c .before .before .before .before .before .before in
     refused-direct (start l .args .table .now) (l .load-table .result) _ _ _ (l .load-table .ensures) (c .before .loaded .given .0 .0) (c .before .loaded .given .1) (start l .args .input .now) (start l .args .output .now)
 
--- src/convert.rt:118:1
 same-length : tie.Need-same-length
 same-length c = search needs
 
--- src/convert.rt:118:1
 returns-2 : tie.Need-returns-2
 returns-2 c =
     let done = c .before .before in

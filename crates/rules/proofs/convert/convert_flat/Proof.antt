@@ -5,10 +5,10 @@ use Prim.Native.Nat.{_-_}
 use native.Mathlib.Omega.{arith}
 use borrow.Author.Needs.{needs}
 use lib.ListN.{length}
-use Rattle.rules.specs.Table.{Table}
-use Rattle.rules.specs.Flat.{tableAt}
+use Rattle.meaning.specs.Table.{Table}
+use Rattle.meaning.specs.Flat.{tableAt}
 use Rattle.rules.specs.Answers.{choiceOf}
-use Rattle.rules.proofs.Laws.Writing.{Taken, choice-taken, Reached, reached-start, reached-close, reached-stop, reached-room, reached-step}
+use Rattle.meaning.proofs.Laws.Writing.{Taken, choice-taken, Reached, reached-start, reached-close, reached-stop, reached-room, reached-step}
 use Rattle.rules.proofs.convert.convert_flat.Statement.{statement}
 use Rattle.rules.proofs.convert.convert_flat.Tie as tie
 

@@ -5,26 +5,19 @@ use Prim.Native.Nat.{_*_, _≤_, _<_}
 use native.Mathlib.Omega.{arith}
 use borrow.Author.Needs.{needs}
 use lib.ListN.{length}
-use Rattle.rules.specs.Flat.{expansionAt}
+use Rattle.meaning.specs.Flat.{expansionAt}
 use Rattle.rules.proofs.Laws.Converting.{expansion-eight, flat-long, flat-narrow, flat-converted, expansion-fits}
 use Rattle.rules.proofs.convert.convert_loaded.Statement.{statement}
 use Rattle.rules.proofs.convert.convert_loaded.Tie as tie
-use Rattle.rules.proofs.convert.convert_loaded.Reads as reads
-use Rattle.rules.proofs.convert.convert_loaded.Lts as lts
-use Rattle.rules.proofs.convert.convert_flat.Reads as convert-flat-reads
-use Rattle.rules.proofs.convert.expansion.Reads as expansion-reads
 
--- src/convert.rt:109:9
 returns : tie.Need-returns
 returns c =
     let a = c .before .before .before .before .before .before .args in
     flat-long (a .slots .now) (a .ranges .now) (a .blocks .now) (a .rules) (a .defaulted) (a .input .now) (a .output .now) (c .if1 .taken)
 
--- src/convert.rt:111:23
 expansion-requires : tie.Need-expansion-requires
 expansion-requires c κs = search needs
 
--- src/convert.rt:111:23
 mul-if2 : tie.Need-mul-if2
 mul-if2 c =
     let s = c .before .before .before .before .before .before .before in
@@ -32,14 +25,12 @@ mul-if2 c =
     let small = expansion-eight (a .slots .now) (a .ranges .now) (a .blocks .now) (a .rules) (a .defaulted) (s .pre .0) (s .pre .1 .0) in
     rw (c .expansion .ensures) (omega (arith, expansion-fits (a .slots .now) (a .ranges .now) (a .blocks .now) (a .rules) (a .defaulted) (a .input .now) (a .output .now) (c .before .if1 .left) small))
 
--- src/convert.rt:112:9
 returns-2 : tie.Need-returns-2
 returns-2 c =
     let a = c .before .before .before .before .before .before .before .before .args in
     flat-narrow (a .slots .now) (a .ranges .now) (a .blocks .now) (a .rules) (a .defaulted) (a .input .now) (a .output .now) (c .before .before .if1 .left)
     (subst (λ x. length (a .output .now) < x * length (a .input .now)) (c .before .expansion .ensures) (c .if2 .taken))
 
--- src/convert.rt:114:5
 -- the text of every input has room
 wide : (c : tie.Else2) →
     let a = c .before .before .before .before .before .before .before .before .args in expansionAt (a .blocks .now) (a .rules) (a .defaulted) * length (a .input .now) ≤ length (a .output .now)
@@ -50,11 +41,9 @@ convert-flat-requires c κs =
     let p = c .before .before .before .before .before .before .before .before .before .pre in
     (p .0, (p .1 .0, (p .1 .1 .0, (p .1 .1 .1 .0, omega (arith, p .1 .1 .1 .1, wide (c .before))))))
 
--- src/convert.rt:88:1
 same-length : tie.Need-same-length
 same-length c = search needs
 
--- src/convert.rt:88:1
 returns-3 : tie.Need-returns-3
 returns-3 c =
     let done = c .before .before in

@@ -1,19 +1,15 @@
 -- `rules::convert::expansion` meets its contract: after each group the greatest count so far is that of the groups passed.
 -- The measure is what is left of the groups.
-use mathlib.Core.Bool.{Bool, true, false, cond}
+use mathlib.Core.Bool.{cond}
 use mathlib.Core.Logic.{⊎-elim}
-use mathlib.Core.Path.{_≡_, refl, sym, ap, _∙_}
-use Prim.Native.Nat.{ℕ, suc, max, _+_, _*_, _-_, _≤_, _<_}
+use mathlib.Core.Path.{_≡_, ap, _∙_}
+use Prim.Native.Nat.{_+_, _*_, _-_, _≤_, _<_}
 use native.Mathlib.Numerals.{add-one}
 use native.Mathlib.Omega.{arith}
-use borrow.Author.Needs.{needs}
-use lib.ListN.{length}
-use Rattle.rules.specs.Block.{at}
-use Rattle.rules.specs.Flat.{expansionFrom, expansionAt}
+use Rattle.meaning.specs.Block.{at}
+use Rattle.meaning.specs.Flat.{expansionFrom}
 use Rattle.rules.proofs.convert.expansion.Statement.{statement}
 use Rattle.rules.proofs.convert.expansion.Tie as tie
-use Rattle.rules.proofs.convert.expansion.Reads as reads
-use Rattle.rules.proofs.convert.expansion.Lts as lts
 
 abbrev Inv-loop : tie.InvT-loop
 Inv-loop blocks rules defaulted most₀ group₀ most group =

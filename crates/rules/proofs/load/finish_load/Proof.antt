@@ -9,40 +9,30 @@ use Rattle.lists.specs.Decide.{select}
 use Rattle.rules.specs.Summary.{gap}
 use Rattle.rules.proofs.load.finish_load.Statement.{statement}
 use Rattle.rules.proofs.load.finish_load.Tie as tie
-use Rattle.rules.proofs.load.finish_load.Reads as reads
-use Rattle.rules.proofs.load.finish_load.Lts as lts
-use Rattle.rules.proofs.reader.has_gap.Reads as has-gap-reads
-use Rattle.rules.proofs.safe.all_safe.Reads as all-safe-reads
 
--- src/load.rt:70:8
 has-gap-requires : tie.Need-has-gap-requires
 has-gap-requires c κs = search needs
 
 no-gap : (c : tie.Else2) → gap (c .before .before .before .before .before .before .before .args .reader) ≡ false
 no-gap c = sym (c .before .before .has-gap .ensures) ∙ c .before .if1 .left
 
--- src/load.rt:71:9
 returns : tie.Need-returns
 unfolding select
 returns c = simp (sym (c .before .has-gap .ensures) ∙ c .if1 .taken) refl
 
--- src/load.rt:75:9
 returns-2 : tie.Need-returns-2
 unfolding select
 returns-2 c = simp (sym (c .before .before .has-gap .ensures) ∙ c .before .if1 .left, eq-eqb _ _ (c .if2 .taken)) refl
 
--- src/load.rt:78:8
 all-safe-requires : tie.Need-all-safe-requires
 all-safe-requires c κs =
     let s = c .before .before .before .before .before .before .before in
     (s .pre .1 (no-gap c) (omega (arith, c .if2 .left)), s .pre .0 .0, s .pre .0 .1)
 
--- src/load.rt:79:9
 returns-3 : tie.Need-returns-3
 unfolding select
 returns-3 c = simp (no-gap (c .before .before), ne-eqb _ _ (c .before .before .if2 .left), sym (c .before .all-safe .ensures) ∙ c .if3 .taken) refl
 
--- src/load.rt:59:1
 returns-4 : tie.Need-returns-4
 unfolding select
 returns-4 c = simp (no-gap (c .before .before), ne-eqb _ _ (c .before .before .if2 .left), sym (c .before .all-safe .ensures) ∙ c .if3 .left) refl

@@ -11,29 +11,22 @@ use Rattle.lists.proofs.Laws.Parts.{length-pad}
 use Rattle.rules.specs.Summary.{Arrays}
 use Rattle.rules.specs.Answers.{stepOf}
 use Rattle.rules.proofs.Laws.Flattened.{emptied, pad-zeros}
-use Rattle.rules.proofs.Laws.Loading.{each-known, arrays-same, ragged-loaded, records-loaded, end-needs, end-loaded}
+use Rattle.rules.proofs.Laws.Represents.{arrays-same}
+use Rattle.rules.proofs.Laws.Loading.{each-known, ragged-loaded, records-loaded, end-needs, end-loaded}
 use Rattle.rules.proofs.load.load_table.Statement.{statement}
 use Rattle.rules.proofs.load.load_table.Tie as tie
-use Rattle.rules.proofs.load.load_table.Reads as reads
-use Rattle.rules.proofs.load.load_table.Lts as lts
-use Rattle.rules.proofs.load.finish_load.Reads as finish-load-reads
-use Rattle.rules.proofs.load.load_records.Reads as load-records-reads
 
--- src/load.rt:95:9
 returns : tie.Need-returns
 returns c = ragged-loaded _ _ _ _ (c .if1 .taken)
 
--- src/load.rt:98:59
 slice-aggregate-load-records : tie.Need-slice-aggregate-load-records
 slice-aggregate-load-records c = search needs
 
--- src/load.rt:98:9
 load-records-requires : tie.Need-load-records-requires
 load-records-requires c κs =
     let s = c .before .before .before .before .before .before .before .before .before in
     (c .before .before .before .before .if1 .left, (ap length (s .pre .0) ∙ length-pad 264 _, ap length (s .pre .1) ∙ length-pad 2112 _, ap length (s .pre .2) ∙ length-pad 2475 _, refl))
 
--- src/load.rt:100:23
 -- where the records have been taken: the function's entry, the bytes, the arrays of zeros
 abbrev start : tie.After-load-records → tie.Start
 start c = c .before .before .before .before .before .before .before .before .before .before
@@ -51,52 +44,41 @@ whole c = c .before .before .before .before .before .if1 .left
 enum-known-step : tie.Need-enum-known-step
 enum-known-step c = search needs
 
--- src/load.rt:101:22
 enum-known-step-2 : tie.Need-enum-known-step-2
 enum-known-step-2 c = search needs
 
--- src/load.rt:101:76
 slice-aggregate-finish-load : tie.Need-slice-aggregate-finish-load
 slice-aggregate-finish-load c = search needs
 
--- src/load.rt:101:33
 finish-load-requires : tie.Need-finish-load-requires
 finish-load-requires c κs =
     let l = c .before .before .before .before .before .before .before .before .before .before .before .before .before .before in
     end-needs (start l .args .table .now) (bytes l) (first l) (whole l) (c .before .before .before .before .before .step2 .given .0 .0) _
     (sym (ap stepOf (c .before .before .before .before .before .step2 .given .1)) ∙ l .load-records .ensures .0) (l .load-records .ensures .1)
 
--- src/load.rt:85:1
 same-length : tie.Need-same-length
 same-length c = search needs
 
--- src/load.rt:85:1
 same-length-2 : tie.Need-same-length-2
 same-length-2 c = search needs
 
--- src/load.rt:85:1
 same-length-3 : tie.Need-same-length-3
 same-length-3 c = search needs
 
--- src/load.rt:85:1
 returns-2 : tie.Need-returns-2
 returns-2 c =
     let l = c .before .before .before .before .before .before .before .before .before .before in
     records-loaded (start l .args .table .now) (bytes l) (first l) (whole l) (c .before .step .given .0 .0) _ _ _ (sym (ap stepOf (c .before .step .given .1)) ∙ l .load-records .ensures .0)
 
--- src/load.rt:85:1
 same-length-4 : tie.Need-same-length-4
 same-length-4 c = search needs
 
--- src/load.rt:85:1
 same-length-5 : tie.Need-same-length-5
 same-length-5 c = search needs
 
--- src/load.rt:85:1
 same-length-6 : tie.Need-same-length-6
 same-length-6 c = search needs
 
--- src/load.rt:85:1
 returns-3 : tie.Need-returns-3
 returns-3 c =
     let l = c .before .before .before .before .before .before .before .before .before .before .before .before .before .before .before in

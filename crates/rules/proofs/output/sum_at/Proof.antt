@@ -4,8 +4,8 @@ use mathlib.Core.Path.{_≡_, refl, sym, ap, _∙_}
 use Prim.Native.Nat.{_+_, _-_, _*_, _%_, _≤_}
 use native.Mathlib.Nat.{add-mod-mod}
 use borrow.Author.Needs.{needs}
-use Rattle.rules.specs.Block.{at}
-use Rattle.rules.proofs.Laws.Writing.{sumLeft, sum-starts, sum-goes-on, sum-ends}
+use Rattle.meaning.specs.Block.{at}
+use Rattle.meaning.proofs.Laws.Writing.{sumLeft, sum-starts, sum-goes-on, sum-ends}
 use Rattle.rules.proofs.output.sum_at.Statement.{statement}
 use Rattle.rules.proofs.output.sum_at.Tie as tie
 

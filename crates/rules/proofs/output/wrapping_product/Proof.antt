@@ -1,7 +1,7 @@
 -- `rules::output::wrapping_product` meets its contract: the product of two numbers of 16 bits has 32.
 -- Assumes nothing.
 use borrow.Author.Needs.{needs}
-use Rattle.rules.proofs.Laws.Writing.{product-fits}
+use Rattle.meaning.proofs.Laws.Writing.{product-fits}
 use Rattle.rules.proofs.output.wrapping_product.Statement.{statement}
 use Rattle.rules.proofs.output.wrapping_product.Tie as tie
 

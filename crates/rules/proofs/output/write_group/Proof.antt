@@ -2,12 +2,13 @@
 -- The measure is the characters left. Assumes nothing.
 use mathlib.Core.Path.{_≡_, refl, ap, _∙_}
 use mathlib.Core.List.{List}
-use Prim.Native.Nat.{ℕ, _+_, _-_, _*_, _≤_}
+use Prim.Native.Nat.{ℕ, _+_, _-_, _*_, _≤_, _<_}
+use native.Mathlib.Omega.{arith}
 use borrow.Author.Needs.{needs}
 use lib.ListN.{length, take, drop, set, length-set}
 use lib.Seq.{paste, paste-zero}
-use Rattle.rules.specs.Block.{at}
-use Rattle.rules.proofs.Laws.Writing.{groupText, written-more, written-all}
+use Rattle.meaning.specs.Block.{at}
+use Rattle.meaning.proofs.Laws.Writing.{groupText, written-more, written-all}
 use Rattle.rules.proofs.output.write_group.Statement.{statement}
 use Rattle.rules.proofs.output.write_group.Tie as tie
 
@@ -88,11 +89,12 @@ loop-again c =
     let b = a .blocks .now in
     let sum = c .sum-at .result in
     let put : List ℕ → List ℕ = λ o. set o (a .count + l .j) sum in
-    let front = paste (a .output .now) (a .count) (text b (a .group) (a .input .now) (a .place)) (l .j) in (
-      search needs,
+    let front = paste (a .output .now) (a .count) (text b (a .group) (a .input .now) (a .place)) (l .j) in
+    let turn : l .j < at b (75 * a .group + 2) = c .before .loop-test .taken in (
+      omega (arith, turn),
       length-set (l .output) (a .count + l .j) sum ∙ l .inv .1,
       ap put (l .inv .2) ∙ ap (set front (a .count + l .j)) (c .sum-at .ensures)
-          ∙ written-more b (a .group) (word b (a .group) (a .input .now) (a .place)) (a .output .now) (a .count) (l .j) (search needs) (search needs),
+          ∙ written-more b (a .group) (word b (a .group) (a .input .now) (a .place)) (a .output .now) (a .count) (l .j) turn (search needs),
     )
 
 add-result : tie.Need-add-result Inv-loop μ-loop

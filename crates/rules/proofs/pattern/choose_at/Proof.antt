@@ -9,11 +9,11 @@ use native.Mathlib.Omega.{arith}
 use borrow.Author.Tests.{lt-ltb, le-ltb}
 use lib.Dec.{ltb}
 use lib.ListN.{drop}
-use Rattle.rules.specs.Table.{defaultNumber}
-use Rattle.rules.specs.Block.{at}
-use Rattle.rules.specs.Meaning.{choose}
-use Rattle.rules.specs.Flat.{tableAt}
-use Rattle.rules.proofs.Laws.Choosing.{KeptOf, kept-none, kept-skip, kept-longer, kept-shorter, kept-choose}
+use Rattle.meaning.specs.Table.{defaultNumber}
+use Rattle.meaning.specs.Block.{at}
+use Rattle.meaning.specs.Meaning.{choose}
+use Rattle.meaning.specs.Flat.{tableAt}
+use Rattle.meaning.proofs.Laws.Choosing.{KeptOf, kept-none, kept-skip, kept-longer, kept-shorter, kept-choose}
 use Rattle.rules.proofs.pattern.choose_at.Statement.{statement}
 use Rattle.rules.proofs.pattern.choose_at.Tie as tie
 

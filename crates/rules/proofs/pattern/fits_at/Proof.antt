@@ -5,8 +5,8 @@ use mathlib.Core.Path.{sym}
 use Prim.Native.Nat.{_*_, _≤_}
 use native.Mathlib.Omega.{arith}
 use borrow.Author.Needs.{needs}
-use Rattle.rules.specs.Block.{at}
-use Rattle.rules.proofs.Laws.Choosing.{flat-short, flat-early, flat-word}
+use Rattle.meaning.specs.Block.{at}
+use Rattle.meaning.proofs.Laws.Choosing.{flat-short, flat-early, flat-word}
 use Rattle.rules.proofs.pattern.fits_at.Statement.{statement}
 use Rattle.rules.proofs.pattern.fits_at.Tie as tie
 

@@ -4,10 +4,10 @@ use mathlib.Core.Bool.{_||_}
 use mathlib.Core.Path.{_≡_, sym, _∙_}
 use Prim.Native.Nat.{_≤_, _+_, _-_}
 use native.Mathlib.Omega.{arith}
-use Rattle.rules.specs.Table.{inRanges}
-use Rattle.rules.specs.Block.{at}
-use Rattle.rules.specs.Flat.{rangesAt}
-use Rattle.rules.proofs.Laws.Choosing.{inFrom, inFrom-start, inFrom-next, inFrom-end}
+use Rattle.meaning.specs.Table.{inRanges}
+use Rattle.meaning.specs.Block.{at}
+use Rattle.meaning.specs.Flat.{rangesAt}
+use Rattle.meaning.proofs.Laws.Choosing.{inFrom, inFrom-start, inFrom-next, inFrom-end}
 use Rattle.rules.proofs.pattern.in_ranges.Statement.{statement}
 use Rattle.rules.proofs.pattern.in_ranges.Tie as tie
 

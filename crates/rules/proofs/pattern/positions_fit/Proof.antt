@@ -7,9 +7,9 @@ use native.Mathlib.Omega.{arith}
 use borrow.Author.Tests.{not-true, not-false}
 use lib.ListN.{take, drop}
 use Rattle.lists.specs.Lists.{tabFrom}
-use Rattle.rules.specs.Value.{fitsWord}
-use Rattle.rules.specs.Flat.{rangesAt}
-use Rattle.rules.proofs.Laws.Choosing.{fitsFrom, fitsFrom-start, fitsFrom-next, fitsFrom-end}
+use Rattle.meaning.specs.Value.{fitsWord}
+use Rattle.meaning.specs.Flat.{rangesAt}
+use Rattle.meaning.proofs.Laws.Choosing.{fitsFrom, fitsFrom-start, fitsFrom-next, fitsFrom-end}
 use Rattle.rules.proofs.pattern.positions_fit.Statement.{statement}
 use Rattle.rules.proofs.pattern.positions_fit.Tie as tie
 

@@ -1,22 +1,36 @@
 -- `rules::reader::on_default` meets its contract: at each `return` the tests that led there say what `admit` answers.
 -- The default's row is the last one, which the arrays' lengths hold.
-use mathlib.Core.Path.{refl, sym, _∙_}
+use mathlib.Core.Path.{_≡_, sym, _∙_}
 use borrow.Author.Needs.{needs}
-use Rattle.lists.specs.Decide.{select}
+use Rattle.lists.proofs.Laws.Tests.{select-here, select-next, select-last}
+use Rattle.meaning.specs.Refusal.{Outcome, refused, accepted}
+use Rattle.meaning.specs.Record.{default}
 use Rattle.rules.specs.Summary.{admit}
+use Rattle.rules.specs.declared.reader.Reader.{Reader}
+use Rattle.rules.proofs.Laws.Stepping.{kept, changed}
 use Rattle.rules.proofs.reader.on_default.Statement.{statement}
 use Rattle.rules.proofs.reader.on_default.Tie as tie
 
+-- what `admit` answers
+abbrev asked : tie.Start → Outcome Reader
+asked s = admit (s .args .reader) default
+
 returns : tie.Need-returns
-unfolding admit select
-returns c = simp (c .if1 .taken) (refl, (refl, (refl, refl)))
+unfolding admit
+returns c =
+    let e : asked (c .before .before .before .before) ≡ refused 3 = select-here _ _ _ (c .if1 .taken) in
+    (sym e, (kept _ _ e, (kept _ _ e, kept _ _ e)))
 
 has-gap-requires : tie.Need-has-gap-requires
 has-gap-requires c κs = search needs
 
 returns-2 : tie.Need-returns-2
-unfolding admit select
-returns-2 c = simp (c .before .before .if1 .left, sym (c .before .has-gap .ensures) ∙ c .if2 .taken) (refl, (refl, (refl, refl)))
+unfolding admit
+returns-2 c =
+    let d = c .before .before in
+    let e : asked (d .before .before .before .before) ≡ refused 4 =
+    select-next _ _ _ (d .if1 .left) ∙ select-here _ _ _ (sym (c .before .has-gap .ensures) ∙ c .if2 .taken) in
+    (sym e, (kept _ _ e, (kept _ _ e, kept _ _ e)))
 
 slice-write-slots : tie.Need-slice-write-slots
 slice-write-slots c = search needs
@@ -37,8 +51,12 @@ same-length-3 : tie.Need-same-length-3
 same-length-3 c = search needs
 
 returns-3 : tie.Need-returns-3
-unfolding admit select
-returns-3 c = simp (c .before .before .if1 .left, sym (c .before .has-gap .ensures) ∙ c .if2 .left) (refl, (refl, (refl, refl)))
+unfolding admit
+returns-3 c =
+    let d = c .before .before in
+    let e : asked (d .before .before .before .before) ≡ accepted _ =
+    select-next _ _ _ (d .if1 .left) ∙ select-next _ _ _ (sym (c .before .has-gap .ensures) ∙ c .if2 .left) ∙ select-last _ in
+    (sym e, (changed _ _ e, (changed _ _ e, changed _ _ e)))
 
 pub on-default-spec : {M : Type 1} → statement M
 on-default-spec =

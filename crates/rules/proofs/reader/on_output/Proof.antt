@@ -2,14 +2,17 @@
 -- A record has been read, so there is a group to write to, and its output characters are fewer than eight.
 use mathlib.Core.Bool.{false}
 use mathlib.Core.Logic.{_≢_}
-use mathlib.Core.Path.{_≡_, refl, sym, _∙_, subst}
+use mathlib.Core.Path.{_≡_, sym, _∙_, subst}
 use Prim.Native.Nat.{_≤_, _<_}
 use borrow.Author.Needs.{needs}
 use borrow.Author.Tests.{eq-eqb, ne-eqb}
 use native.Mathlib.Omega.{arith}
-use Rattle.lists.specs.Decide.{select}
+use Rattle.lists.proofs.Laws.Tests.{select-here, select-next, select-last}
+use Rattle.meaning.specs.Refusal.{Outcome, refused, accepted}
+use Rattle.meaning.specs.Record.{output}
 use Rattle.rules.specs.Summary.{admit, gap}
-use Rattle.rules.proofs.Laws.Stepping.{fails, group-below}
+use Rattle.rules.specs.declared.reader.Reader.{Reader}
+use Rattle.rules.proofs.Laws.Stepping.{fails, kept, changed, group-below}
 use Rattle.rules.proofs.reader.on_output.Statement.{statement}
 use Rattle.rules.proofs.reader.on_output.Tie as tie
 
@@ -17,23 +20,37 @@ use Rattle.rules.proofs.reader.on_output.Tie as tie
 abbrev entered : tie.Else2 → tie.Start
 entered c = c .before .before .before .before .before .before
 
+-- what `admit` answers
+abbrev asked : tie.Start → Outcome Reader
+asked s = admit (s .args .reader) (output (s .args .constant))
+
 no-gap : (c : tie.Else2) → gap (entered c .args .reader) ≡ false
 no-gap c = sym (c .before .has-gap .ensures) ∙ c .if2 .left
 
 returns : tie.Need-returns
-unfolding admit select
-returns c = simp (eq-eqb _ _ (c .if1 .taken)) (refl, (refl, refl))
+unfolding admit
+returns c =
+    let e : asked (c .before .before .before .before) ≡ refused 3 = select-here _ _ _ (eq-eqb _ _ (c .if1 .taken)) in
+    (sym e, (kept _ _ e, kept _ _ e))
 
 has-gap-requires : tie.Need-has-gap-requires
 has-gap-requires c κs = search needs
 
 returns-2 : tie.Need-returns-2
-unfolding admit select
-returns-2 c = simp (ne-eqb _ _ (c .before .before .if1 .left), sym (c .before .has-gap .ensures) ∙ c .if2 .taken) (refl, (refl, refl))
+unfolding admit
+returns-2 c =
+    let d = c .before .before in
+    let e : asked (d .before .before .before .before) ≡ refused 4 =
+    select-next _ _ _ (ne-eqb _ _ (d .if1 .left)) ∙ select-here _ _ _ (sym (c .before .has-gap .ensures) ∙ c .if2 .taken) in
+    (sym e, (kept _ _ e, kept _ _ e))
 
 returns-3 : tie.Need-returns-3
-unfolding admit select
-returns-3 c = simp (ne-eqb _ _ (c .before .before .before .if1 .left), no-gap (c .before), eq-eqb _ _ (c .if3 .taken)) (refl, (refl, refl))
+unfolding admit
+returns-3 c =
+    let d = c .before in
+    let e : asked (entered d) ≡ refused 6 =
+    select-next _ _ _ (ne-eqb _ _ (d .before .before .if1 .left)) ∙ select-next _ _ _ (no-gap d) ∙ select-here _ _ _ (eq-eqb _ _ (c .if3 .taken)) in
+    (sym e, (kept _ _ e, kept _ _ e))
 
 group-number-requires : tie.Need-group-number-requires
 group-number-requires c κs = entered (c .before) .pre .0 .grouped (fails _ (ne-eqb _ _ (c .before .before .before .if1 .left)))
@@ -57,16 +74,19 @@ same-length-2 : tie.Need-same-length-2
 same-length-2 c = search needs
 
 returns-4 : tie.Need-returns-4
-unfolding admit select
+unfolding admit
 returns-4 c =
     let written = c .before .before .before .before in
     let numbered = written .before .before .before in
     let done = written .put-output .ensures in
     let number = numbered .group-number .ensures in
-    let one = ne-eqb _ _ (numbered .before .before .before .before .if1 .left) in
-    let two = no-gap (numbered .before .before) in
-    let three = ne-eqb _ _ (numbered .before .if3 .left) in
-    (simp (one, two, three), (done .0 ∙ simp (one, two, three, number), done .1 ∙ simp (one, two, three, number)))
+    let d = numbered .before .before in
+    let e : asked (entered d) ≡ accepted _ =
+    select-next _ _ _ (ne-eqb _ _ (d .before .before .if1 .left))
+    ∙ select-next _ _ _ (no-gap d)
+    ∙ select-next _ _ _ (ne-eqb _ _ (numbered .before .if3 .left))
+    ∙ select-last _ in
+    (sym e, (done .0 ∙ rw number (changed _ _ e), done .1 ∙ rw number (changed _ _ e)))
 
 pub on-output-spec : {M : Type 1} → statement M
 on-output-spec =

@@ -1,14 +1,18 @@
 -- `rules::reader::on_range` meets its contract: at each `return` the tests that led there say what `admit` answers.
 -- The tests that a range has passed give its place in the arrays.
 use mathlib.Core.Bool.{false}
-use mathlib.Core.Path.{_≡_, refl, sym, _∙_, subst}
-use Prim.Native.Nat.{_≤_, _<_}
+use mathlib.Core.Path.{_≡_, sym, ap₂, _∙_, subst}
+use Prim.Native.Nat.{ℕ, _+_, _*_, _≤_, _<_}
 use borrow.Author.Needs.{needs}
 use borrow.Author.Tests.{lt-ltb, le-ltb}
 use native.Mathlib.Omega.{arith}
-use Rattle.lists.specs.Decide.{select}
+use lib.ListN.{set}
+use Rattle.lists.proofs.Laws.Tests.{select-here, select-next, select-last}
+use Rattle.meaning.specs.Refusal.{Outcome, refused, accepted}
+use Rattle.meaning.specs.Record.{range}
 use Rattle.rules.specs.Summary.{admit}
-use Rattle.rules.proofs.Laws.Stepping.{fails, rangeMisplaced, positionFull, RangeComes, range-comes, slot-free, slot-next, group-below}
+use Rattle.rules.specs.declared.reader.Reader.{Reader}
+use Rattle.rules.proofs.Laws.Stepping.{fails, kept, changed, rangeMisplaced, positionFull, RangeComes, range-comes, slot-free, slot-next, group-below}
 use Rattle.rules.proofs.reader.on_range.Statement.{statement}
 use Rattle.rules.proofs.reader.on_range.Tie as tie
 
@@ -18,6 +22,10 @@ entered c = c .before .before .before .before
 
 abbrev first : tie.Else3 → tie.Else1
 first c = c .before .before .before .before
+
+-- what `admit` answers
+abbrev asked : tie.Start → Outcome Reader
+asked s = let x = s .args in admit (x .reader) (range (x .position) (record { lowest = x .lowest; highest = x .highest }))
 
 placed : (c : tie.Else1) → let x = entered c .args in rangeMisplaced (x .reader) (x .position) (x .lowest) ≡ false
 placed c = sym (c .before .range-misplaced .ensures) ∙ c .if1 .left
@@ -39,20 +47,30 @@ range-misplaced-requires : tie.Need-range-misplaced-requires
 range-misplaced-requires c κs = search needs
 
 returns : tie.Need-returns
-unfolding admit select
-returns c = simp (sym (c .before .range-misplaced .ensures) ∙ c .if1 .taken) (refl, (refl, refl))
+unfolding admit
+returns c =
+    let e : asked (c .before .before .before .before) ≡ refused 3 = select-here _ _ _ (sym (c .before .range-misplaced .ensures) ∙ c .if1 .taken) in
+    (sym e, (kept _ _ e, kept _ _ e))
 
 returns-2 : tie.Need-returns-2
-unfolding admit select
-returns-2 c = simp (placed (c .before .before), lt-ltb _ _ (c .if2 .taken)) (refl, (refl, refl))
+unfolding admit
+returns-2 c =
+    let d = c .before .before in
+    let e : asked (entered d) ≡ refused 4 = select-next _ _ _ (placed d) ∙ select-here _ _ _ (lt-ltb _ _ (c .if2 .taken)) in
+    (sym e, (kept _ _ e, kept _ _ e))
 
 position-full-requires : tie.Need-position-full-requires
 position-full-requires c κs = search needs
 
 returns-3 : tie.Need-returns-3
-unfolding admit select
+unfolding admit
 returns-3 c =
-    simp (placed (c .before .before .before .before), le-ltb _ _ (c .before .before .if2 .left), sym (c .before .position-full .ensures) ∙ c .if3 .taken) (refl, (refl, refl))
+    let d = c .before .before .before .before in
+    let e : asked (entered d) ≡ refused 6 =
+    select-next _ _ _ (placed d)
+    ∙ select-next _ _ _ (le-ltb _ _ (c .before .before .if2 .left))
+    ∙ select-here _ _ _ (sym (c .before .position-full .ensures) ∙ c .if3 .taken) in
+    (sym e, (kept _ _ e, kept _ _ e))
 
 slot-number-requires : tie.Need-slot-number-requires
 slot-number-requires c κs = search needs
@@ -87,7 +105,7 @@ same-length-2 : tie.Need-same-length-2
 same-length-2 c = search needs
 
 returns-4 : tie.Need-returns-4
-unfolding admit select
+unfolding admit
 returns-4 c =
     let written = c .before .before .before .before in
     let numbered = written .before .before .before in
@@ -95,11 +113,19 @@ returns-4 c =
     let done = written .put-range .ensures in
     let number = numbered .group-number .ensures in
     let slot = slotted .slot-number .ensures in
-    let one = placed (first (slotted .before)) in
-    let two = le-ltb _ _ (slotted .before .before .before .if2 .left) in
-    let three = room (slotted .before) in (
-      simp (one, two, three, slot, slot-next),
-      (done .0 ∙ simp (one, two, three, slot, number), done .1 ∙ simp (one, two, three, slot, number)),
+    let d = first (slotted .before) in
+    let e : asked (entered d) ≡ accepted _ =
+    select-next _ _ _ (placed d)
+    ∙ select-next _ _ _ (le-ltb _ _ (slotted .before .before .before .if2 .left))
+    ∙ select-next _ _ _ (room (slotted .before))
+    ∙ select-last _ in
+    let x = entered d .args in
+    let place : ℕ → ℕ → ℕ = λ n k. 64 * n + 8 * x .position + 2 * k in (
+      rw (slot, ← slot-next) (sym e),
+      (
+        done .0 ∙ ap₂ (λ n k. set (x .slots .now) (8 * n + x .position) (k + 1)) number slot ∙ changed _ _ e,
+        done .1 ∙ ap₂ (λ n k. set (set (x .ranges .now) (place n k) (x .lowest)) (place n k + 1) (x .highest)) number slot ∙ changed _ _ e,
+      ),
     )
 
 pub on-range-spec : {M : Type 1} → statement M

@@ -1,33 +1,53 @@
 -- `rules::reader::on_rule` meets its contract: at each `return` the tests that led there say what `admit` answers.
 -- The two stores are within the row of the new rule.
 use mathlib.Core.Bool.{false}
-use mathlib.Core.Path.{_≡_, refl, sym, _∙_}
+use mathlib.Core.Path.{_≡_, sym, _∙_}
 use borrow.Author.Needs.{needs}
 use borrow.Author.Tests.{eq-eqb, ne-eqb}
 use native.Mathlib.Omega.{arith}
 use lib.ListN.{length-set}
-use Rattle.lists.specs.Decide.{select}
+use Rattle.lists.proofs.Laws.Tests.{select-here, select-next, select-last}
+use Rattle.meaning.specs.Refusal.{Outcome, refused, accepted}
+use Rattle.meaning.specs.Record.{rule}
 use Rattle.rules.specs.Summary.{admit, gap}
+use Rattle.rules.specs.declared.reader.Reader.{Reader}
+use Rattle.rules.proofs.Laws.Stepping.{kept, changed}
 use Rattle.rules.proofs.reader.on_rule.Statement.{statement}
 use Rattle.rules.proofs.reader.on_rule.Tie as tie
 
-no-gap : (c : tie.Else2) → gap (c .before .before .before .before .args .reader) ≡ false
+-- the function's entry, and what `admit` answers
+abbrev entered : tie.Else2 → tie.Start
+entered c = c .before .before .before .before
+
+abbrev asked : tie.Start → Outcome Reader
+asked s = admit (s .args .reader) (rule (s .args .size) (s .args .anchored))
+
+no-gap : (c : tie.Else2) → gap (entered c .args .reader) ≡ false
 no-gap c = sym (c .before .has-gap .ensures) ∙ c .if2 .left
 
 returns : tie.Need-returns
-unfolding admit select
-returns c = simp (c .if1 .taken) (refl, refl)
+unfolding admit
+returns c =
+    let e : asked (c .before .before) ≡ refused 3 = select-here _ _ _ (c .if1 .taken) in
+    (sym e, kept _ _ e)
 
 has-gap-requires : tie.Need-has-gap-requires
 has-gap-requires c κs = search needs
 
 returns-2 : tie.Need-returns-2
-unfolding admit select
-returns-2 c = simp (c .before .before .if1 .left, sym (c .before .has-gap .ensures) ∙ c .if2 .taken) (refl, refl)
+unfolding admit
+returns-2 c =
+    let d = c .before .before in
+    let e : asked (d .before .before) ≡ refused 4 = select-next _ _ _ (d .if1 .left) ∙ select-here _ _ _ (sym (c .before .has-gap .ensures) ∙ c .if2 .taken) in
+    (sym e, kept _ _ e)
 
 returns-3 : tie.Need-returns-3
-unfolding admit select
-returns-3 c = simp (c .before .before .before .if1 .left, no-gap (c .before), eq-eqb _ _ (c .if3 .taken)) (refl, refl)
+unfolding admit
+returns-3 c =
+    let d = c .before in
+    let e : asked (entered d) ≡ refused 6 =
+    select-next _ _ _ (d .before .before .if1 .left) ∙ select-next _ _ _ (no-gap d) ∙ select-here _ _ _ (eq-eqb _ _ (c .if3 .taken)) in
+    (sym e, kept _ _ e)
 
 mul-at : tie.Need-mul-at
 mul-at c = search needs
@@ -57,8 +77,12 @@ same-length : tie.Need-same-length
 same-length c = search needs
 
 returns-4 : tie.Need-returns-4
-unfolding admit select
-returns-4 c = simp (c .before .before .before .before .if1 .left, no-gap (c .before .before), ne-eqb _ _ (c .before .if3 .left), c .bit-of .ensures) (refl, refl)
+unfolding admit
+returns-4 c =
+    let d = c .before .before in
+    let e : asked (entered d) ≡ accepted _ =
+    select-next _ _ _ (d .before .before .if1 .left) ∙ select-next _ _ _ (no-gap d) ∙ select-next _ _ _ (ne-eqb _ _ (c .before .if3 .left)) ∙ select-last _ in
+    (sym e, rw (c .bit-of .ensures) (changed _ _ e))
 
 pub on-rule-spec : {M : Type 1} → statement M
 on-rule-spec =

@@ -1,20 +1,27 @@
 -- `rules::reader::on_term` meets its contract: at each `return` the tests that led there say what `admit` answers.
 -- The tests that a term has passed give its place in the group's block.
 use mathlib.Core.Bool.{false}
-use mathlib.Core.Path.{_≡_, refl, sym, _∙_, subst}
+use mathlib.Core.Path.{_≡_, sym, _∙_, subst}
 use Prim.Native.Nat.{_≤_, _<_}
 use borrow.Author.Needs.{needs}
 use native.Mathlib.Omega.{arith}
 use native.Mathlib.Numerals.{sub-one}
-use Rattle.lists.specs.Decide.{select}
+use Rattle.lists.proofs.Laws.Tests.{select-here, select-next, select-last}
+use Rattle.meaning.specs.Refusal.{Outcome, refused, accepted}
+use Rattle.meaning.specs.Record.{term}
 use Rattle.rules.specs.Summary.{admit}
-use Rattle.rules.proofs.Laws.Stepping.{fails, termMisplaced, TermComes, term-comes, group-below}
+use Rattle.rules.specs.declared.reader.Reader.{Reader}
+use Rattle.rules.proofs.Laws.Stepping.{fails, kept, changed, termMisplaced, TermComes, term-comes, group-below}
 use Rattle.rules.proofs.reader.on_term.Statement.{statement}
 use Rattle.rules.proofs.reader.on_term.Tie as tie
 
 -- the function's entry
 abbrev entered : tie.Else1 → tie.Start
 entered c = c .before .before .before
+
+-- what `admit` answers
+abbrev asked : tie.Start → Outcome Reader
+asked s = admit (s .args .reader) (term (s .args .position) (s .args .coefficient))
 
 placed : (c : tie.Else1) → let x = entered c .args in termMisplaced (x .reader) (x .position) ≡ false
 placed c = sym (c .before .term-misplaced .ensures) ∙ c .if1 .left
@@ -29,8 +36,10 @@ term-misplaced-requires : tie.Need-term-misplaced-requires
 term-misplaced-requires c κs = search needs
 
 returns : tie.Need-returns
-unfolding admit select
-returns c = simp (sym (c .before .term-misplaced .ensures) ∙ c .if1 .taken) (refl, refl)
+unfolding admit
+returns c =
+    let e : asked (c .before .before .before) ≡ refused 3 = select-here _ _ _ (sym (c .before .term-misplaced .ensures) ∙ c .if1 .taken) in
+    (sym e, kept _ _ e)
 
 group-number-requires : tie.Need-group-number-requires
 group-number-requires c κs = entered c .pre .0 .grouped (comes c .begun)
@@ -56,12 +65,12 @@ same-length : tie.Need-same-length
 same-length c = search needs
 
 returns-2 : tie.Need-returns-2
-unfolding admit select
+unfolding admit
 returns-2 c =
     let written = c .before .before in
     let numbered = written .before .before in
-    let one = placed (numbered .before) in
-    (simp one, written .put-term .ensures ∙ simp (one, numbered .group-number .ensures, sub-one))
+    let e : asked (entered (numbered .before)) ≡ accepted _ = select-next _ _ _ (placed (numbered .before)) ∙ select-last _ in
+    (sym e, written .put-term .ensures ∙ rw (numbered .group-number .ensures, sub-one) (changed _ _ e))
 
 pub on-term-spec : {M : Type 1} → statement M
 on-term-spec =

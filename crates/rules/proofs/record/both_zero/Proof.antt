@@ -2,7 +2,7 @@
 -- Assumes nothing.
 use borrow.Author.Tests.{eq-eqb, ne-eqb}
 use Rattle.lists.proofs.Laws.Tests.{and-true}
-use Rattle.rules.proofs.Laws.Decoding.{zero-first}
+use Rattle.meaning.proofs.Laws.Decoding.{zero-first}
 use Rattle.rules.proofs.record.both_zero.Statement.{statement}
 use Rattle.rules.proofs.record.both_zero.Tie as tie
 

@@ -5,7 +5,7 @@ use mathlib.Core.Path.{_≡_}
 use native.Mathlib.Omega.{arith}
 use borrow.Author.Needs.{needs}
 use lib.Dec.{ltb}
-use Rattle.rules.proofs.Laws.Extremes.{signed-sign}
+use Rattle.meaning.proofs.Laws.Extremes.{signed-sign}
 use Rattle.rules.proofs.safe.end_of.Statement.{statement}
 use Rattle.rules.proofs.safe.end_of.Tie as tie
 

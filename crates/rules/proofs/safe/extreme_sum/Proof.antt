@@ -1,13 +1,14 @@
 -- `extreme_sum` meets its contract: the loop goes from the last position to the first, and keeps the sum over those passed, at most 2^32 a position.
 -- The measure is the number of the positions left.
-use mathlib.Core.Path.{_≡_, sym, _∙_}
+use mathlib.Core.Path.{_≡_, sym, ap₂, _∙_}
 use Prim.Native.Nat.{_+_, _*_, _-_, _^_, _≤_, _<_}
 use native.Mathlib.Omega.{arith}
 use denote.Ref.{now}
-use lib.IntN.{subℕ}
+use lib.IntN.{pos, subℕ, _+ℤ_, _*ℤ_}
 use lib.ListN.{length}
-use Rattle.rules.specs.Block.{at}
-use Rattle.rules.proofs.Laws.Extremes.{sumFrom, sum-last, sum-before, sum-whole}
+use Rattle.meaning.specs.Block.{at}
+use Rattle.meaning.specs.Reader.{signed}
+use Rattle.meaning.proofs.Laws.Extremes.{sumFrom, sum-last, sum-before, sum-whole}
 use Rattle.rules.proofs.safe.extreme_sum.Statement.{statement}
 use Rattle.rules.proofs.safe.extreme_sum.Tie as tie
 
@@ -88,9 +89,13 @@ loop-again c =
     let s = c .before .before .before .before .before .before .before .before .before in
     let a = s .args in
     let here = c .before .before .before .before .loop in
+    let turn = c .before .before .before .loop-test .taken in
     let fit : 75 * a .group + 4 + 9 * a .number + at (now (a .blocks)) (75 * a .group) ≤ length (now (a .blocks)) = omega (arith, size s, s .pre .0 .blocks-length) in
-    let step = sum-before (a .least) (now (a .slots)) (now (a .ranges)) (now (a .blocks)) (a .group) (a .number) (here .p) (omega arith) (here .inv .0) fit in
-    (omega arith, omega arith, omega arith, c .with-product .ensures .0 ∙ rw (c .before .end-of .ensures, here .inv .3) (sym step))
+    let step = sum-before (a .least) (now (a .slots)) (now (a .ranges)) (now (a .blocks)) (a .group) (a .number) (here .p) (omega (arith, turn)) (here .inv .0) fit in
+    let coefficient = signed 16 (at (now (a .blocks)) (75 * a .group + 4 + 9 * a .number + (here .p - 1))) in
+    let sum = c .with-product .ensures .0 ∙ ap₂ (λ x y. coefficient *ℤ pos x +ℤ y) (c .before .end-of .ensures) (here .inv .3) ∙ sym step in
+    let more = c .with-product .ensures .1 in
+    (omega (arith, here .inv .0), omega (arith, turn, here .inv .1, more .0), omega (arith, turn, here .inv .2, more .1), sum)
 
 returns : tie.Need-returns Inv-loop μ-loop
 returns c =

@@ -7,10 +7,10 @@ use Prim.Native.Nat.{ℕ, _+_, _*_, _-_, _≤_}
 use native.Mathlib.Omega.{arith}
 use denote.Ref.{now}
 use Rattle.lists.specs.Decide.{forBelow}
-use Rattle.rules.specs.Block.{at}
-use Rattle.rules.specs.Value.{safeOutput}
-use Rattle.rules.specs.Flat.{patternAt, outputAt, safeGroupAt}
-use Rattle.rules.proofs.Laws.Extremes.{none-below, below-again, below-fails}
+use Rattle.meaning.specs.Block.{at}
+use Rattle.meaning.specs.Value.{safeOutput}
+use Rattle.meaning.specs.Flat.{patternAt, outputAt, safeGroupAt}
+use Rattle.meaning.proofs.Laws.Extremes.{none-below, below-again, below-fails}
 use Rattle.rules.proofs.safe.group_safe.Statement.{statement}
 use Rattle.rules.proofs.safe.group_safe.Tie as tie
 

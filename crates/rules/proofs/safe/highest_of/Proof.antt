@@ -5,10 +5,10 @@ use Prim.Native.Nat.{max, _-_, _<_}
 use native.Mathlib.Omega.{arith}
 use denote.Ref.{now}
 use Rattle.lists.specs.Lists.{tabFrom}
-use Rattle.rules.specs.Block.{at}
-use Rattle.rules.specs.Value.{highestOf}
-use Rattle.rules.specs.Flat.{rangesAt}
-use Rattle.rules.proofs.Laws.Extremes.{rangeAt, tab-whole, highest-last, highest-before}
+use Rattle.meaning.specs.Block.{at}
+use Rattle.meaning.specs.Value.{highestOf}
+use Rattle.meaning.specs.Flat.{rangesAt}
+use Rattle.meaning.proofs.Laws.Extremes.{rangeAt, tab-whole, highest-last, highest-before}
 use Rattle.rules.proofs.safe.highest_of.Statement.{statement}
 use Rattle.rules.proofs.safe.highest_of.Tie as tie
 

@@ -5,10 +5,10 @@ use Prim.Native.Nat.{min, _-_, _<_}
 use native.Mathlib.Omega.{arith}
 use denote.Ref.{now}
 use Rattle.lists.specs.Lists.{tabFrom}
-use Rattle.rules.specs.Block.{at}
-use Rattle.rules.specs.Value.{lowestOf}
-use Rattle.rules.specs.Flat.{rangesAt}
-use Rattle.rules.proofs.Laws.Extremes.{rangeAt, tab-whole, lowest-last, lowest-before}
+use Rattle.meaning.specs.Block.{at}
+use Rattle.meaning.specs.Value.{lowestOf}
+use Rattle.meaning.specs.Flat.{rangesAt}
+use Rattle.meaning.proofs.Laws.Extremes.{rangeAt, tab-whole, lowest-last, lowest-before}
 use Rattle.rules.proofs.safe.lowest_of.Statement.{statement}
 use Rattle.rules.proofs.safe.lowest_of.Tie as tie
 

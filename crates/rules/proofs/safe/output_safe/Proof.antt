@@ -8,11 +8,11 @@ use borrow.Author.Needs.{needs}
 use denote.Ref.{now}
 use lib.IntN.{ℤ}
 use lib.ListN.{take, drop}
-use Rattle.rules.specs.Table.{Range}
-use Rattle.rules.specs.Block.{at}
-use Rattle.rules.specs.Reader.{signed}
-use Rattle.rules.specs.Flat.{patternAt, outputAt}
-use Rattle.rules.proofs.Laws.Extremes.{unsafe-low, safe-high}
+use Rattle.meaning.specs.Table.{Range}
+use Rattle.meaning.specs.Block.{at}
+use Rattle.meaning.specs.Reader.{signed}
+use Rattle.meaning.specs.Flat.{patternAt, outputAt}
+use Rattle.meaning.proofs.Laws.Extremes.{unsafe-low, safe-high}
 use Rattle.rules.proofs.safe.output_safe.Statement.{statement}
 use Rattle.rules.proofs.safe.output_safe.Tie as tie
 

@@ -2,7 +2,7 @@
 -- By the laws of differences.
 use native.Mathlib.Omega.{arith}
 use borrow.Author.Needs.{needs}
-use Rattle.rules.proofs.Laws.Extremes.{constant-plus, constant-minus}
+use Rattle.meaning.proofs.Laws.Extremes.{constant-plus, constant-minus}
 use Rattle.rules.proofs.safe.with_constant.Statement.{statement}
 use Rattle.rules.proofs.safe.with_constant.Tie as tie
 

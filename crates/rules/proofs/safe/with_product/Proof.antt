@@ -3,7 +3,7 @@
 use Prim.Native.Nat.{_-_, _^_}
 use native.Mathlib.Omega.{arith}
 use borrow.Author.Needs.{needs}
-use Rattle.rules.proofs.Laws.Extremes.{product-plus, product-minus, product-small}
+use Rattle.meaning.proofs.Laws.Extremes.{product-plus, product-minus, product-small}
 use Rattle.rules.proofs.safe.with_product.Statement.{statement}
 use Rattle.rules.proofs.safe.with_product.Tie as tie
 

@@ -2,7 +2,7 @@
 -- Assumes nothing.
 use native.Mathlib.Omega.{arith}
 use borrow.Author.Needs.{needs}
-use Rattle.machine.proofs.Laws.Words.{sound-header}
+use Rattle.automaton.proofs.Laws.Words.{sound-header}
 use Rattle.session.proofs.kept.cost.Statement.{statement}
 use Rattle.session.proofs.kept.cost.Tie as tie
 

@@ -4,8 +4,8 @@ use mathlib.Core.Path.{sym, _∙_}
 use Prim.Native.Nat.{_-_, _≤_}
 use native.Mathlib.Omega.{arith}
 use borrow.Author.Tests.{le-leb, lt-leb}
-use Rattle.machine.proofs.Laws.Checking.{all-stops, all-next, all-last}
-use Rattle.session.proofs.Laws.Keeping.{product-small}
+use Rattle.lists.proofs.Laws.Tests.{all-stops, all-next, all-last}
+use Rattle.reckoning.proofs.Laws.Keeping.{product-small}
 use Rattle.session.proofs.kept.counts_sound.Statement.{statement}
 use Rattle.session.proofs.kept.counts_sound.Tie as tie
 

@@ -6,8 +6,8 @@ use native.Mathlib.Omega.{arith}
 use borrow.Author.Needs.{needs}
 use borrow.Author.Tests.{eq-eqb, ne-eqb}
 use lib.Dec.{leb}
-use Rattle.machine.proofs.Laws.Checking.{all-stops, all-next, all-last}
-use Rattle.session.proofs.Laws.Keeping.{cost-small}
+use Rattle.lists.proofs.Laws.Tests.{all-stops, all-next, all-last}
+use Rattle.reckoning.proofs.Laws.Keeping.{cost-small}
 use Rattle.session.proofs.kept.ended_sound.Statement.{statement}
 use Rattle.session.proofs.kept.ended_sound.Tie as tie
 

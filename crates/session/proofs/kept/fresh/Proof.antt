@@ -2,7 +2,7 @@
 -- Assumes nothing.
 use mathlib.Core.Path.{refl}
 use Rattle.lists.specs.Lists.{pad}
-use Rattle.session.specs.Session.{fresh}
+use Rattle.reckoning.specs.Session.{fresh}
 use Rattle.session.proofs.kept.fresh.Statement.{statement}
 use Rattle.session.proofs.kept.fresh.Tie as tie
 

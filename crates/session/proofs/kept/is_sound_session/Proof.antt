@@ -6,15 +6,15 @@ use mathlib.Core.Path.{_≡_, sym, ap, _∙_}
 use Prim.Native.Nat.{ℕ, _-_, _≤_}
 use native.Mathlib.Omega.{arith}
 use borrow.Author.Needs.{needs}
-use Rattle.rules.specs.Direct.{limit}
-use Rattle.machine.specs.Sound.{expansionWord}
-use Rattle.machine.proofs.Laws.Words.{sound-header}
-use Rattle.machine.proofs.Laws.Checking.{passed, failed, all-stops, all-next, all-last}
-use Rattle.session.specs.Session.{Session, isOpen, soundSession}
+use Rattle.lists.proofs.Laws.Tests.{passed, failed, all-stops, all-next, all-last}
+use Rattle.meaning.specs.Direct.{limit}
+use Rattle.automaton.specs.Sound.{expansionWord}
+use Rattle.automaton.proofs.Laws.Words.{sound-header}
+use Rattle.reckoning.specs.Session.{Session, isOpen, soundSession}
 use Rattle.session.specs.declared.kept.Status.{Status}
 use Rattle.session.specs.declared.kept.Status.the-variants.{Open, Closed, Stopped}
 use Rattle.session.specs.Keeping.{statusOf, sessionOf}
-use Rattle.session.proofs.Laws.Keeping.{countsTest, openTest, endedTest, session-parts, counts-known}
+use Rattle.reckoning.proofs.Laws.Keeping.{countsTest, openTest, endedTest, session-parts, counts-known}
 use Rattle.session.proofs.kept.is_sound_session.Statement.{statement}
 use Rattle.session.proofs.kept.is_sound_session.Tie as tie
 

@@ -4,11 +4,11 @@ use mathlib.Core.Option.{some}
 use mathlib.Core.Path.{_≡_, sym, ap, _∙_}
 use native.Mathlib.Omega.{arith}
 use borrow.Author.Needs.{needs}
-use Rattle.machine.specs.Sound.{targetWord}
-use Rattle.machine.specs.Automaton.{fromWords}
-use Rattle.machine.proofs.Laws.Words.{sound-header, sound-class, sound-good}
-use Rattle.session.specs.Session.{settled}
-use Rattle.session.proofs.Laws.Keeping.{path-unused, path-settled, path-one}
+use Rattle.automaton.specs.Sound.{targetWord}
+use Rattle.automaton.specs.Automaton.{fromWords}
+use Rattle.automaton.proofs.Laws.Words.{sound-header, sound-class, sound-good}
+use Rattle.reckoning.specs.Session.{settled}
+use Rattle.reckoning.proofs.Laws.Keeping.{path-unused, path-settled, path-one}
 use Rattle.session.proofs.kept.next_state.Statement.{statement}
 use Rattle.session.proofs.kept.next_state.Tie as tie
 

@@ -5,8 +5,8 @@ use Prim.Native.Nat.{_+_, _*_, _≤_}
 use native.Mathlib.Omega.{arith}
 use borrow.Author.Needs.{needs}
 use lib.Dec.{leb}
-use Rattle.machine.proofs.Laws.Checking.{passed, failed, all-stops, all-next, all-last}
-use Rattle.session.proofs.Laws.Keeping.{cost-small}
+use Rattle.lists.proofs.Laws.Tests.{passed, failed, all-stops, all-next, all-last}
+use Rattle.reckoning.proofs.Laws.Keeping.{cost-small}
 use Rattle.session.proofs.kept.open_sound.Statement.{statement}
 use Rattle.session.proofs.kept.open_sound.Tie as tie
 

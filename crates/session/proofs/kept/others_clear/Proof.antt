@@ -7,7 +7,7 @@ use lib.Dec.{eqb}
 use lib.ListN.{length, drop}
 use lib.Seq.{drop-length}
 use Rattle.lists.specs.Lists.{all}
-use Rattle.session.proofs.Laws.Keeping.{place-fails, place-passes}
+use Rattle.reckoning.proofs.Laws.Keeping.{place-fails, place-passes}
 use Rattle.session.proofs.kept.others_clear.Statement.{statement}
 use Rattle.session.proofs.kept.others_clear.Tie as tie
 

@@ -6,12 +6,12 @@ use Prim.Native.Nat.{_+_, _-_, _≤_, _<_}
 use native.Mathlib.Omega.{arith}
 use borrow.Author.Needs.{needs}
 use lib.ListN.{length, getD, take, drop}
-use Rattle.machine.specs.Sound.{stateCount}
-use Rattle.machine.specs.Automaton.{fromWords}
-use Rattle.machine.proofs.Laws.Words.{sound-header}
-use Rattle.session.specs.Session.{path}
+use Rattle.automaton.specs.Sound.{stateCount}
+use Rattle.automaton.specs.Automaton.{fromWords}
+use Rattle.automaton.proofs.Laws.Words.{sound-header}
+use Rattle.reckoning.specs.Session.{path}
 use Rattle.session.specs.Keeping.{pathOf}
-use Rattle.session.proofs.Laws.Keeping.{held-next, held-done, path-stops, path-goes, path-inside}
+use Rattle.reckoning.proofs.Laws.Keeping.{held-next, held-done, path-stops, path-goes, path-inside}
 use Rattle.session.proofs.kept.path_to.Statement.{statement}
 use Rattle.session.proofs.kept.path_to.Tie as tie
 

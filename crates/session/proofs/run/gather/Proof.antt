@@ -1,4 +1,4 @@
--- `run::gather` meets its contract. The invariant: the first places hold the text's next characters.
+-- `run::gather` meets its contract. The invariant: the first places hold the text's next characters, the others what was found.
 -- The measure is the number of places left. Assumes nothing.
 use mathlib.Core.Path.{_≡_, refl, _∙_}
 use mathlib.Core.List.{_++_}
@@ -6,12 +6,13 @@ use Prim.Native.Nat.{_-_, _≤_}
 use native.Mathlib.Omega.{arith}
 use borrow.Author.Needs.{needs}
 use lib.ListN.{length, take, drop, length-append, length-set}
+use Rattle.meaning.specs.Direct.{over}
 use Rattle.session.proofs.Laws.Running.{gather-step}
 use Rattle.session.proofs.run.gather.Statement.{statement}
 use Rattle.session.proofs.run.gather.Tie as tie
 
 abbrev Inv-loop : tie.InvT-loop
-Inv-loop given piece from to store₀ i₀ store i = (i ≤ to - from) × (length store ≡ length store₀) × (take i store ≡ take i (drop from (given ++ piece)))
+Inv-loop given piece from to store₀ i₀ store i = (i ≤ to - from) × (length store ≡ length store₀) × (store ≡ over (take i (drop from (given ++ piece))) store₀)
 
 abbrev μ-loop : tie.MeasureT-loop
 μ-loop given piece from to store₀ i₀ store i = to - from - i
@@ -50,7 +51,7 @@ loop-again c =
     let t = c .before .loop-test .taken in (
       omega arith,
       length-set (l .store) (l .i) (c .character .result) ∙ l .inv .1,
-      gather-step (a .given .now ++ a .piece .now) (l .store) (a .from) (l .i) (c .character .result) (omega (arith, s .pre .2, l .inv .1))
+      gather-step (a .given .now ++ a .piece .now) (a .store .now) (l .store) (a .from) (l .i) (c .character .result) (omega (arith, s .pre .2))
           (omega (arith, s .pre .0, s .pre .1, length-append (a .given .now) (a .piece .now))) (c .character .ensures) (l .inv .2),
     )
 

@@ -3,33 +3,57 @@
 use mathlib.Core.Bool.{Bool, true, false}
 use mathlib.Core.List.{List, _++_}
 use mathlib.Core.Path.{_≡_, refl, sym, subst, _∙_}
-use Prim.Native.Nat.{ℕ, _<_}
+use Prim.Native.Nat.{ℕ, _≤_, _<_}
 use borrow.Author.Needs.{needs}
-use lib.ListN.{length, drop}
-use Rattle.machine.specs.Automaton.{fromWords}
-use Rattle.session.specs.Machine.{Ended, start, run}
+use lib.ListN.{length, take, drop}
+use lib.Seq.{length-take-le}
+use Rattle.automaton.specs.Automaton.{fromWords}
+use Rattle.reckoning.specs.Machine.{Ended, start, run}
+use Rattle.session.specs.Running.{Classed}
 use Rattle.session.proofs.Laws.Running.{of-not-true, of-not-false, Stage, toGo, stage-on, finished-over, beyond-on, begins}
+use Rattle.session.proofs.Laws.Turning.{few-places, front-classed}
 use Rattle.session.proofs.run.run_words.Statement.{statement}
 use Rattle.session.proofs.run.run_words.Tie as tie
 
 abbrev Inv-loop : tie.InvT-loop
-Inv-loop words given piece ended output₀ ran₀ output ran =
+Inv-loop words given piece ended output₀ table known ran₀ output ran =
     Stage words (given ++ piece) ended (length output₀) (run (fromWords words) ended (start given piece (ran₀ .state .0))) (ran .done) ran output
     × (length output ≡ length output₀)
     × (drop (ran .count) output ≡ drop (ran .count) output₀)
+    × (Classed words (take known table) × (known ≤ length table))
 
 abbrev μ-loop : tie.MeasureT-loop
-μ-loop words given piece ended output₀ ran₀ output ran = toGo (given ++ piece) (ran .done) ran
+μ-loop words given piece ended output₀ table known ran₀ output ran = toGo (given ++ piece) (ran .done) ran
+
+known-classes-requires : tie.Need-known-classes-requires Inv-loop μ-loop
+known-classes-requires c κs = search needs
+
+array-borrow-prefix-table : tie.Need-array-borrow-prefix-table Inv-loop μ-loop
+array-borrow-prefix-table c = search needs
+
+slice-aggregate-fill-classes : tie.Need-slice-aggregate-fill-classes Inv-loop μ-loop
+slice-aggregate-fill-classes c = sym (length-take-le (c .before .known-classes .result) _ (c .before .known-classes .ensures))
+
+fill-classes-requires : tie.Need-fill-classes-requires Inv-loop μ-loop
+fill-classes-requires c κs =
+    let s = c .before .before .before .before .before .before in
+    (s .pre .0 .0, few-places (c .before .known-classes .result) _ (c .before .known-classes .ensures))
 
 loop-holds : tie.Need-loop-holds Inv-loop μ-loop
 loop-holds c =
-    let s = c .before .before .before .before in
-    let a = s .args in
-    (begins (a .words .now) (a .given .now) (a .piece .now) (a .ended) (s .pre .0 .0) (a .state .0) (s .pre .0 .1) (a .output .now) (s .pre .1 .0 .1) (s .pre .1 .1) _ refl refl refl refl refl, refl, refl)
+    let known = c .before .before .before .known-classes in
+    let s = c .before .before .before .before .before .before .before .before in
+    let a = s .args in (
+      begins (a .words .now) (a .given .now) (a .piece .now) (a .ended) (s .pre .0 .0) (a .state .0) (s .pre .0 .1) (a .output .now) (s .pre .1 .0 .1) (s .pre .1 .1) _ refl refl
+          refl refl refl,
+      refl,
+      refl,
+      front-classed (a .words .now) _ (c .before .fill-classes .last .1 .0) (known .result) (known .ensures) (c .table2 .given) (c .before .fill-classes .ensures),
+    )
 
 -- a turn that is due, and the run that it is a part of
 abbrev begin : tie.Then1 Inv-loop μ-loop → tie.Start Inv-loop μ-loop
-begin t = t .before .before .before .before .before .before .before
+begin t = t .before .before .before .before .before .before .before .before .before .before .before
 
 abbrev text : tie.Then1 Inv-loop μ-loop → List ℕ
 text t = begin t .args .given .now ++ begin t .args .piece .now
@@ -48,39 +72,49 @@ here t =
     let l = t .before .before .loop in
     subst (λ n. Here t n false) (sym (l .inv .1)) (subst (Here t (length (begin t .args .output .now))) (open-still t) (l .inv .0))
 
-turn-requires : tie.Need-turn-requires Inv-loop μ-loop
-turn-requires c κs = (begin (c .before) .pre .0 .0, here (c .before) .0)
+array-share-prefix-table : tie.Need-array-share-prefix-table Inv-loop μ-loop
+array-share-prefix-table c = c .before .before .loop .inv .3 .1
 
-abbrev after-turn : tie.After-turn Inv-loop μ-loop → List ℕ
-after-turn d = d .turn .last .1 .1 .1 .1 .1 .0
+slice-aggregate-advance : tie.Need-slice-aggregate-advance Inv-loop μ-loop
+slice-aggregate-advance c = sym (length-take-le _ _ (c .before .before .before .loop .inv .3 .1))
 
-went-on : (d : tie.After-turn Inv-loop μ-loop) →
-    let t = d .before .before in
+advance-requires : tie.Need-advance-requires Inv-loop μ-loop
+advance-requires c κs =
+    let t = c .before .before in
+    ((begin t .pre .0 .0, t .before .before .loop .inv .3 .0), here t .0)
+
+abbrev after-advance : tie.After-advance Inv-loop μ-loop → List ℕ
+after-advance d = d .advance .last .1 .1 .1 .1 .1 .1 .0
+
+went-on : (d : tie.After-advance Inv-loop μ-loop) →
+    let t = d .before .before .before in
     let l = t .before .before .loop in
-    Stage (begin t .args .words .now) (text t) (begin t .args .ended) (length (l .output)) (whole t) (d .turn .result .done) (d .turn .result) (after-turn d)
-    × (toGo (text t) (d .turn .result .done) (d .turn .result) < toGo (text t) false (l .ran))
+    Stage (begin t .args .words .now) (text t) (begin t .args .ended) (length (l .output)) (whole t) (d .advance .result .done) (d .advance .result) (after-advance d)
+    × (toGo (text t) (d .advance .result .done) (d .advance .result) < toGo (text t) false (l .ran))
 went-on d =
-    let t = d .before .before in
+    let t = d .before .before .before in
     let l = t .before .before .loop in
-    stage-on (begin t .args .words .now) (text t) (begin t .args .ended) (length (l .output)) (whole t) (l .ran) (d .turn .result) (l .output) (after-turn d)
-    (d .turn .result .done) (d .turn .ensures .0) (here t .1)
+    stage-on (begin t .args .words .now) (text t) (begin t .args .ended) (length (l .output)) (whole t) (l .ran) (d .advance .result) (l .output) (after-advance d)
+    (d .advance .result .done) (d .advance .ensures .0) (here t .1)
 
 loop-less : tie.Need-loop-less Inv-loop μ-loop
 loop-less c =
     let d = c .before .before in
-    let t = d .before .before in
+    let t = d .before .before .before in
     let l = t .before .before .loop in
-    subst (λ b. toGo (text t) (d .turn .result .done) (d .turn .result) < toGo (text t) b (l .ran)) (sym (open-still t)) (went-on d .1)
+    subst (λ b. toGo (text t) (d .advance .result .done) (d .advance .result) < toGo (text t) b (l .ran)) (sym (open-still t)) (went-on d .1)
 
 loop-again : tie.Need-loop-again Inv-loop μ-loop
 loop-again c =
     let d = c .before .before in
-    let t = d .before .before in
+    let t = d .before .before .before in
     let l = t .before .before .loop in
-    let z : length (after-turn d) ≡ length (l .output) = search needs in (
-      subst (λ n. Stage (begin t .args .words .now) (text t) (begin t .args .ended) n (whole t) (d .turn .result .done) (d .turn .result) (after-turn d)) (l .inv .1) (went-on d .0),
+    let z : length (after-advance d) ≡ length (l .output) = c .before .output .given in (
+      subst (λ n. Stage (begin t .args .words .now) (text t) (begin t .args .ended) n (whole t) (d .advance .result .done) (d .advance .result) (after-advance d)) (l .inv .1)
+          (went-on d .0),
       z ∙ l .inv .1,
-      beyond-on (l .ran) (d .turn .result) (begin t .args .output .now) (l .output) (after-turn d) (l .inv .2) (d .turn .ensures .1),
+      beyond-on (l .ran) (d .advance .result) (begin t .args .output .now) (l .output) (after-advance d) (l .inv .2) (d .advance .ensures .1),
+      l .inv .3,
     )
 
 same-length : tie.Need-same-length Inv-loop μ-loop
@@ -89,7 +123,7 @@ same-length c = c .before .before .loop .inv .1
 returns : tie.Need-returns Inv-loop μ-loop
 returns c =
     let l = c .before .before .loop in
-    let a = c .before .before .before .before .before .before .before .args in
+    let a = c .before .before .before .before .before .before .before .before .before .before .before .args in
     let u = a .given .now ++ a .piece .now in
     let r = run (fromWords (a .words .now)) (a .ended) (start (a .given .now) (a .piece .now) (a .state .0)) in
     let f : Stage (a .words .now) u (a .ended) (length (a .output .now)) r true (l .ran) (l .output) =
@@ -99,4 +133,18 @@ returns c =
 pub run-words-spec : {M : Type 1} → statement M
 run-words-spec =
     tie.close
-    (tie.spec Inv-loop μ-loop loop-holds turn-requires loop-less loop-again same-length returns)
+    (tie.spec
+    Inv-loop
+    μ-loop
+    known-classes-requires
+    array-borrow-prefix-table
+    slice-aggregate-fill-classes
+    fill-classes-requires
+    loop-holds
+    array-share-prefix-table
+    slice-aggregate-advance
+    advance-requires
+    loop-less
+    loop-again
+    same-length
+    returns)

@@ -1,0 +1,177 @@
+//! Feeds of an input in pieces, and the finish: by the library, by the machine
+//! written for speed, and by a scanner that flex generates if there is one.
+
+use std::hint::black_box;
+use std::time::Duration;
+
+use compare::face::{self, Session};
+use compare::fast::Fast;
+use reference::compile::compiled;
+use reference::samples::t1;
+
+use crate::inputs::{inputs, FILL, LENGTH};
+use crate::timing::{each, ratio, worked};
+
+/// The lengths of pieces, each with the runs of which the best counts.
+const PIECES: [(usize, usize); 2] = [(1 << 16, 100), (16, 25)];
+
+/// The most output characters of a group of T1.
+const MOST_OUTPUTS: usize = 5;
+
+/// What feeds and the finish came to.
+struct Fed {
+    session: Session,
+    text: Vec<u16>,
+    time: Duration,
+}
+
+/// The best times, that of the scanner if there is one.
+struct Best {
+    library: Duration,
+    fast: Duration,
+    flex: Option<Duration>,
+}
+
+/// T1's machine, an input, and a buffer for all of its output.
+struct Feeding<'i> {
+    words: Vec<u16>,
+    fast: Fast,
+    input: &'i [u16],
+    output: Vec<u16>,
+}
+
+/// Prints the times.
+pub fn print() {
+    println!(
+        "Feeds and the finish under T1, {LENGTH} characters in pieces, in nanoseconds of processor time a character."
+    );
+    println!(
+        "Pieces of 65,536 characters, best of {}, and of 16, best of {}. All write into one buffer of {MOST_OUTPUTS} × ({LENGTH} + 8) \
+         characters, which is filled before each run, outside the time.",
+        PIECES[0].1, PIECES[1].1
+    );
+    println!();
+    println!("| input | piece | library | Rust | flex | library / Rust | library / flex |");
+    println!("|---|---:|---:|---:|---:|---:|---:|");
+    let words = compiled(&t1()).expect("T1 compiles");
+    for (piece, runs) in PIECES {
+        for (name, input) in inputs() {
+            let mut feeding = Feeding {
+                fast: Fast::new(&words).expect("compiled words are sound"),
+                words: words.clone(),
+                input: &input,
+                output: vec![FILL; MOST_OUTPUTS * (LENGTH + 8)],
+            };
+            print_row(name, piece, &feeding.best(piece, runs));
+        }
+    }
+}
+
+/// Prints a row.
+fn print_row(name: &str, piece: usize, best: &Best) {
+    let of_flex = |number: fn(Duration, &Best) -> f64| match best.flex {
+        Some(flex) => format!("{:.2}", number(flex, best)),
+        None => "-".to_string(),
+    };
+    println!(
+        "| {name} | {piece} | {:.2} | {:.2} | {} | {:.2} | {} |",
+        each(best.library, LENGTH),
+        each(best.fast, LENGTH),
+        of_flex(|flex, _| each(flex, LENGTH)),
+        ratio(best.library, best.fast),
+        of_flex(|flex, best| ratio(best.library, flex))
+    );
+}
+
+impl Feeding<'_> {
+    /// The best times of the three, whose runs take turns and whose sessions and
+    /// texts are compared.
+    fn best(&mut self, piece: usize, runs: usize) -> Best {
+        let mut best = Best {
+            library: Duration::MAX,
+            fast: Duration::MAX,
+            flex: None,
+        };
+        for _ in 0..runs {
+            let library = self.by_library(piece);
+            let fast = self.by_fast(piece);
+            assert_eq!(library.session, fast.session);
+            assert!(library.text == fast.text, "the texts differ");
+            best.library = best.library.min(library.time);
+            best.fast = best.fast.min(fast.time);
+            if let Some((text, time)) = self.by_flex(piece) {
+                assert!(library.text == text, "the texts differ");
+                best.flex = Some(best.flex.map_or(time, |flex| flex.min(time)));
+            }
+        }
+        best
+    }
+
+    /// By the library.
+    fn by_library(&mut self, piece: usize) -> Fed {
+        self.output.fill(FILL);
+        let (words, output) = (black_box(&self.words[..]), &mut self.output);
+        let (mut session, mut written, mut count) = (Session::FRESH, 0, 0);
+        let ((), time) = worked(|| {
+            for piece in black_box(self.input).chunks(piece) {
+                let answer = face::feed(
+                    words,
+                    &mut session,
+                    piece,
+                    &mut output[written..],
+                    &mut count,
+                );
+                assert_eq!(answer, face::OPEN);
+                written += count as usize;
+            }
+            let answer = face::finish(words, &mut session, &mut output[written..], &mut count);
+            assert_eq!(answer, face::OK);
+            written += count as usize;
+        });
+        self.fed(session, written, time)
+    }
+
+    /// By the machine written for speed.
+    fn by_fast(&mut self, piece: usize) -> Fed {
+        self.output.fill(FILL);
+        let (fast, output) = (black_box(&self.fast), &mut self.output);
+        let (mut session, mut written) = (Session::FRESH, 0);
+        let ((), time) = worked(|| {
+            for piece in black_box(self.input).chunks(piece) {
+                written += fast.feed(&mut session, piece, &mut output[written..]);
+            }
+            written += fast.finish(&mut session, &mut output[written..]);
+        });
+        self.fed(session, written, time)
+    }
+
+    /// By the scanner that flex generates; its text and its time.
+    #[cfg(feature = "flex")]
+    fn by_flex(&mut self, piece: usize) -> Option<(Vec<u16>, Duration)> {
+        let bytes: Vec<u8> = self
+            .input
+            .iter()
+            .map(|&character| character as u8)
+            .collect();
+        self.output.fill(FILL);
+        let output = &mut self.output;
+        let (written, time) = worked(|| compare::flex::scan(black_box(&bytes), piece, output));
+        Some((self.output[..written].to_vec(), time))
+    }
+
+    /// No scanner was generated.
+    #[cfg(not(feature = "flex"))]
+    fn by_flex(&mut self, _piece: usize) -> Option<(Vec<u16>, Duration)> {
+        None
+    }
+
+    /// What a run came to, whose text is in the buffer.
+    fn fed(&self, session: Session, written: usize, time: Duration) -> Fed {
+        let text = self.output[..written].to_vec();
+        Fed {
+            session,
+            text,
+            time,
+        }
+    }
+}

@@ -1,0 +1,30 @@
+//! Times the proved library against other versions, in one run, and prints
+//! tables for docs/PERFORMANCE.md: direct conversion and compiling against the
+//! independent version, feeds against a machine written for speed and a scanner
+//! that flex generates, and single calls.
+
+mod calls;
+mod compiling;
+mod converting;
+mod feeding;
+mod inputs;
+mod timing;
+
+/// What is timed.
+const SUBJECTS: [(&str, fn()); 4] = [
+    ("converting", converting::print),
+    ("compiling", compiling::print),
+    ("feeding", feeding::print),
+    ("calls", calls::print),
+];
+
+/// Times the subjects that are named, or all.
+fn main() {
+    let named: Vec<String> = std::env::args().skip(1).collect();
+    for (name, print) in SUBJECTS {
+        if named.is_empty() || named.iter().any(|other| other == name) {
+            print();
+            println!();
+        }
+    }
+}

@@ -1,0 +1,212 @@
+//! Feeds and finishes, by the library and by the independent version, and random
+//! calls.
+
+use reference::machine::Status;
+use reference::random::Random;
+use reference::reckoning::Call;
+use reference::refusal::Refusal;
+use reference::session::{self, Answer};
+use reference::words::Words;
+
+use crate::cases::{pattern, room};
+use crate::face::{self, Session, OK, OPEN, STOPPED};
+
+/// The most characters of a random piece.
+const LONGEST_PIECE: usize = 40;
+
+/// What a call answers and leaves.
+#[derive(Clone, Debug, PartialEq, Eq)]
+pub struct Left {
+    /// The answer.
+    pub code: u32,
+    /// The session.
+    pub session: Session,
+    /// The output count.
+    pub count: u64,
+    /// The whole output buffer.
+    pub output: Vec<u16>,
+}
+
+impl Left {
+    /// What a call finds, with an answer that no call has.
+    fn found(session: Session, call: &Call) -> Left {
+        let (Call::Feed { output, .. } | Call::Finish { output }) = *call;
+        let length = usize::try_from(output).expect("a buffer in memory");
+        Left {
+            code: u32::MAX,
+            session,
+            count: u64::MAX,
+            output: pattern(length as u16, length),
+        }
+    }
+
+    /// What an accepted call wrote; nothing for a refused one.
+    pub fn text(&self) -> &[u16] {
+        match self.code {
+            OK | STOPPED | OPEN => &self.output[..self.count as usize],
+            _ => &[],
+        }
+    }
+}
+
+/// What a call of the library answers and leaves.
+pub fn by_library(words: &[u16], session: Session, call: &Call) -> Left {
+    let mut left = Left::found(session, call);
+    let (kept, output, count) = (&mut left.session, &mut left.output, &mut left.count);
+    left.code = match call {
+        Call::Feed { piece, .. } => face::feed(words, kept, piece, output, count),
+        Call::Finish { .. } => face::finish(words, kept, output, count),
+    };
+    left
+}
+
+/// What a call of the independent version answers and leaves.
+pub fn by_reference(words: &[u16], session: Session, call: &Call) -> Left {
+    let mut left = Left::found(session, call);
+    let answer = answer_by_reference(words, &mut left, call);
+    left.code = code(answer);
+    if let Ok(answer) = answer {
+        left.count = answer.count as u64;
+    }
+    left
+}
+
+/// The independent version's answer. It has no status beside the three: another
+/// one is refused by 11 where the words are not sound, else by 12.
+fn answer_by_reference(words: &[u16], left: &mut Left, call: &Call) -> Result<Answer, Refusal> {
+    let Some(mut session) = read(&left.session) else {
+        return Words::sound(words).and(Err(Refusal::UnsoundSession));
+    };
+    let answer = match call {
+        Call::Feed { piece, .. } => session::feed(words, &mut session, piece, &mut left.output),
+        Call::Finish { .. } => session::finish(words, &mut session, &mut left.output),
+    };
+    left.session = written(&session);
+    answer
+}
+
+/// The number that a call answers.
+pub fn code(answer: Result<Answer, Refusal>) -> u32 {
+    match answer.map(|answer| answer.status) {
+        Ok(Status::Open) => OPEN,
+        Ok(Status::Closed) => OK,
+        Ok(Status::Stopped) => STOPPED,
+        Err(refusal) => u32::from(refusal.number()),
+    }
+}
+
+/// A session in the independent version's terms, if its status is one of three.
+pub fn read(session: &Session) -> Option<session::Session> {
+    let status = match session.status {
+        0 => Status::Open,
+        1 => Status::Closed,
+        2 => Status::Stopped,
+        _ => return None,
+    };
+    Some(session::Session {
+        status,
+        state: session.state,
+        held: session.held,
+        count: session.count,
+        received: session.received,
+        produced: session.produced,
+        steps: session.steps,
+    })
+}
+
+/// A session of the independent version in C's terms.
+pub fn written(session: &session::Session) -> Session {
+    Session {
+        received: session.received,
+        produced: session.produced,
+        steps: session.steps,
+        status: match session.status {
+            Status::Open => 0,
+            Status::Closed => 1,
+            Status::Stopped => 2,
+        },
+        state: session.state,
+        count: session.count,
+        held: session.held,
+    }
+}
+
+/// Compares one call of both; answers what both left.
+///
+/// # Panics
+///
+/// If they differ, or if a refused call changed anything.
+pub fn compare(words: &[u16], session: Session, call: &Call) -> Left {
+    let expected = by_reference(words, session, call);
+    let left = by_library(words, session, call);
+    assert_eq!(left, expected, "{call:?} of {session:?}");
+    if (11..=15).contains(&left.code) {
+        let code = left.code;
+        let found = Left::found(session, call);
+        assert_eq!(left, Left { code, ..found }, "{call:?} of {session:?}");
+    }
+    left
+}
+
+/// A feed with as much room as it needs under any table.
+pub fn roomy_feed(piece: &[u16]) -> Call {
+    Call::Feed {
+        piece: piece.to_vec(),
+        output: 8 * (8 + piece.len() as u64),
+    }
+}
+
+/// A finish with as much room as it needs under any table.
+pub const ROOMY_FINISH: Call = Call::Finish { output: 64 };
+
+/// Feeds pieces to a fresh session of the library and finishes it; answers the
+/// session and the joined outputs.
+///
+/// # Panics
+///
+/// If a call is not refused by 13 after a stop, or is before one.
+pub fn fed<'p>(words: &[u16], pieces: impl Iterator<Item = &'p [u16]>) -> (Session, Vec<u16>) {
+    let (mut session, mut text) = (Session::FRESH, Vec::new());
+    for call in pieces.map(roomy_feed).chain([ROOMY_FINISH]) {
+        let left = by_library(words, session, &call);
+        let refused = !matches!(left.code, OK | STOPPED | OPEN);
+        let stopped = session.status == 2;
+        assert_eq!(
+            (refused, left.code == 13),
+            (stopped, stopped),
+            "{call:?} of {session:?}"
+        );
+        text.extend(left.text());
+        session = left.session;
+    }
+    (session, text)
+}
+
+/// A random call of a session: once in twelve times a finish, else a feed of what
+/// comes next of the input. The output buffer is too short, exact or longer.
+pub fn random_call(
+    random: &mut Random,
+    words: &[u16],
+    session: &Session,
+    input: &mut &[u16],
+) -> Call {
+    // Words and sessions may be damaged; the buffer stays small.
+    let most_outputs = usize::from(words[3]).min(8);
+    let held = usize::from(session.count).min(8);
+    if random.one_in(12) {
+        let output = room(random, most_outputs * held) as u64;
+        return Call::Finish { output };
+    }
+    let piece = next_piece(random, input).to_vec();
+    let output = room(random, most_outputs * (held + piece.len())) as u64;
+    Call::Feed { piece, output }
+}
+
+/// The next 0 to 40 characters of the input, more often a few.
+pub fn next_piece<'i>(random: &mut Random, input: &mut &'i [u16]) -> &'i [u16] {
+    let longest = *random.pick(&[5, 10, LONGEST_PIECE]);
+    let length = random.below(longest + 1).min(input.len());
+    let (piece, rest) = input.split_at(length);
+    *input = rest;
+    piece
+}

@@ -1,0 +1,49 @@
+-- What the rollback machine reads, made from a table and from machine words.
+use mathlib.Core.Bool.{Bool}
+use mathlib.Core.List.{List}
+use Prim.Native.Nat.{ℕ}
+use lib.Dec.{eqb}
+use lib.ListN.{getD, take, drop}
+use Rattle.lists.specs.Lists.{isSome}
+use Rattle.meaning.specs.Table.{Table, group}
+use Rattle.meaning.specs.Meaning.{written}
+use Rattle.meaning.specs.Block.{at, blockOutput}
+use Rattle.automaton.specs.Classes.{starts, classOf}
+use Rattle.automaton.specs.States.{State, initial, acceptAtEndOf, acceptOf, states, targetOf}
+use Rattle.automaton.specs.Sound.{classCount, acceptAtEndWord, acceptWord, targetWord, blockAt}
+
+pub record Automaton : Type 0 where
+  -- the state that a character leads to; 0 for none
+  pub target : ℕ → ℕ → ℕ
+  -- a state's *go*: the rule accepted at once, + 1; 0 for none
+  pub accept : ℕ → ℕ
+  -- a state's *end*: the rule accepted if the input ends here, + 1; 0 for none
+  pub acceptAtEnd : ℕ → ℕ
+  pub default : Bool
+  -- what a group writes for a word
+  pub write : ℕ → List ℕ → List ℕ
+
+-- "with the states, classes and groups defined above from the table"
+unfoldable pub fromTable : Table → Automaton
+fromTable t =
+    let ss = starts t in
+    let qs = states t in
+    let state : ℕ → State = λ s. getD qs s (initial t) in
+    record {
+      target = λ s c. targetOf t qs (state s) (getD ss (classOf ss c) 0);
+      accept = λ s. acceptOf t (state s);
+      acceptAtEnd = λ s. acceptAtEndOf t (state s);
+      default = isSome (t .default);
+      write = λ g w. written (group t g) w;
+    }
+
+unfoldable pub fromWords : List ℕ → Automaton
+fromWords m =
+    let ss = take (classCount m) (drop 6 m) in
+    record {
+      target = λ s c. targetWord m s (classOf ss c);
+      accept = λ s. acceptWord m s;
+      acceptAtEnd = λ s. acceptAtEndWord m s;
+      default = eqb (at m 5) 1;
+      write = λ g w. blockOutput (blockAt m g) w;
+    }

@@ -1,0 +1,10 @@
+pub mod Classes
+pub mod States
+pub mod Layout
+pub mod Compile
+pub mod Sound
+pub mod Automaton
+pub mod Claims
+pub mod Build
+pub mod Noted
+pub mod Gathered

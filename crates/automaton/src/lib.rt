@@ -1,0 +1,1 @@
+// Classes, states, machine words, compiling and soundness: definitions and laws. The code stands in `machine`.

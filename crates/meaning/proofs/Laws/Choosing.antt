@@ -1,0 +1,222 @@
+-- How Definition 7's choice is found on the flat arrays: range by range, position by position, rule by rule.
+-- Each loop's test of what is left is the test of its next element and of what is left then.
+use mathlib.Core.Bool.{Bool, true, false, _&&_, _||_, not, cond}
+use mathlib.Core.List.{List, [], _∷_}
+use mathlib.Core.Option.{Option, none, some}
+use mathlib.Core.Path.{_≡_, refl, sym, ap, subst, _∙_}
+use Prim.Native.Nat.{ℕ, zero, suc, _+_, _-_, _*_, _≤_, _<_}
+use native.Mathlib.Nat.{add-zero, zero-add}
+use native.Mathlib.Numerals.{add-one}
+use native.Mathlib.Omega.{arith}
+use borrow.Author.Tests.{eqb-true, lt-ltb, le-ltb, eq-eqb, ne-eqb}
+use lib.Dec.{T, eqb, ltb}
+use lib.ListN.{length, getD, take, drop, length-take, length-drop}
+use lib.Seq.{drop-cons, ext-getD}
+use Rattle.lists.specs.Lists.{tabFrom}
+use Rattle.lists.proofs.Laws.Tests.{and-true}
+use Rattle.meaning.specs.Table.{Range, Group, Table, within, inRanges, everyCharacter, ruleAt, defaultNumber}
+use Rattle.meaning.specs.Block.{at}
+use Rattle.meaning.specs.Value.{fitsWord}
+use Rattle.meaning.specs.Meaning.{fits, better, best, orDefault, choose}
+use Rattle.meaning.specs.Flat.{rangesAt, patternAt, groupAt, tableAt}
+use Rattle.meaning.proofs.Laws.Prefix.{fitsWord-length}
+
+-- lists made by number
+module _ {A : Type 0} (f : ℕ → A) where
+  pub getD-tab : (i n r : ℕ) (d : A) → r < n → getD (tabFrom i n f) r d ≡ f (i + r)
+  getD-tab i zero r d h = absurd (omega arith)
+  getD-tab i (suc n) zero d h = ap f (sym (add-zero i))
+  getD-tab i (suc n) (suc r) d h =
+      let e : suc i + r ≡ i + suc r = omega arith in getD-tab (suc i) n r d (omega arith) ∙ ap f e
+
+  pub length-tab : (i n : ℕ) → length (tabFrom i n f) ≡ n
+  length-tab i zero = refl
+  length-tab i (suc n) = ap suc (length-tab (suc i) n)
+
+  pub tab-is : (n : ℕ) (xs : List A) (d : A) → length xs ≡ n → ((k : ℕ) → k < n → f k ≡ getD xs k d) → tabFrom 0 n f ≡ xs
+  tab-is n xs d e h =
+      ext-getD d (tabFrom 0 n f) xs (length-tab 0 n ∙ sym e)
+      (λ k i. let j : k < n = subst (λ m. k < m) (length-tab 0 n) i in getD-tab 0 n k d j ∙ ap f (zero-add k) ∙ h k j)
+
+  -- what is left of the first n elements, from number k on
+
+  pub tab-next : (n k : ℕ) → k < n → tabFrom k (n - k) f ≡ f k ∷ tabFrom (k + 1) (n - (k + 1)) f
+  tab-next n k h =
+      let e : n - k ≡ suc (n - (k + 1)) = omega arith in
+      ap (λ m. tabFrom k m f) e ∙ ap (λ j. f k ∷ tabFrom j (n - (k + 1)) f) (sym (add-one k))
+
+  pub tab-end : (n k : ℕ) → n ≤ k → tabFrom k (n - k) f ≡ []
+  tab-end n k h = let e : n - k ≡ 0 = omega arith in ap (λ m. tabFrom k m f) e
+
+  pub tab-start : (n : ℕ) → tabFrom 0 n f ≡ tabFrom 0 (n - 0) f
+  tab-start n = let e : n ≡ n - 0 = omega arith in ap (λ m. tabFrom 0 m f) e
+
+-- the n characters from place a on
+pub take-next : (u : List ℕ) (a n m : ℕ) → a < length u → n ≡ suc m → take n (drop a u) ≡ at u a ∷ take m (drop (a + 1) u)
+take-next u a n m h e = ap (λ k. take k (drop a u)) e ∙ ap (take (suc m)) (drop-cons u a 0 h) ∙ ap (λ k. at u a ∷ take m (drop k u)) (sym (add-one a))
+
+-- a range of a place
+abbrev pub rangeAt : List ℕ → ℕ → ℕ → Range
+rangeAt ranges place k = record { lowest = at ranges (8 * place + 2 * k); highest = at ranges (8 * place + 2 * k + 1) }
+
+-- a rule read back
+pub rule-at : (slots ranges blocks : List ℕ) (n : ℕ) (d : Bool) (r : ℕ) → r < n →
+    ruleAt (tableAt slots ranges blocks n d) r ≡ groupAt slots ranges blocks r
+unfolding tableAt
+rule-at slots ranges blocks n d r h =
+    getD-tab (groupAt slots ranges blocks) 0 n r (everyCharacter []) h ∙ ap (groupAt slots ranges blocks) (zero-add r)
+
+-- the character lies in a range of the place, from number k on
+module _ (slots ranges : List ℕ) (place c : ℕ) where
+  abbrev pub inFrom : ℕ → Bool
+  inFrom k = inRanges (tabFrom k (at slots place - k) (rangeAt ranges place)) c
+
+  pub inFrom-start : inRanges (rangesAt slots ranges place) c ≡ inFrom 0
+  unfolding rangesAt
+  inFrom-start = ap (λ rs. inRanges rs c) (tab-start (rangeAt ranges place) (at slots place))
+
+  pub inFrom-next : (k : ℕ) (b : Bool) → k < at slots place → b ≡ within c (rangeAt ranges place k) → inFrom k ≡ b || inFrom (k + 1)
+  inFrom-next k b h e = ap (λ rs. inRanges rs c) (tab-next (rangeAt ranges place) (at slots place) k h) ∙ ap (λ x. x || inFrom (k + 1)) (sym e)
+
+  pub inFrom-end : (k : ℕ) → at slots place ≤ k → inFrom k ≡ false
+  inFrom-end k h = ap (λ rs. inRanges rs c) (tab-end (rangeAt ranges place) (at slots place) k h)
+
+-- the characters from place a + p on lie in the ranges of the positions from p on
+module _ (slots ranges : List ℕ) (place size : ℕ) (u : List ℕ) (a : ℕ) where
+  abbrev positionAt : ℕ → List Range
+  positionAt p = rangesAt slots ranges (place + p)
+
+  abbrev pub fitsFrom : ℕ → Bool
+  fitsFrom p = fitsWord (tabFrom p (size - p) positionAt) (take (size - p) (drop (a + p) u))
+
+  pub fitsFrom-start : fitsWord (tabFrom 0 size positionAt) (take size (drop a u)) ≡ fitsFrom 0
+  fitsFrom-start =
+      let e : size ≡ size - 0 = omega arith in
+      ap (λ n. fitsWord (tabFrom 0 n positionAt) (take n (drop a u))) e ∙ ap (λ b. fitsWord (tabFrom 0 (size - 0) positionAt) (take (size - 0) (drop b u))) (sym (add-zero a))
+
+  pub fitsFrom-next : (p : ℕ) (b : Bool) → p < size → a + size ≤ length u → b ≡ inRanges (positionAt p) (at u (a + p)) → fitsFrom p ≡ b && fitsFrom (p + 1)
+  unfolding fitsWord
+  fitsFrom-next p b h k e =
+      let i : a + p < length u = omega arith in
+      let j : size - p ≡ suc (size - (p + 1)) = omega arith in
+      let m : a + p + 1 ≡ a + (p + 1) = omega arith in
+      ap (λ ps. fitsWord ps (take (size - p) (drop (a + p) u))) (tab-next positionAt size p h)
+      ∙ ap (fitsWord (positionAt p ∷ tabFrom (p + 1) (size - (p + 1)) positionAt)) (take-next u (a + p) (size - p) (size - (p + 1)) i j)
+      ∙ ap (λ n. inRanges (positionAt p) (at u (a + p)) && fitsWord (tabFrom (p + 1) (size - (p + 1)) positionAt) (take (size - (p + 1)) (drop n u))) m
+      ∙ ap (λ x. x && fitsFrom (p + 1)) (sym e)
+
+  pub fitsFrom-end : (p : ℕ) → size ≤ p → fitsFrom p ≡ true
+  unfolding fitsWord
+  fitsFrom-end p h =
+      let e : size - p ≡ 0 = omega arith in ap (λ n. fitsWord (tabFrom p n positionAt) (take n (drop (a + p) u))) e
+
+-- when a group fits
+
+and-false : (b : Bool) → b && false ≡ false
+and-false true = refl
+and-false false = refl
+
+module _ (g : Group) (rest : List ℕ) where
+  pub fits-short : length (g .ranges) ≡ g .size → length rest < g .size → fits g rest ≡ false
+  unfolding fits
+  fits-short e h = first (fitsWord (g .ranges) (take (g .size) rest)) (fitsWord-length (g .ranges) (take (g .size) rest))
+    where
+      first : (b : Bool) → (T b → length (g .ranges) ≡ length (take (g .size) rest)) → b && (not (g .anchored) || eqb (length rest) (g .size)) ≡ false
+      first false f = refl
+      first true f = let p : length (g .ranges) ≡ length (take (g .size) rest) = f tt in absurd (omega (arith, length-take (g .size) rest))
+
+  pub fits-early : g .anchored ≡ true → g .size < length rest → fits g rest ≡ false
+  unfolding fits
+  fits-early e h = rw (e, ne-eqb (length rest) (g .size) (λ p. omega arith)) (and-false (fitsWord (g .ranges) (take (g .size) rest)))
+
+  pub fits-word : (g .anchored ≡ true → length rest ≡ g .size) → fits g rest ≡ fitsWord (g .ranges) (take (g .size) rest)
+  unfolding fits
+  fits-word f = ap (λ b. fitsWord (g .ranges) (take (g .size) rest) && b) (ends (g .anchored) f) ∙ and-true (fitsWord (g .ranges) (take (g .size) rest))
+    where
+      ends : (a : Bool) → (a ≡ true → length rest ≡ g .size) → not a || eqb (length rest) (g .size) ≡ true
+      ends false h = refl
+      ends true h = eq-eqb (length rest) (g .size) (h refl)
+
+-- the same of a group read back, on the input from place a on
+module _ (slots ranges blocks : List ℕ) (g : ℕ) (u : List ℕ) (a : ℕ) where
+  abbrev size : ℕ
+  size = at blocks (75 * g)
+
+  abbrev fitting : Bool
+  fitting = fits (groupAt slots ranges blocks g) (drop a u)
+
+  pub flat-short : length u - a < size → fitting ≡ false
+  unfolding groupAt patternAt
+  flat-short h =
+      fits-short (groupAt slots ranges blocks g) (drop a u) (length-tab (λ p. rangesAt slots ranges (8 * g + p)) 0 size) (rw length-drop h)
+
+  pub flat-early : at blocks (75 * g + 1) ≡ 1 → size < length u - a → fitting ≡ false
+  unfolding groupAt
+  flat-early e h = fits-early (groupAt slots ranges blocks g) (drop a u) (eq-eqb (at blocks (75 * g + 1)) 1 e) (rw length-drop h)
+
+  pub flat-word : (b : Bool) → (at blocks (75 * g + 1) ≡ 1 → length u - a ≡ size) →
+      b ≡ fitsWord (tabFrom 0 size (λ p. rangesAt slots ranges (8 * g + p))) (take size (drop a u)) → b ≡ fitting
+  unfolding groupAt patternAt
+  flat-word b f e =
+      e ∙ sym (fits-word (groupAt slots ranges blocks g) (drop a u) (λ e. length-drop a u ∙ f (eqb-true (at blocks (75 * g + 1)) 1 e)))
+
+-- the choice among the first rules, kept as two numbers: the rule and its length, or n and 9 for none
+module _ (slots ranges blocks : List ℕ) (n : ℕ) (d : Bool) (u : List ℕ) where
+  abbrev table : Table
+  table = tableAt slots ranges blocks n d
+
+  abbrev pub Kept : Option ℕ → ℕ → ℕ → Type 0
+  Kept none b l = (b ≡ n) × (l ≡ 9)
+  Kept (some x) b l = (b ≡ x) × (x < n) × (l ≡ at blocks (75 * x))
+
+  -- among the rules below r
+  abbrev pub KeptOf : ℕ → ℕ → ℕ → Type 0
+  KeptOf r b l = Kept (best table r u) b l
+
+  rule-size : (r : ℕ) → r < n → ruleAt table r .size ≡ at blocks (75 * r)
+  unfolding groupAt
+  rule-size r h = ap (λ g. g .size) (rule-at slots ranges blocks n d r h)
+
+  pub kept-none : KeptOf 0 n 9
+  unfolding best
+  kept-none = (refl, refl)
+
+  module _ (r b l : ℕ) (h : r < n) where
+    by-rule : (P : Option ℕ → Type 0) → P (better table (best table r u) r (fits (groupAt slots ranges blocks r) u)) → P (best table (r + 1) u)
+    unfolding best
+    by-rule P p = rw (add-one r, rule-at slots ranges blocks n d r h) p
+
+    -- rule r does not fit, or is no shorter than what is kept
+    pub kept-skip : (f : Bool) → f ≡ fits (groupAt slots ranges blocks r) u → f ≡ false → KeptOf r b l → KeptOf (r + 1) b l
+    kept-skip f p e k = by-rule (λ o. Kept o b l) (rw (← p, e) k)
+
+    pub kept-longer : l ≤ at blocks (75 * r) → at blocks (75 * r) ≤ 8 → KeptOf r b l → KeptOf (r + 1) b l
+    kept-longer m s k = by-rule (λ o. Kept o b l) (go (best table r u) (fits (groupAt slots ranges blocks r) u) k)
+      where
+        go : (o : Option ℕ) (f : Bool) → Kept o b l → Kept (better table o r f) b l
+        go none false k = k
+        go (some x) false k = k
+        go none true k = absurd (omega arith)
+        go (some x) true k =
+            rw (rule-size r h, rule-size x (k .1), le-ltb (at blocks (75 * r)) (at blocks (75 * x)) (omega arith)) k
+
+    -- rule r fits and is shorter
+    pub kept-shorter : (f : Bool) → at blocks (75 * r) < l → f ≡ fits (groupAt slots ranges blocks r) u → f ≡ true → KeptOf r b l → KeptOf (r + 1) r (at blocks (75 * r))
+    kept-shorter f m p e k = by-rule (λ o. Kept o r (at blocks (75 * r))) (rw (← p, e) (go (best table r u) k))
+      where
+        go : (o : Option ℕ) → Kept o b l → Kept (better table o r true) r (at blocks (75 * r))
+        go none k = (refl, h, refl)
+        go (some x) k =
+            rw (rule-size r h, rule-size x (k .1), lt-ltb (at blocks (75 * r)) (at blocks (75 * x)) (omega arith)) (refl, h, refl)
+
+  pub kept-choose : (b l : ℕ) → KeptOf n b l → choose table u ≡ cond (ltb b n) (some b) (cond d (some defaultNumber) none)
+  unfolding choose tableAt
+  kept-choose b l k = ap (λ m. orDefault table (best table m u)) (length-tab (groupAt slots ranges blocks) 0 n) ∙ go (best table n u) k
+    where
+      go : (o : Option ℕ) → Kept o b l → orDefault table o ≡ cond (ltb b n) (some b) (cond d (some defaultNumber) none)
+      go none k = rw (le-ltb b n (omega arith)) (left d)
+        where
+          left : (d : Bool) → orDefault (tableAt slots ranges blocks n d) none ≡ cond d (some defaultNumber) none
+          left true = refl
+          left false = refl
+      go (some x) k = rw (lt-ltb b n (omega arith)) (ap some (sym (k .0)))

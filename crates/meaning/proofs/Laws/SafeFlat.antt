@@ -1,0 +1,203 @@
+-- Refusal 7's test on the flat arrays of a table is the table's own test.
+-- What is read back of the arrays is the table, its coefficients filled up with zeros, which change no value.
+use mathlib.Core.Bool.{Bool, true, false, _&&_, cond}
+use mathlib.Core.List.{List, [], _∷_, _++_, map}
+use mathlib.Core.Option.{Option, none, some}
+use mathlib.Core.Path.{_≡_, refl, sym, ap, ap₂, subst, _∙_}
+use Prim.Native.Nat.{ℕ, zero, suc, _+_, _*_, _≤_, _<_}
+use native.Mathlib.Omega.{arith}
+use lib.Dec.{T, lit<}
+use lib.IntN.{ℤ, pos, _+ℤ_, zero-*ℤ}
+use lib.ListN.{length, getD, take, drop, length-map, length-drop, List·getD-map}
+use lib.Seq.{length-take-le, getD-take, getD-drop, ext-getD}
+use Rattle.lists.specs.Lists.{all, Each, flatMap, isSome, orElse, optional}
+use Rattle.lists.specs.Decide.{forBelow, implies}
+use Rattle.lists.proofs.Laws.Tests.{test-eq, below, to-below, and-true, and-assoc}
+use Rattle.lists.proofs.Laws.Each.{each-front, each-back, each-getD, all-each, each-all}
+use Rattle.lists.proofs.Laws.Parts.{getD-pad, getD-rows}
+use Rattle.meaning.specs.Table.{Range, Output, sum, Group, Table, everyCharacter, ruleAt}
+use Rattle.meaning.specs.Reader.{reach, signed}
+use Rattle.meaning.specs.Block.{at, word, bit, entry, block}
+use Rattle.meaning.specs.Value.{dot, value, extreme, safeOutput, safe}
+use Rattle.meaning.specs.Flat.{slotWords, rangeWords, blockWords, constantOf, constantWords, patternAt, groupAt, tableAt, outputAt, safeGroupAt, safeAt}
+use Rattle.meaning.proofs.Laws.Shape.{ShapedGroup, ShapedDefault, Shaped}
+use Rattle.meaning.proofs.Laws.Exact.{length-entry}
+use Rattle.meaning.proofs.Laws.Narrow.{Bits, NarrowOutput, NarrowGroup, Narrow}
+use Rattle.meaning.proofs.Laws.Rows.{fill, length-fill, length-rows, rowsOf, rows-at, rowsOf-rule, rowsOf-default}
+use Rattle.meaning.proofs.Laws.Numbers.{word-signed, bits-signed}
+use Rattle.meaning.proofs.Laws.Choosing.{rule-at}
+use Rattle.meaning.proofs.Laws.Bare.{bareGroup, bareDefault, ruleAt-bare, Row, size-flat, table-flat}
+
+-- coefficients filled up with zeros
+
+abbrev zeros : ℕ → List ℤ → List ℤ
+zeros n ks = fill (pos 0) n ks
+
+dot-zeros : (n : ℕ) (w : List ℕ) → dot (zeros n []) w ≡ pos 0
+unfolding dot
+dot-zeros zero w = refl
+dot-zeros (suc n) [] = refl
+dot-zeros (suc n) (c ∷ w) = ap₂ (λ x y. x +ℤ y) (zero-*ℤ (pos c)) (dot-zeros n w)
+
+dot-filled : (sign : Bool) (n : ℕ) (ks : List ℤ) (ps : List (List Range)) → length ks ≤ n →
+    dot (zeros n ks) (extreme sign (zeros n ks) ps) ≡ dot ks (extreme sign ks ps)
+unfolding dot extreme
+dot-filled sign n [] ps h = dot-zeros n (extreme sign (zeros n []) ps)
+dot-filled sign zero (a ∷ ks) ps h = absurd (omega arith)
+dot-filled sign (suc n) (a ∷ ks) [] h = refl
+dot-filled sign (suc n) (a ∷ ks) (rs ∷ ps) h = rw (dot-filled sign n ks ps (omega arith)) refl
+
+abbrev widen : ℕ → Output → Output
+widen n (sum c ks) = sum c (zeros n ks)
+
+widen-safe : (ps : List (List Range)) (n : ℕ) (o : Output) → reach o ≤ n → safeOutput ps (widen n o) ≡ safeOutput ps o
+unfolding safeOutput value
+widen-safe ps n (sum c ks) h = rw (dot-filled true n ks ps h, dot-filled false n ks ps h) refl
+
+-- numbers of 16 and of 32 bits, read back
+
+signed-word : (z : ℤ) → Bits 16 z → signed 16 (word z) ≡ z
+signed-word z b = ap (λ x. signed 16 (word x)) (b .same) ∙ ap (signed 16) (word-signed (b .number) (b .below)) ∙ sym (b .same)
+
+signed-constant : (c : ℤ) (ks : List ℤ) → Bits 32 c → signed 32 (constantOf (sum c ks)) ≡ c
+signed-constant c ks b = ap (λ x. signed 32 (constantOf (sum x ks))) (b .same) ∙ ap (signed 32) (bits-signed (b .number) (b .below)) ∙ sym (b .same)
+
+signed-words : (ks : List ℤ) (n i : ℕ) → Each (Bits 16) ks → i < n → signed 16 (at (map word ks) i) ≡ getD (zeros n ks) i (pos 0)
+unfolding signed
+signed-words ks zero i b h = absurd (omega arith)
+signed-words [] (suc n) zero b h = refl
+signed-words [] (suc n) (suc i) b h = signed-words [] n i tt (omega arith)
+signed-words (a ∷ ks) (suc n) zero b h = signed-word a (b .0)
+signed-words (a ∷ ks) (suc n) (suc i) b h = signed-words ks n i (b .1) (omega arith)
+
+abbrev wordsOf : Output → List ℕ
+wordsOf (sum c ks) = map word ks
+
+read-output : (n base x : ℕ) (blocks : List ℕ) (o : Output) → NarrowOutput o → x ≡ constantOf o → ((i : ℕ) → i < n → at blocks (base + i) ≡ at (wordsOf o) i) →
+    base + n ≤ length blocks → sum (signed 32 x) (map (signed 16) (take n (drop base blocks))) ≡ widen n o
+unfolding signed
+read-output n base x blocks (sum c ks) b e f fit =
+    let row = drop base blocks in
+    let room : n ≤ length row = rw length-drop (omega arith) in
+    let long : length (map (signed 16) (take n row)) ≡ n = length-map (take n row) (signed 16) ∙ length-take-le n row room in
+    ap₂ sum (ap (signed 32) e ∙ signed-constant c ks (b .0))
+    (ext-getD (pos 0) (map (signed 16) (take n row)) (zeros n ks) (long ∙ sym (length-fill (pos 0) n ks))
+    (λ i h.
+    let l : i < n = subst (λ m. i < m) long h in
+    List·getD-map (signed 16) (take n row) i 0
+    ∙ ap (signed 16) (getD-take n row i 0 l ∙ getD-drop base blocks i 0 ∙ f i l)
+    ∙ signed-words ks n i (b .1) l))
+
+-- a test of each element, by number
+
+pub each-numbers : {A : Type 0} (P : A → Type 0) (xs : List A) (d : A) → ((j : ℕ) → j < length xs → P (getD xs j d)) → Each P xs
+each-numbers P [] d f = tt
+each-numbers P (x ∷ xs) d f = (f 0 (omega arith), each-numbers P xs d (λ j h. f (suc j) (omega arith)))
+
+below-all : {A : Type 0} (p : A → Bool) (xs : List A) (d : A) (q : ℕ → Bool) → ((j : ℕ) → j < length xs → q j ≡ p (getD xs j d)) →
+    forBelow (length xs) q ≡ all p xs
+below-all p xs d q e =
+    test-eq (forBelow (length xs) q) (all p xs)
+    (λ t. each-all p xs (λ x u. u) (each-numbers (λ x. T (p x)) xs d (λ j h. subst T (e j h) (below (length xs) q t j h))))
+    (λ t. to-below (length xs) q (λ j h. subst T (sym (e j h)) (each-getD (λ x. T (p x)) xs j d (all-each p xs (λ x u. u) t) h)))
+
+all-append : {A : Type 0} (p : A → Bool) (xs ys : List A) → all p (xs ++ ys) ≡ all p xs && all p ys
+all-append p [] ys = refl
+all-append p (x ∷ xs) ys = ap (λ b. p x && b) (all-append p xs ys) ∙ sym (and-assoc (p x) (all p xs) (all p ys))
+
+abbrev noOutput : Output
+noOutput = sum (pos 0) []
+
+entry-word : (o : Output) (i : ℕ) → i < 8 → at (entry o) (suc i) ≡ at (wordsOf o) i
+unfolding entry
+entry-word (sum c ks) i h = getD-pad 8 (map word ks) i h
+
+length-blocks : (t : Table) → length (blockWords t) ≡ 2475
+unfolding blockWords
+length-blocks t = length-rows 75 block t
+
+abbrev testOf : Group → Bool
+testOf g = all (safeOutput (g .ranges)) (g .outputs)
+
+module _ (t : Table) (k : ℕ) (in-arrays : k < 33) (g : Group) (row : Row t k g)
+    (same : groupAt (slotWords t) (rangeWords t) (blockWords t) k ≡ bareGroup g)
+    (small : g .size ≤ 8) (few : length (g .outputs) ≤ 8) (reaches : Each (λ o. reach o ≤ g .size) (g .outputs))
+    (narrow : Each NarrowOutput (g .outputs)) where
+  abbrev head : List ℕ
+  head = g .size ∷ bit (g .anchored) ∷ length (g .outputs) ∷ flatMap entry (g .outputs)
+
+  in-block : (i : ℕ) → i < 75 → at (blockWords t) (75 * k + i) ≡ at head i
+  unfolding blockWords block
+  in-block i h = row 75 block i h ∙ getD-pad 75 head i h
+
+  pattern-same : patternAt (slotWords t) (rangeWords t) k (at (blockWords t) (75 * k)) ≡ g .ranges
+  unfolding groupAt
+  pattern-same = ap (λ x. x .ranges) same
+
+  module _ (j : ℕ) (inside : j < length (g .outputs)) where
+    abbrev here : Output
+    here = getD (g .outputs) j noOutput
+
+    constant-same : at (constantWords t) (8 * k + j) ≡ constantOf here
+    unfolding constantWords
+    constant-same = row 8 (λ g. map constantOf (g .outputs)) j (omega arith) ∙ List·getD-map constantOf (g .outputs) j noOutput
+
+    word-same : (i : ℕ) → i < 8 → at (blockWords t) (75 * k + 4 + 9 * j + i) ≡ at (wordsOf here) i
+    word-same i h =
+        let a : 75 * k + 4 + 9 * j + i ≡ 75 * k + (4 + 9 * j + i) = omega arith in
+        let b : 4 + 9 * j + i ≡ suc (suc (suc (9 * j + suc i))) = omega arith in
+        ap (at (blockWords t)) a
+        ∙ in-block (4 + 9 * j + i) (omega arith)
+        ∙ ap (at head) b
+        ∙ getD-rows entry 9 length-entry (g .outputs) j (suc i) noOutput inside (omega arith)
+        ∙ entry-word here i h
+
+    output-same : outputAt (blockWords t) (constantWords t) k j ≡ widen (g .size) here
+    unfolding outputAt
+    output-same =
+        let fit : 75 * k + 4 + 9 * j + g .size ≤ length (blockWords t) = omega (arith, length-blocks t) in
+        rw (size-flat t k g row)
+        (read-output (g .size) (75 * k + 4 + 9 * j) (at (constantWords t) (8 * k + j)) (blockWords t) here
+        (each-getD NarrowOutput (g .outputs) j noOutput narrow inside) constant-same (λ i h. word-same i (omega arith)) fit)
+
+  group-safe : safeGroupAt (slotWords t) (rangeWords t) (blockWords t) (constantWords t) k ≡ testOf g
+  unfolding safeGroupAt
+  group-safe =
+      rw (in-block 2 (lit< tt), pattern-same)
+      (below-all (safeOutput (g .ranges)) (g .outputs) noOutput (λ j. safeOutput (g .ranges) (outputAt (blockWords t) (constantWords t) k j))
+      (λ j h.
+      ap (safeOutput (g .ranges)) (output-same j h)
+      ∙ widen-safe (g .ranges) (g .size) (here j h) (each-getD (λ o. reach o ≤ g .size) (g .outputs) j noOutput reaches h)))
+
+pub safe-flat : (t : Table) → Shaped t → Narrow t →
+    safeAt (slotWords t) (rangeWords t) (blockWords t) (constantWords t) (length (t .rules)) (isSome (t .default)) ≡ safe t
+unfolding safeAt safe tableAt
+safe-flat t s w =
+    ap₂ _&&_ (below-all testOf (t .rules) (everyCharacter []) (safeGroupAt (slotWords t) (rangeWords t) (blockWords t) (constantWords t)) rule) (of (t .default) refl (s .default) (each-back NarrowGroup (t .rules) (optional (t .default)) w))
+    ∙ sym (all-append testOf (t .rules) (optional (t .default)))
+  where
+    rule : (r : ℕ) → r < length (t .rules) → safeGroupAt (slotWords t) (rangeWords t) (blockWords t) (constantWords t) r ≡ testOf (getD (t .rules) r (everyCharacter []))
+    rule r h =
+        let few : length (t .rules) ≤ 32 = s .few-rules in
+        let g = getD (t .rules) r (everyCharacter []) in
+        let sg = each-getD ShapedGroup (t .rules) r (everyCharacter []) (s .rules) h in
+        let ng = each-getD NarrowGroup (t .rules) r (everyCharacter []) (each-front NarrowGroup (t .rules) (optional (t .default)) w) h in
+        group-safe t r (omega arith) g
+        (λ n f j i. rows-at n f t r j (omega arith) i ∙ ap (λ l. at l j) (rowsOf-rule f (t .rules) (t .default) r (everyCharacter []) few h))
+        (sym (rule-at (slotWords t) (rangeWords t) (blockWords t) (length (t .rules)) (isSome (t .default)) r h) ∙ ap (λ x. ruleAt x r) (table-flat t s w) ∙ ruleAt-bare t r)
+        (sg .small) (sg .outputs) (sg .reaches) (ng .narrow)
+
+    of : (d : Option Group) → t .default ≡ d → Each ShapedDefault (optional d) → Each NarrowGroup (optional d) →
+        implies (isSome d) (safeGroupAt (slotWords t) (rangeWords t) (blockWords t) (constantWords t) 32) ≡ all testOf (optional d)
+    of none e a b = refl
+    of (some g) e a b =
+        let G = groupAt (slotWords t) (rangeWords t) (blockWords t) 32 in
+        let one : g .size ≡ 1 = a .0 .size in
+        let same : G ≡ bareGroup g =
+        sym (ap (λ o. orElse (everyCharacter []) (cond (isSome o) (some G) none)) e)
+        ∙ ap (λ x. orElse (everyCharacter []) (x .default)) (table-flat t s w)
+        ∙ ap (λ o. orElse (everyCharacter []) (bareDefault o)) e in
+        group-safe t 32 (lit< tt) g
+        (λ n f j i. rows-at n f t 32 j (lit< tt) i ∙ ap (λ d. at (getD (rowsOf f (t .rules) d) 32 []) j) e ∙ ap (λ l. at l j) (rowsOf-default f (t .rules) g))
+        same (omega arith) (a .0 .outputs) (subst (λ m. Each (λ o. reach o ≤ m) (g .outputs)) (sym one) (a .0 .reaches)) (b .0 .narrow)
+        ∙ sym (and-true (testOf g))

@@ -1,0 +1,219 @@
+-- What a record changes in its group's row of each flat array: the numbers that the table check stores.
+-- Each row is a list filled up; a range or an output character is put behind its last, or changes the last.
+use mathlib.Core.Bool.{not, cond}
+use mathlib.Core.List.{List, [], _∷_, _++_, map}
+use mathlib.Core.Logic.{_≢_}
+use mathlib.Core.Path.{_≡_, refl, sym, ap, ap₂, subst, _∙_}
+use Prim.Native.Nat.{ℕ, zero, suc, pred, _+_, _-_, _*_, _≤_, _<_}
+use native.Mathlib.Nat.{suc-sub-suc, sub-zero, add-zero}
+use native.Mathlib.Omega.{arith}
+use lib.Dec.{T, T-not, eqb, eqb→eq, eqb-refl}
+use lib.IntN.{ℤ, pos}
+use lib.ListN.{length, getD, set, replicate, length-append}
+use lib.Seq.{append-snoc}
+use Rattle.lists.specs.Lists.{flatMap, pad, atLast, lastD}
+use Rattle.lists.proofs.Laws.Tests.{either}
+use Rattle.meaning.specs.Table.{Range, Output, sum, Group}
+use Rattle.meaning.specs.Reader.{reach, addRange, addTerm, changeRanges, changeOutputs}
+use Rattle.meaning.specs.Block.{word, bit, entry, block}
+use Rattle.meaning.specs.Flat.{constantOf}
+use Rattle.meaning.proofs.Laws.Reading.{atLast-length}
+use Rattle.meaning.proofs.Laws.Rows.{fill, pad-fill, length-fill, fill-snoc, fill-after, fill-atLast, fill-last, map-append, length-map, set-past, joined, joined-set, pad-rows, pad-pad, flatMap-append}
+
+abbrev pub slotRow : Group → List ℕ
+slotRow g = map length (g .ranges)
+
+-- the ranges of a position
+abbrev pub ends : List Range → List ℕ
+ends rs = flatMap (λ r. r .lowest ∷ r .highest ∷ []) rs
+
+abbrev pub rangeRow : Group → List ℕ
+rangeRow g = flatMap (λ rs. pad 8 (ends rs)) (g .ranges)
+
+abbrev pub constantRow : Group → List ℕ
+constantRow g = map constantOf (g .outputs)
+
+-- one more at the end of a padded list
+
+pub lastD-snoc : {A : Type 0} (d : A) (xs : List A) (x : A) → lastD d (xs ++ x ∷ []) ≡ x
+lastD-snoc d [] x = refl
+lastD-snoc d (y ∷ xs) x = lastD-snoc y xs x
+
+pub pad-snoc : (n : ℕ) (xs : List ℕ) (a : ℕ) → length xs < n → pad n (xs ++ (a ∷ [])) ≡ set (pad n xs) (length xs) a
+pad-snoc n xs a h = pad-fill n (xs ++ (a ∷ [])) ∙ fill-snoc 0 n xs a h ∙ ap (λ l. set l (length xs) a) (sym (pad-fill n xs))
+
+length-ends : (rs : List Range) → length (ends rs) ≡ 2 * length rs
+length-ends [] = refl
+length-ends (r ∷ rs) = let e : length (ends rs) ≡ 2 * length rs = length-ends rs in omega arith
+
+pad-ends : (rs : List Range) (r : Range) → length rs < 4 →
+    pad 8 (ends (rs ++ (r ∷ []))) ≡ set (set (pad 8 (ends rs)) (2 * length rs) (r .lowest)) (2 * length rs + 1) (r .highest)
+pad-ends rs r h =
+    let xs = ends rs in
+    let l : length xs ≡ 2 * length rs = length-ends rs in
+    let l′ : length (xs ++ (r .lowest ∷ [])) ≡ 2 * length rs + 1 = length-append xs (r .lowest ∷ []) ∙ ap (λ k. k + 1) l in
+    ap (pad 8) (flatMap-append (λ r. r .lowest ∷ r .highest ∷ []) rs (r ∷ []) ∙ sym (append-snoc xs (r .lowest) (r .highest ∷ [])))
+    ∙ pad-snoc 8 (xs ++ (r .lowest ∷ [])) (r .highest) (omega arith)
+    ∙ ap₂ (λ y k. set y k (r .highest)) (pad-snoc 8 xs (r .lowest) (omega arith) ∙ ap (λ k. set (pad 8 xs) k (r .lowest)) l) l′
+
+pub last-atLast : {A : Type 0} (f : A → A) (d : A) (xs : List A) → 1 ≤ length xs → lastD d (atLast f xs) ≡ f (lastD d xs)
+last-atLast f d [] h = absurd (omega arith)
+last-atLast f d (x ∷ []) h = refl
+last-atLast f d (x ∷ (y ∷ ys)) h = last-atLast f x (y ∷ ys) (omega arith)
+
+-- a range
+
+-- the ranges that the position has before
+abbrev pub earlier : ℕ → List (List Range) → List Range
+earlier p ps = cond (eqb p (length ps)) [] (lastD [] ps)
+
+-- where it is not the next position, it is the last
+pub here : (p : ℕ) (ps : List (List Range)) → p ≤ length ps → length ps ≤ suc p → T (not (eqb p (length ps))) → suc p ≡ length ps
+here p ps low high t =
+    let other : p ≢ length ps = λ e. T-not (eqb p (length ps)) t (subst (λ k. T (eqb p k)) e (eqb-refl p)) in
+    omega arith
+
+module _ {B : Type 0} (h : List Range → B) (n p : ℕ) (r : Range) (ps : List (List Range)) (low : p ≤ length ps) (high : length ps ≤ suc p) (inside : p < n) where
+  fill-range : fill (h []) n (map h (addRange p r ps)) ≡ set (fill (h []) n (map h ps)) p (h (earlier p ps ++ (r ∷ [])))
+  fill-range =
+      either (λ b. fill (h []) n (map h (cond b (ps ++ ((r ∷ []) ∷ [])) (atLast (λ rs. rs ++ (r ∷ [])) ps))) ≡ set (fill (h []) n (map h ps)) p (h (cond b [] (lastD [] ps) ++ (r ∷ [])))) (eqb p (length ps))
+      (λ t.
+      let e : p ≡ length ps = eqb→eq p (length ps) t in
+      ap (fill (h []) n) (map-append h ps ((r ∷ []) ∷ []))
+      ∙ fill-snoc (h []) n (map h ps) (h (r ∷ [])) (rw length-map (omega arith))
+      ∙ ap (λ k. set (fill (h []) n (map h ps)) k (h (r ∷ []))) (length-map h ps ∙ sym e))
+      (λ t.
+      let e : suc p ≡ length ps = here p ps low high t in
+      fill-atLast (h []) h (λ rs. rs ++ (r ∷ [])) [] n ps (omega arith) (omega arith)
+      ∙ ap (λ k. set (fill (h []) n (map h ps)) (pred k) (h (lastD [] ps ++ (r ∷ [])))) (sym e))
+
+  fill-earlier : getD (fill (h []) n (map h ps)) p (h []) ≡ h (earlier p ps)
+  fill-earlier =
+      either (λ b. getD (fill (h []) n (map h ps)) p (h []) ≡ h (cond b [] (lastD [] ps))) (eqb p (length ps))
+      (λ t. ap (λ k. getD (fill (h []) n (map h ps)) k (h [])) (eqb→eq p (length ps) t ∙ sym (length-map h ps)) ∙ fill-after (h []) n (map h ps))
+      (λ t.
+      let e : suc p ≡ length ps = here p ps low high t in
+      ap (λ k. getD (fill (h []) n (map h ps)) (pred k) (h [])) e ∙ fill-last (h []) h [] n ps (omega arith) (omega arith))
+
+-- how many they are, and what the position has after
+pub length-earlier : (p : ℕ) (ps : List (List Range)) → length (earlier p ps) ≡ cond (eqb p (length ps)) 0 (length (lastD [] ps))
+length-earlier p ps = either (λ b. length (cond b [] (lastD [] ps)) ≡ cond b 0 (length (lastD [] ps))) (eqb p (length ps)) (λ _. refl) (λ _. refl)
+
+pub addRange-last : (p : ℕ) (r : Range) (ps : List (List Range)) → p ≤ length ps → length ps ≤ suc p → lastD [] (addRange p r ps) ≡ earlier p ps ++ (r ∷ [])
+addRange-last p r ps low high =
+    either (λ b. lastD [] (cond b (ps ++ ((r ∷ []) ∷ [])) (atLast (λ rs. rs ++ (r ∷ [])) ps)) ≡ cond b [] (lastD [] ps) ++ (r ∷ [])) (eqb p (length ps))
+    (λ _. lastD-snoc [] ps (r ∷ []))
+    (λ t. let e : suc p ≡ length ps = here p ps low high t in last-atLast (λ rs. rs ++ (r ∷ [])) [] ps (omega arith))
+
+pub addRange-length : (p : ℕ) (r : Range) (ps : List (List Range)) → p ≤ length ps → length ps ≤ suc p → length (addRange p r ps) ≡ p + 1
+addRange-length p r ps low high =
+    either (λ b. length (cond b (ps ++ ((r ∷ []) ∷ [])) (atLast (λ rs. rs ++ (r ∷ [])) ps)) ≡ p + 1) (eqb p (length ps))
+    (λ t. length-append ps ((r ∷ []) ∷ []) ∙ ap (λ k. k + 1) (sym (eqb→eq p (length ps) t)))
+    (λ t. let e : suc p ≡ length ps = here p ps low high t in atLast-length (λ rs. rs ++ (r ∷ [])) ps ∙ omega arith)
+
+module _ (p : ℕ) (r : Range) (g : Group) (low : p ≤ length (g .ranges)) (high : length (g .ranges) ≤ suc p) (inside : p < 8) where
+  pub slotRow-range : pad 8 (slotRow (changeRanges (addRange p r) g)) ≡ set (pad 8 (slotRow g)) p (length (earlier p (g .ranges)) + 1)
+  slotRow-range =
+      pad-fill 8 (slotRow (changeRanges (addRange p r) g))
+      ∙ fill-range length 8 p r (g .ranges) low high inside
+      ∙ ap₂ (λ l v. set l p v) (sym (pad-fill 8 (slotRow g))) (length-append (earlier p (g .ranges)) (r ∷ []))
+
+  pub rangeRow-range : length (earlier p (g .ranges)) < 4 →
+      pad 64 (rangeRow (changeRanges (addRange p r) g)) ≡ set (set (pad 64 (rangeRow g)) (8 * p + 2 * length (earlier p (g .ranges))) (r .lowest)) (8 * p + (2 * length (earlier p (g .ranges)) + 1)) (r .highest)
+  rangeRow-range h =
+      pad-rows ends 8 8 (addRange p r (g .ranges))
+      ∙ ap (joined 8) (fill-range ends 8 p r (g .ranges) low high inside)
+      ∙ joined-set 8 (fill [] 8 (map ends (g .ranges))) p (ends (earlier p (g .ranges) ++ (r ∷ [])))
+      ((2 * length (earlier p (g .ranges)), r .lowest) ∷ (2 * length (earlier p (g .ranges)) + 1, r .highest) ∷ [])
+      (rw length-fill inside) (omega arith, (omega arith, tt))
+      (pad-ends (earlier p (g .ranges)) r h
+      ∙ ap (λ l. set (set (pad 8 l) (2 * length (earlier p (g .ranges))) (r .lowest)) (2 * length (earlier p (g .ranges)) + 1) (r .highest))
+      (sym (fill-earlier ends 8 p r (g .ranges) low high inside)))
+      ∙ ap (λ l. set (set l (8 * p + 2 * length (earlier p (g .ranges))) (r .lowest)) (8 * p + (2 * length (earlier p (g .ranges)) + 1)) (r .highest)) (sym (pad-rows ends 8 8 (g .ranges)))
+
+-- an output character or a term
+
+-- an output character's row of nine
+abbrev pub entryRow : Output → List ℕ
+entryRow (sum c ks) = word c ∷ map word ks
+
+entry-pad : (o : Output) → entry o ≡ pad 9 (entryRow o)
+unfolding entry pad
+entry-pad (sum c ks) = refl
+
+entries-pad : (os : List Output) → flatMap entry os ≡ flatMap (λ o. pad 9 (entryRow o)) os
+entries-pad [] = refl
+entries-pad (o ∷ os) = ap₂ _++_ (entry-pad o) (entries-pad os)
+
+-- a block: three numbers, then the output characters
+block-parts : (g : Group) → pad 75 (block g) ≡ g .size ∷ bit (g .anchored) ∷ length (g .outputs) ∷ joined 9 (fill [] 8 (map entryRow (g .outputs)))
+unfolding block pad
+block-parts g =
+    pad-pad 75 (g .size ∷ bit (g .anchored) ∷ length (g .outputs) ∷ flatMap entry (g .outputs))
+    ∙ ap (λ l. g .size ∷ bit (g .anchored) ∷ length (g .outputs) ∷ l) (ap (pad 72) (entries-pad (g .outputs)) ∙ pad-rows entryRow 9 8 (g .outputs))
+
+entry-single : (z : ℤ) → pad 9 (entryRow (sum z [])) ≡ set (pad 9 []) 0 (word z)
+unfolding pad
+entry-single z = refl
+
+pub block-output : (z : ℤ) (g : Group) → length (g .outputs) < 8 →
+    pad 75 (block (changeOutputs (λ os. os ++ (sum z [] ∷ [])) g))
+    ≡ set (set (pad 75 (block g)) 2 (length (g .outputs) + 1)) (3 + 9 * length (g .outputs)) (word z)
+block-output z g h =
+    let os = g .outputs in
+    let o = length os in
+    let rest = joined 9 (fill [] 8 (map entryRow os)) in
+    block-parts (changeOutputs (λ os. os ++ (sum z [] ∷ [])) g)
+    ∙ ap₂ (λ n l. g .size ∷ bit (g .anchored) ∷ n ∷ l) (length-append os (sum z [] ∷ []))
+    (ap (λ l. joined 9 (fill [] 8 l)) (map-append entryRow os (sum z [] ∷ []))
+    ∙ ap (joined 9) (fill-snoc [] 8 (map entryRow os) (entryRow (sum z [])) (rw length-map h) ∙ ap (λ k. set (fill [] 8 (map entryRow os)) k (entryRow (sum z []))) (length-map entryRow os))
+    ∙ joined-set 9 (fill [] 8 (map entryRow os)) o (entryRow (sum z [])) ((0, word z) ∷ []) (rw length-fill h) (omega arith, tt)
+    (entry-single z ∙ ap (λ l. set (pad 9 l) 0 (word z)) (sym (ap (λ k. getD (fill [] 8 (map entryRow os)) k []) (sym (length-map entryRow os)) ∙ fill-after [] 8 (map entryRow os))))
+    ∙ ap (λ k. set rest k (word z)) (add-zero (9 * o)))
+    ∙ sym (set-past (g .size ∷ bit (g .anchored) ∷ (o + 1) ∷ []) rest (9 * o) (word z))
+    ∙ ap (λ l. set (set l 2 (o + 1)) (3 + 9 * o) (word z)) (sym (block-parts g))
+
+-- a term's coefficient, behind zeros for the positions between
+pad-place : (n : ℕ) (ks : List ℤ) (p : ℕ) (z : ℤ) → length ks ≤ p → p < n → pad n (map word (ks ++ replicate (p - length ks) (pos 0) ++ (z ∷ []))) ≡ set (pad n (map word ks)) p (word z)
+unfolding pad word
+pad-place zero ks p z h k = absurd (omega arith)
+pad-place (suc n) [] zero z h k = refl
+pad-place (suc n) [] (suc p) z h k =
+    ap (λ m. pad (suc n) (map word (replicate m (pos 0) ++ (z ∷ [])))) (sub-zero (suc p) ∙ ap suc (sym (sub-zero p))) ∙ ap (λ l. 0 ∷ l) (pad-place n [] p z (omega arith) (omega arith))
+pad-place (suc n) (c ∷ ks) zero z h k = absurd (omega arith)
+pad-place (suc n) (c ∷ ks) (suc p) z h k =
+    ap (λ m. word c ∷ pad n (map word (ks ++ replicate m (pos 0) ++ (z ∷ [])))) (suc-sub-suc p (length ks)) ∙ ap (λ l. word c ∷ l) (pad-place n ks p z (omega arith) (omega arith))
+
+entry-term : (p : ℕ) (z : ℤ) (o : Output) → p < 8 → reach o ≤ p → pad 9 (entryRow (addTerm p z o)) ≡ set (pad 9 (entryRow o)) (suc p) (word z)
+unfolding pad
+entry-term p z (sum c ks) h k = ap (λ l. word c ∷ l) (pad-place 8 ks p z k h)
+
+pub block-term : (p : ℕ) (z : ℤ) (g : Group) → p < 8 → 1 ≤ length (g .outputs) → length (g .outputs) ≤ 8 → reach (lastD (sum (pos 0) []) (g .outputs)) ≤ p →
+    pad 75 (block (changeOutputs (atLast (addTerm p z)) g)) ≡ set (pad 75 (block g)) (4 + 9 * pred (length (g .outputs)) + p) (word z)
+block-term p z g h k l m =
+    let os = g .outputs in
+    let o = length os in
+    let last = lastD (sum (pos 0) []) os in
+    let rest = joined 9 (fill [] 8 (map entryRow os)) in
+    block-parts (changeOutputs (atLast (addTerm p z)) g)
+    ∙ ap₂ (λ n l. g .size ∷ bit (g .anchored) ∷ n ∷ l) (atLast-length (addTerm p z) os)
+    (ap (joined 9) (fill-atLast [] entryRow (addTerm p z) (sum (pos 0) []) 8 os k l)
+    ∙ joined-set 9 (fill [] 8 (map entryRow os)) (pred o) (entryRow (addTerm p z last)) ((suc p, word z) ∷ []) (rw length-fill (omega arith)) (omega arith, tt)
+    (entry-term p z last h m ∙ ap (λ l. set (pad 9 l) (suc p) (word z)) (sym (fill-last [] entryRow (sum (pos 0) []) 8 os k l))))
+    ∙ sym (set-past (g .size ∷ bit (g .anchored) ∷ o ∷ []) rest (9 * pred o + suc p) (word z))
+    ∙ ap₂ (λ l i. set l i (word z)) (sym (block-parts g)) same
+  where
+    same : 3 + (9 * pred (length (g .outputs)) + suc p) ≡ 4 + 9 * pred (length (g .outputs)) + p
+    same = omega arith
+
+pub constantRow-output : (z : ℤ) (g : Group) → length (g .outputs) < 8 →
+    pad 8 (constantRow (changeOutputs (λ os. os ++ (sum z [] ∷ [])) g)) ≡ set (pad 8 (constantRow g)) (length (g .outputs)) (constantOf (sum z []))
+constantRow-output z g h =
+    ap (pad 8) (map-append constantOf (g .outputs) (sum z [] ∷ []))
+    ∙ pad-snoc 8 (constantRow g) (constantOf (sum z [])) (rw length-map h)
+    ∙ ap (λ k. set (pad 8 (constantRow g)) k (constantOf (sum z []))) (length-map constantOf (g .outputs))
+
+pub constantRow-term : (p : ℕ) (z : ℤ) (os : List Output) → map constantOf (atLast (addTerm p z) os) ≡ map constantOf os
+constantRow-term p z [] = refl
+constantRow-term p z (sum c ks ∷ []) = refl
+constantRow-term p z (o ∷ (q ∷ os)) = ap (λ l. constantOf o ∷ l) (constantRow-term p z (q ∷ os))

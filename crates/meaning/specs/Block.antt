@@ -1,0 +1,39 @@
+-- A group as 75 numbers, from which it is evaluated modulo 65536: the "blocks" of document 01's layout.
+use mathlib.Core.Bool.{Bool, true, false}
+use mathlib.Core.List.{List, [], _∷_, map}
+use Prim.Native.Nat.{ℕ, _+_, _-_, _*_, _%_}
+use lib.IntN.{ℤ, pos, negsuc}
+use lib.ListN.{length, getD, take, drop}
+use Rattle.lists.specs.Lists.{flatMap, tabFrom, pad}
+use Rattle.meaning.specs.Table.{Output, sum, Group}
+
+-- "Constants and coefficients are kept modulo 65536"
+unfoldable pub word : ℤ → ℕ
+word (pos n) = n % 65536
+word (negsuc n) = 65535 - n % 65536
+
+abbrev pub bit : Bool → ℕ
+bit true = 1
+bit false = 0
+
+-- "a constant and eight coefficients by position"
+unfoldable pub entry : Output → List ℕ
+entry (sum c ks) = word c ∷ pad 8 (map word ks)
+
+-- "K, anchored, output count, then eight times" an entry; "unused words are 0"
+unfoldable pub block : Group → List ℕ
+block g = pad 75 (g .size ∷ bit (g .anchored) ∷ length (g .outputs) ∷ flatMap entry (g .outputs))
+
+-- number i of a list of words
+abbrev pub at : List ℕ → ℕ → ℕ
+at w i = getD w i 0
+
+-- "The machine adds modulo 65536": v, and each coefficient times its character
+unfoldable pub wordSum : ℕ → List ℕ → List ℕ → ℕ
+wordSum v [] w = v
+wordSum v (a ∷ ks) [] = v
+wordSum v (a ∷ ks) (c ∷ w) = wordSum ((v + a * c) % 65536) ks w
+
+-- what a block writes for a word, its coefficients below K
+unfoldable pub blockOutput : List ℕ → List ℕ → List ℕ
+blockOutput b w = tabFrom 0 (at b 2) (λ j. wordSum (at b (3 + 9 * j)) (take (at b 0) (drop (4 + 9 * j) b)) w)

@@ -1,0 +1,11 @@
+pub mod Refusal
+pub mod Table
+pub mod Record
+pub mod Value
+pub mod Reader
+pub mod Meaning
+pub mod Block
+pub mod Direct
+pub mod Claims
+pub mod Flat
+pub mod Samples

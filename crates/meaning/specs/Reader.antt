@@ -1,0 +1,125 @@
+-- "Table records" and "The table's author": bytes read to a table, or refused by 1 to 7.
+use mathlib.Core.Bool.{Bool, false, _&&_, _||_, not, cond}
+use mathlib.Core.List.{List, [], _∷_, _++_}
+use mathlib.Core.Option.{Option, none, some}
+use Prim.Native.Nat.{ℕ, zero, suc, _-_, _%_, _/_, _^_}
+use lib.Dec.{eqb, leb, ltb}
+use lib.IntN.{ℤ, pos, subℕ}
+use lib.ListN.{length, take, drop, replicate}
+use Rattle.lists.specs.Lists.{atLast, lastD, isSome, orElse}
+use Rattle.lists.specs.Decide.{select}
+use Rattle.meaning.specs.Refusal.{Outcome, refused, accepted, andThen}
+use Rattle.meaning.specs.Table.{Range, Output, sum, Group, Table, everyCharacter}
+use Rattle.meaning.specs.Record.{Record, rule, range, output, term, default, decode}
+use Rattle.meaning.specs.Value.{safe}
+
+-- the groups read so far, the last of them perhaps unfinished, and the last record's kind, 0 for none
+pub record Reading : Type 0 where
+  pub table : Table
+  pub kind : ℕ
+
+unfoldable pub unread : Reading
+unread = record { table = record { rules = []; default = none }; kind = 0 }
+
+-- the group read last
+unfoldable pub latest : Reading → Group
+latest s = orElse (lastD (everyCharacter []) (s .table .rules)) (s .table .default)
+
+-- how many positions the last output character's coefficients reach
+abbrev pub reach : Output → ℕ
+reach (sum c ks) = length ks
+
+unfoldable pub latestReach : Reading → ℕ
+latestReach s = reach (lastD (sum (pos 0) []) (latest s .outputs))
+
+-- a range may come: after its rule or another range
+abbrev pub ranging : Reading → Bool
+ranging s = eqb (s .kind) 1 || eqb (s .kind) 2
+
+-- "unfilled when the ranges end"
+unfoldable pub unfilled : Reading → Bool
+unfilled s = ranging s && ltb (length (latest s .ranges)) (latest s .size)
+
+-- refusal 3: "a record where its kind can't come, a position not below K, ranges or terms out of order"
+unfoldable pub misplaced : Reading → Record → Bool
+misplaced s (rule k a) = isSome (s .table .default)
+misplaced s default = isSome (s .table .default)
+misplaced s (range p r) =
+    let ps = latest s .ranges in
+    not (ranging s) || leb (latest s .size) p || ltb (suc p) (length ps)
+    || (eqb (suc p) (length ps) && leb (r .lowest) (lastD r (lastD [] ps) .highest))
+misplaced s (output c) = eqb (s .kind) 0
+misplaced s (term p a) = not (eqb (s .kind) 3 || eqb (s .kind) 4) || leb (latest s .size) p || ltb p (latestReach s)
+
+-- refusal 4: "a position skipped, or unfilled when the ranges end (at a record of kind 1, 3 or 5 ..)"
+unfoldable pub skipping : Reading → Record → Bool
+skipping s (rule k a) = unfilled s
+skipping s default = unfilled s
+skipping s (range p r) = ltb (length (latest s .ranges)) p
+skipping s (output c) = unfilled s
+skipping s (term p a) = false
+
+-- refusal 6: "a 33rd rule, fifth range of a position, ninth output character"
+unfoldable pub tooMany : Reading → Record → Bool
+tooMany s (rule k a) = eqb (length (s .table .rules)) 32
+tooMany s default = false
+tooMany s (range p r) = eqb (suc p) (length (latest s .ranges)) && eqb (length (lastD [] (latest s .ranges))) 4
+tooMany s (output c) = eqb (length (latest s .outputs)) 8
+tooMany s (term p a) = false
+
+-- the table with its last group changed
+unfoldable pub changeLatest : (Group → Group) → Table → Table
+changeLatest f t =
+    elim (t .default) [
+      | none ↦ record { rules = atLast f (t .rules); default = none }
+      | some d ↦ record { rules = t .rules; default = some (f d) }
+    ]
+
+abbrev pub addRange : ℕ → Range → List (List Range) → List (List Range)
+addRange p r ps = cond (eqb p (length ps)) (ps ++ ((r ∷ []) ∷ [])) (atLast (λ rs. rs ++ (r ∷ [])) ps)
+
+-- "signed ones two's complement": x, read as a number of n bits
+unfoldable pub signed : ℕ → ℕ → ℤ
+signed n x = cond (ltb x (2 ^ (n - 1))) (pos x) (subℕ x (2 ^ n))
+
+abbrev pub addTerm : ℕ → ℤ → Output → Output
+addTerm p a (sum c ks) = sum c (ks ++ replicate (p - length ks) (pos 0) ++ (a ∷ []))
+
+abbrev pub changeRanges : (List (List Range) → List (List Range)) → Group → Group
+changeRanges f g = record { size = g .size; anchored = g .anchored; ranges = f (g .ranges); outputs = g .outputs }
+
+abbrev pub changeOutputs : (List Output → List Output) → Group → Group
+changeOutputs f g = record { size = g .size; anchored = g .anchored; ranges = g .ranges; outputs = f (g .outputs) }
+
+-- the reading with the record taken in
+unfoldable pub taken : Reading → Record → Reading
+taken s (rule k a) =
+    let g : Group = record { size = k; anchored = a; ranges = []; outputs = [] } in
+    record { table = record { rules = s .table .rules ++ (g ∷ []); default = none }; kind = 1 }
+taken s (range p r) = record { table = changeLatest (changeRanges (addRange p r)) (s .table); kind = 2 }
+taken s (output c) = record { table = changeLatest (changeOutputs (λ os. os ++ (sum (signed 32 c) [] ∷ []))) (s .table); kind = 3 }
+taken s (term p a) = record { table = changeLatest (changeOutputs (atLast (addTerm p (signed 16 a)))) (s .table); kind = 4 }
+taken s default = record { table = record { rules = s .table .rules; default = some (everyCharacter []) }; kind = 5 }
+
+-- one record, "each by 2, 3, 4, 6"
+unfoldable pub readOne : Reading → Option Record → Outcome Reading
+readOne s none = refused 2
+readOne s (some r) =
+    select ((misplaced s r, refused 3) ∷ (skipping s r, refused 4) ∷ (tooMany s r, refused 6) ∷ []) (accepted (taken s r))
+
+-- "records from the first": n of them
+unfoldable pub readRecords : ℕ → List ℕ → Reading → Outcome Reading
+readRecords zero b s = accepted s
+readRecords (suc n) b s = andThen (readOne s (decode (take 8 b))) (λ s′. readRecords n (drop 8 b) s′)
+
+-- "at the table's end 4, 5"
+unfoldable pub readEnd : Reading → Outcome Table
+readEnd s = select ((unfilled s, refused 4) ∷ (eqb (length (s .table .rules)) 0, refused 5) ∷ []) (accepted (s .table))
+
+-- refusals 1 to 6: what is asked of the records, values aside
+unfoldable pub readRules : List ℕ → Outcome Table
+readRules b = select ((not (eqb (length b % 8) 0), refused 1) ∷ []) (andThen (readRecords (length b / 8) b unread) readEnd)
+
+-- the table check: refusals 1 to 7
+unfoldable pub readTable : List ℕ → Outcome Table
+readTable b = andThen (readRules b) (λ t. select ((not (safe t), refused 7) ∷ []) (accepted t))

@@ -1,0 +1,13 @@
+pub mod Trace
+pub mod Walk
+pub mod Rounds
+pub mod Run
+pub mod Kept
+pub mod Answers
+pub mod Meaning
+pub mod Swap
+pub mod Calls
+pub mod Demand3
+pub mod Examples
+pub mod Keeping
+pub mod Admitting

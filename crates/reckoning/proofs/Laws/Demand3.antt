@@ -1,0 +1,212 @@
+-- Demand 3 over the outcome functions: what any list of calls answers, writes and leaves is what the plain machine makes of the whole input.
+-- The calls stand as the words' trace tells (`Calls`), the table's trace is the same (`Swap`), and its log is Definition 7's (`Meaning`).
+use mathlib.Core.Bool.{Bool, true, false, _||_, not}
+use mathlib.Core.List.{List, [], _∷_, _++_, append-assoc, append-nil}
+use mathlib.Core.Logic.{_↔_}
+use mathlib.Core.Path.{_≡_, refl, sym, ap, subst, _∙_}
+use Prim.Native.Nat.{ℕ, _-_, _<_}
+use native.Mathlib.Omega.{arith}
+use lib.Dec.{T, eqb}
+use lib.ListN.{length, drop}
+use Rattle.lists.specs.Lists.{Each, pad, isSome}
+use Rattle.lists.proofs.Laws.Tests.{of-not, by-cases}
+use Rattle.lists.proofs.Laws.Each.{each-append}
+use Rattle.meaning.specs.Refusal.{Outcome, refused, accepted}
+use Rattle.meaning.specs.Table.{Characters, Table, group, longest}
+use Rattle.meaning.specs.Meaning.{Emission, written, textOf, covered, convert}
+use Rattle.meaning.proofs.Laws.Groups.{longest-small}
+use Rattle.meaning.proofs.Laws.Reading.{read-shaped}
+use Rattle.automaton.specs.States.{states}
+use Rattle.automaton.specs.Layout.{wordCount, words}
+use Rattle.automaton.specs.Claims.{KeepsCompiling}
+use Rattle.automaton.proofs.Laws.States.{table-good, table-reads}
+use Rattle.automaton.proofs.Laws.Places.{layout-expansion}
+use Rattle.automaton.proofs.Laws.Alike.{words-alike}
+use Rattle.automaton.proofs.Laws.Write.{words-write}
+use Rattle.automaton.proofs.Laws.Sound.{compiled-sound}
+use Rattle.automaton.proofs.Laws.Compile.{compile-accepts}
+use Rattle.automaton.specs.Automaton.{Automaton, fromTable, fromWords}
+use Rattle.reckoning.specs.Machine.{Status, Open, Closed, Stopped, Ended}
+use Rattle.reckoning.specs.Session.{Session, consumed}
+use Rattle.reckoning.specs.Calls.{receivedBy}
+use Rattle.reckoning.specs.Reckoning.{Call, piece, Served, unserved, serve, acceptedPieces, Input, noInput, ran, reckoned, inputBy, reckonCall, reckon}
+use Rattle.reckoning.specs.Claims.{isStopped, Agrees, OutcomesAgree}
+use Rattle.reckoning.proofs.Laws.Trace.{trace, cost, logOf, heldOf, statusOf}
+use Rattle.reckoning.proofs.Laws.Rounds.{NotOpen, not-open, trace-graft, graft-stopped, ended-empty, Counted, Bounded, bounded}
+use Rattle.reckoning.proofs.Laws.Meaning.{ending, meaning-law}
+use Rattle.reckoning.proofs.Laws.Swap.{trace-emits, text-same}
+use Rattle.reckoning.proofs.Laws.Calls.{told, Compiled, Standing, calls-stand, ran-tells, same-trace}
+
+-- a trace that stopped without the end is the trace of every longer input, ended or not
+pub stopped-firm : (A : Automaton) (u more : List ℕ) (e : Bool) → statusOf (trace A false 0 u) ≡ Stopped → trace A e 0 (u ++ more) ≡ trace A false 0 u
+stopped-firm A u more e s = trace-graft A e more 0 u (omega arith) ∙ graft-stopped (trace A false 0 u) (λ h. trace A e 0 (h ++ more)) (not-open _ (subst NotOpen (sym s) tt))
+
+-- a trace that ended, or stopped, is the trace of the ended input
+over-trace : (A : Automaton) (u : List ℕ) (e : Bool) → T (e || isStopped (statusOf (trace A e 0 u))) → trace A e 0 u ≡ trace A true 0 u
+over-trace A u true h = refl
+over-trace A u false h =
+    sym (subst (λ v. trace A true 0 v ≡ trace A false 0 u) (append-nil u) (stopped-firm A u [] true (is-stopped (statusOf (trace A false 0 u)) h)))
+  where
+    is-stopped : (s : Status) → T (isStopped s) → s ≡ Stopped
+    is-stopped Open t = absurd t
+    is-stopped Closed t = absurd t
+    is-stopped Stopped t = refl
+
+-- closed and stopped, from the definition's flag
+Flag : Status → Bool
+Flag Open = false
+Flag Closed = true
+Flag Stopped = false
+
+flag-ending : (b : Bool) → Flag (ending b) ≡ b
+unfolding Flag
+flag-ending true = refl
+flag-ending false = refl
+
+closed-iff : (s : Status) (b : Bool) → s ≡ ending b → (s ≡ Closed) ↔ (b ≡ true)
+unfolding Flag
+closed-iff s b p = (λ q. sym (flag-ending b) ∙ ap Flag (sym p ∙ q), λ q. p ∙ ap ending q)
+
+-- what is consumed, by the status: nothing is held once the trace is closed or stopped
+consumed-is : (s : Status) (m c h : ℕ) → Counted s m c h → (NotOpen s → h ≡ 0) → receivedBy s m c - h ≡ c
+consumed-is Open m c h k z = omega arith
+consumed-is Closed m c h k z = let y : h ≡ 0 = z tt in omega arith
+consumed-is Stopped m c h k z = let y : h ≡ 0 = z tt in omega arith
+
+-- The reckoning's input is the accepted pieces, joined.
+module _ (t : Table) where
+  -- a refusal of the reckoning is not 0
+  Numbered : Outcome (Unit {0}) → Type 0
+  Numbered (refused n) = T (not (eqb n 0))
+  Numbered (accepted x) = Unit {0}
+
+  reckoned-numbered : (r : Ended) (m : ℕ) (c : Call) → Numbered (reckoned t r m c)
+  unfolding reckoned Numbered
+  reckoned-numbered r m c = by-cases Numbered _ (accepted tt) ((λ _. tt), λ _. ((λ _. tt), λ _. ((λ _. tt), λ _. tt)))
+
+  pub record Grown (cs : List Call) (i j : Input) : Type 0 where
+    pub more : List ℕ
+    pub verdicts : j .verdicts ≡ i .verdicts ++ more
+    pub characters : j .characters ≡ i .characters ++ acceptedPieces cs more
+
+  grown-by : (c : Call) (cs : List Call) (i : Input) (o : Outcome (Unit {0})) → Numbered o → (j : Input) → Grown cs (inputBy o i c) j → Grown (c ∷ cs) i j
+  unfolding Numbered
+  grown-by c cs i (refused n) k j g = record {
+    more = n ∷ g .more;
+    verdicts = g .verdicts ∙ append-assoc (i .verdicts) (n ∷ []) (g .more);
+    characters = rw (of-not (eqb n 0) k) (g .characters);
+  }
+  grown-by c cs i (accepted x) k j g = record {
+    more = 0 ∷ g .more;
+    verdicts = g .verdicts ∙ append-assoc (i .verdicts) (0 ∷ []) (g .more);
+    characters = g .characters ∙ append-assoc (i .characters) (piece c) (acceptedPieces cs (g .more));
+  }
+
+  reckon-grown : (cs : List Call) (i : Input) → Grown cs i (reckon t cs i)
+  unfolding reckon
+  reckon-grown [] i = record { more = []; verdicts = sym (append-nil (i .verdicts)); characters = sym (append-nil (i .characters)) }
+  reckon-grown (c ∷ cs) i =
+      let o = reckoned t (ran t (i .characters) (i .ended)) (length (i .characters)) c in
+      grown-by c cs i o (reckoned-numbered (ran t (i .characters) (i .ended)) (length (i .characters)) c) (reckon t cs (reckonCall t i c)) (reckon-grown cs (reckonCall t i c))
+
+  pub input-pieces : (cs : List Call) → reckon t cs noInput .characters ≡ acceptedPieces cs (reckon t cs noInput .verdicts)
+  input-pieces cs = let g = reckon-grown cs noInput in g .characters ∙ ap (acceptedPieces cs) (sym (g .verdicts))
+
+module _ (t : Table) (w : List ℕ) (K : Compiled t w) where
+  default-is : fromTable t .default ≡ isSome (t .default)
+  unfolding fromTable
+  default-is = refl
+
+  -- Definition 7 of an input is the trace with the end known
+  meaning-trace : (u : List ℕ) → Characters u →
+      (logOf (trace (fromTable t) true 0 u) ≡ convert t u .log) × (statusOf (trace (fromTable t) true 0 u) ≡ ending (convert t u .closed))
+  unfolding convert
+  meaning-trace u c = meaning-law (fromTable t) t (K .shaped) (K .reads) default-is 0 u c
+
+  text-is : (l : List Emission) → textOf (fromTable t .write) l ≡ textOf (λ n v. written (group t n) v) l
+  unfolding fromTable
+  text-is l = refl
+
+  agrees : (cs : List Call) (v : Served) (i : Input) → i .characters ≡ acceptedPieces cs (i .verdicts) → Standing t w K v i →
+      Agrees t cs v i (ran t (i .characters) (i .ended))
+  agrees cs v i pieces S =
+      let u = i .characters in
+      let e = i .ended in
+      let A = fromTable t in
+      let M = fromWords w in
+      let r = ran t u e in
+      let x = trace A e 0 u in
+      let y = trace M e 0 u in
+      let tells = ran-tells t w K u e in
+      let p : x ≡ y = same-trace t w K u e (S .characters) in
+      let s : v .session ≡ told M x (length u) = S .session ∙ ap (λ z. told M z (length u)) (sym p) in
+      let steps-are : r .final .steps ≡ cost x = let a = tells .steps in omega arith in
+      let st : v .session .status ≡ statusOf x = ap (λ (z : Session). z .status) s in
+      let text-both : textOf (A .write) (logOf x) ≡ textOf (M .write) (logOf x) = text-same A M t (K .writes) x (trace-emits A t (K .reads) e 0 u (S .characters)) in
+      let out : v .output ≡ textOf (A .write) (logOf x) = S .output ∙ ap (λ z. textOf (M .write) (logOf z)) (sym p) ∙ sym text-both in
+      let b : Bounded (longest t) u x = bounded A (longest t) (length (states t)) (K .good) e u in
+      let con : consumed (v .session) ≡ covered (logOf x) =
+      ap consumed s ∙ consumed-is (statusOf x) (length u) (covered (logOf x)) (length (heldOf x)) (b .counted) (λ n. ap length (ended-empty x n .1)) in
+      let over : T (e || isStopped (v .session .status)) → x ≡ trace A true 0 u = λ h. over-trace A u e (subst (λ z. T (e || isStopped z)) st h) in
+      let D = meaning-trace u (S .characters) in
+      let log-is : T (e || isStopped (v .session .status)) → logOf x ≡ convert t u .log = λ h. ap logOf (over h) ∙ D .0 in
+      let end-is : T (e || isStopped (v .session .status)) → v .session .status ≡ ending (convert t u .closed) = λ h. st ∙ ap statusOf (over h) ∙ D .1 in
+      record {
+        verdicts = S .verdicts;
+        input = pieces ∙ ap (acceptedPieces cs) (sym (S .verdicts));
+        output = out ∙ ap (textOf (A .write)) (sym (tells .log));
+        status = st ∙ sym (tells .status);
+        state = ap (λ (z : Session). z .state) s ∙ sym (tells .state);
+        held = ap (λ (z : Session). z .held) s ∙ ap (pad 8) (sym (tells .store));
+        count = ap (λ (z : Session). z .count) s ∙ ap length (sym (tells .store));
+        steps = ap (λ (z : Session). z .steps) s ∙ sym steps-are;
+        produced =
+            ap (λ (z : Session). z .produced) s ∙ ap length (sym text-both) ∙ ap (λ l. length (textOf (A .write) l)) (sym (tells .log));
+        consumes = con ∙ ap covered (sym (tells .log));
+        received =
+            ap (λ (z : Session). z .received) s ∙ (λ j. receivedBy (sym (tells .status) j) (length u) (covered (sym (tells .log) j)));
+        bound = rw s (b .whole);
+        text = λ h. out ∙ ap (textOf (A .write)) (log-is h) ∙ text-is (convert t u .log);
+        closed = λ h. closed-iff (v .session .status) (convert t u .closed) (end-is h);
+        stopped = λ h c. (end-is h ∙ ap ending c, con ∙ ap covered (log-is h));
+        firm = λ ne h more cm e′.
+            let sx : statusOf (trace A false 0 u) ≡ Stopped = subst (λ z. statusOf (trace A z 0 u) ≡ Stopped) ne (sym st ∙ h) in
+            let c₂ = each-append (λ z. z < 65536) u more (S .characters) cm in
+            let D₂ = meaning-trace (u ++ more) c₂ in
+            let D₁ = meaning-trace u (S .characters) in
+            let q₂ : trace A true 0 (u ++ more) ≡ trace A false 0 u = stopped-firm A u more true sx in
+            let q₁ : trace A true 0 u ≡ trace A false 0 u = subst (λ z. trace A true 0 z ≡ trace A false 0 u) (append-nil u) (stopped-firm A u [] true sx) in
+            let logs : convert t (u ++ more) .log ≡ convert t u .log = sym (D₂ .0) ∙ ap logOf (q₂ ∙ sym q₁) ∙ D₁ .0 in
+            let a₂ = ran-tells t w K (u ++ more) e′ .steps in
+            let c₃ : cost (trace A e′ 0 (u ++ more)) ≡ cost x = ap cost (stopped-firm A u more e′ sx ∙ ap (λ z. trace A z 0 u) (sym ne)) in (
+              ap (textOf (λ n z. written (group t n) z)) logs,
+              ap covered logs,
+              omega arith,
+            );
+      }
+
+  -- DEMAND 3, for a table and words that hold what it compiles to.
+  pub calls-agree : (cs : List Call) → Each (λ c. Characters (piece c)) cs →
+      (let i = reckon t cs noInput in Agrees t cs (serve w cs unserved) i (ran t (i .characters) (i .ended)))
+  calls-agree cs a = agrees cs (serve w cs unserved) (reckon t cs noInput) (input-pieces t cs) (calls-stand t w K cs a)
+
+-- DEMAND 3, for every table that keeps the rules for compiling and every buffer that it is compiled into.
+compiled : (b buffer : List ℕ) (t : Table) → KeepsCompiling b t → Compiled t (words t ++ drop wordCount buffer)
+compiled b buffer t k =
+    let rest = drop wordCount buffer in
+    let s = read-shaped b t (k .keeps .records) in
+    record {
+      shaped = s;
+      small = longest-small t s;
+      good = table-good t s;
+      reads = table-reads t s;
+      sound-words = compiled-sound t rest s (k .classes) (k .states);
+      alike = words-alike t rest (k .classes) (k .states);
+      writes = words-write t rest s (k .keeps .values);
+      expands = layout-expansion t rest;
+    }
+
+pub outcomes-agree : OutcomesAgree
+unfolding OutcomesAgree
+outcomes-agree b buffer t k room cs a =
+    rw (compile-accepts b buffer .keeping t k room .1) (calls-agree t (words t ++ drop wordCount buffer) (compiled b buffer t k) cs a)

@@ -1,0 +1,82 @@
+-- Demand 3, one field a sentence, and for the outcome functions; and demand 1 for feed and finish.
+use mathlib.Core.Bool.{Bool, true, false, _||_}
+use mathlib.Core.List.{List, [], _∷_, _++_}
+use mathlib.Core.Logic.{_↔_}
+use mathlib.Core.Path.{_≡_}
+use Prim.Native.Nat.{ℕ, _+_, _*_, _≤_}
+use lib.Dec.{T}
+use lib.ListN.{length, drop}
+use Rattle.lists.specs.Lists.{Each, pad}
+use Rattle.meaning.specs.Refusal.{refused, accepted, RefusedBy}
+use Rattle.meaning.specs.Table.{Characters, Table, longest}
+use Rattle.meaning.specs.Meaning.{textOf, covered, convert, meaningText, meaningPlace}
+use Rattle.automaton.specs.Layout.{wordCount}
+use Rattle.automaton.specs.Compile.{compile}
+use Rattle.automaton.specs.Automaton.{fromTable}
+use Rattle.automaton.specs.Claims.{KeepsCompiling}
+use Rattle.reckoning.specs.Machine.{Status, Open, Closed, Stopped, Ended}
+use Rattle.reckoning.specs.Session.{Session, consumed}
+use Rattle.reckoning.specs.Calls.{Answer, CallOutcome, receivedBy}
+use Rattle.reckoning.specs.Reckoning.{Call, piece, bufferOf, called, acceptedPieces, Served, unserved, serve, Input, noInput, ran, reckon}
+
+abbrev pub isStopped : Status → Bool
+isStopped Open = false
+isStopped Closed = false
+isStopped Stopped = true
+
+-- what the machine wrote over the input
+abbrev pub ranText : Table → Ended → List ℕ
+ranText t r = textOf (fromTable t .write) (r .final .log)
+
+-- Demand 3: v is what the calls cs answered, wrote and left, i is the reckoning's input, r the plain machine's run over it.
+pub record Agrees (t : Table) (cs : List Call) (v : Served) (i : Input) (r : Ended) : Type 0 where
+  -- "Each call is accepted, or refused with its number, exactly as document 01 reckons."
+  pub verdicts : v .verdicts ≡ i .verdicts
+  -- "The accepted pieces joined are the input, of n characters."
+  pub input : i .characters ≡ acceptedPieces cs (v .verdicts)
+  -- "After the list the joined outputs, the session and the steps counted are those reckoned there by the plain machine on the whole input."
+  pub output : v .output ≡ ranText t r
+  pub status : v .session .status ≡ r .status
+  pub state : v .session .state ≡ r .final .state
+  pub held : v .session .held ≡ pad 8 (r .final .store)
+  pub count : v .session .count ≡ length (r .final .store)
+  pub steps : v .session .steps ≡ r .final .steps
+  pub produced : v .session .produced ≡ length (ranText t r)
+  pub consumes : consumed (v .session) ≡ covered (r .final .log)
+  pub received : v .session .received ≡ receivedBy (r .status) (length (i .characters)) (covered (r .final .log))
+  -- "The steps are at most (L + 3) times n, plus 1, where L is the longest pattern."
+  pub bound : v .session .steps ≤ (longest t + 3) * length (i .characters) + 1
+  -- "Once a finish is accepted or a feed has stopped the session, the joined outputs are the text of demand 2's definition for the input."
+  pub text : T (i .ended || isStopped (v .session .status)) → v .output ≡ meaningText t (i .characters)
+  -- "The session is then closed exactly when that definition reaches the input's end,"
+  pub closed : T (i .ended || isStopped (v .session .status)) → (v .session .status ≡ Closed) ↔ (convert t (i .characters) .closed ≡ true)
+  -- "and otherwise stopped at its place": "consumed is that place"
+  pub stopped : T (i .ended || isStopped (v .session .status)) → convert t (i .characters) .closed ≡ false →
+      (v .session .status ≡ Stopped) × (consumed (v .session) ≡ meaningPlace t (i .characters))
+  -- "Where a feed stopped it, the definition's text and place and the plain machine's steps are the same for every input that begins with
+  -- this one.", ended or not
+  pub firm : i .ended ≡ false → v .session .status ≡ Stopped → (more : List ℕ) → Characters more → (ended : Bool) →
+      (meaningText t (i .characters ++ more) ≡ meaningText t (i .characters))
+      × (meaningPlace t (i .characters ++ more) ≡ meaningPlace t (i .characters))
+      × (ran t (i .characters ++ more) ended .final .steps ≡ r .final .steps)
+
+-- "Take every table that keeps document 01's rules for compiling, and so compiles by demand 2, and every list of feeds and finishes of its
+-- machine from a fresh session, refused ones included, whatever the pieces and output lengths."
+unfoldable pub OutcomesAgree : Type 0
+OutcomesAgree =
+    (b buffer : List ℕ) (t : Table) → KeepsCompiling b t → wordCount ≤ length buffer →
+    (cs : List Call) → Each (λ c. Characters (piece c)) cs →
+    let w = compile b buffer .words in
+    let i = reckon t cs noInput in
+    Agrees t cs (serve w cs unserved) i (ran t (i .characters) (i .ended))
+
+-- Demand 1 for a feed or finish that found the session s and the buffer, and came to o: "an accepted answer or one of the numbered
+-- refusals"; "every other refusal changes nothing. Words beyond those written stay as found."
+pub record CallAnswers (s : Session) (buffer : List ℕ) (o : CallOutcome) : Type 0 where
+  pub numbered : RefusedBy (11 ∷ 12 ∷ 13 ∷ 14 ∷ 15 ∷ []) (o .answer)
+  pub unchanged : (n : ℕ) → o .answer ≡ refused n → (o .session ≡ s) × (o .output ≡ buffer)
+  pub beyond : (a : Answer) → o .answer ≡ accepted a → drop (a .count) (o .output) ≡ drop (a .count) buffer
+  pub whole : length (o .output) ≡ length buffer
+
+unfoldable pub CallsAnswer : Type 0
+CallsAnswer = (w : List ℕ) (s : Session) (c : Call) → CallAnswers s (bufferOf c) (called w s c)

@@ -1,0 +1,6 @@
+pub mod Machine
+pub mod Session
+pub mod Calls
+pub mod Reckoning
+pub mod Claims
+pub mod Examples

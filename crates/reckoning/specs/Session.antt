@@ -1,0 +1,73 @@
+-- "Sessions": what is kept between calls, and when it is sound.
+use mathlib.Core.Bool.{Bool, true, false, _&&_, not, cond}
+use mathlib.Core.List.{List, [], _∷_}
+use mathlib.Core.Option.{Option, none, some}
+use Prim.Native.Nat.{ℕ, _+_, _-_, _*_}
+use lib.Dec.{eqb, leb}
+use lib.ListN.{take, drop}
+use Rattle.lists.specs.Lists.{all, pad}
+use Rattle.lists.specs.Decide.{allOf}
+use Rattle.meaning.specs.Direct.{limit}
+use Rattle.automaton.specs.Sound.{used, longestWord, expansionWord}
+use Rattle.automaton.specs.Automaton.{Automaton, fromWords}
+use Rattle.reckoning.specs.Machine.{Status, Open, Closed, Stopped}
+
+pub record Session : Type 0 where
+  pub status : Status
+  pub state : ℕ
+  -- "held characters (the store, others 0)": eight places, and how many of them are in use
+  pub held : List ℕ
+  pub count : ℕ
+  pub received : ℕ
+  pub produced : ℕ
+  pub steps : ℕ
+
+-- "Fresh: open, all 0."
+unfoldable pub fresh : Session
+fresh = record { status = Open; state = 0; held = pad 8 []; count = 0; received = 0; produced = 0; steps = 0 }
+
+-- "Consumed is received less held."
+abbrev pub consumed : Session → ℕ
+consumed s = s .received - s .count
+
+abbrev pub store : Session → List ℕ
+store s = take (s .count) (s .held)
+
+abbrev pub isOpen : Status → Bool
+isOpen Open = true
+isOpen Closed = false
+isOpen Stopped = false
+
+-- "a state whose go equals its end"
+abbrev pub settled : Automaton → ℕ → Bool
+settled m q = used (m .accept q) && eqb (m .accept q) (m .acceptAtEnd q)
+
+abbrev pub pathIf : Bool → Option ℕ → Option ℕ
+pathIf true r = r
+pathIf false r = none
+
+-- where the characters lead by targets, "neither through nor to a state whose go equals its end"
+unfoldable pub path : Automaton → ℕ → List ℕ → Option ℕ
+path m q [] = some q
+path m q (c ∷ cs) = let r = m .target q c in pathIf (used r && not (settled m r)) (path m r cs)
+
+abbrev pub isAt : ℕ → Option ℕ → Bool
+isAt q none = false
+isAt q (some r) = eqb q r
+
+unfoldable pub soundSession : List ℕ → Session → Bool
+soundSession w s =
+    let cost = longestWord w + 3 in
+    allOf (
+    -- "received at most 1,099,511,627,776 and at least held; produced at most E times consumed; held places not in use are 0"
+    leb (s .received) limit
+    ∷ leb (s .count) (s .received)
+    ∷ leb (s .produced) (expansionWord w * consumed s)
+    ∷ leb (s .count) 8
+    ∷ all (eqb 0) (drop (s .count) (s .held))
+    ∷ cond (isOpen (s .status))
+    -- "open, the held characters lead from state 0 to the state ..., and steps are at most (L + 3) times consumed plus held"
+    (allOf (isAt (s .state) (path (fromWords w) 0 (store s)) ∷ leb (s .steps) (cost * consumed s + s .count) ∷ []))
+    -- "closed or stopped, state 0, nothing held, steps at most (L + 3) times (consumed + 1)"
+    (allOf (eqb (s .state) 0 ∷ eqb (s .count) 0 ∷ leb (s .steps) (cost * (consumed s + 1)) ∷ []))
+    ∷ [])

@@ -1,0 +1,113 @@
+-- A term, taken in by the check as it is run.
+-- The last entry gets one more coefficient, which changes its row as `Stored` shows.
+use mathlib.Core.Bool.{_||_, not}
+use mathlib.Core.List.{[], _∷_, _++_}
+use mathlib.Core.Path.{_≡_, refl, sym, ap, ap₂, subst, _∙_}
+use Prim.Native.Nat.{ℕ, zero, suc, pred, _+_, _-_, _*_, _≤_, _<_}
+use native.Mathlib.Omega.{arith}
+use lib.Dec.{T, eqb, leb, ltb, nleb→lt, nltb→le}
+use lib.IntN.{pos}
+use lib.ListN.{length, set, replicate, length-append, length-replicate}
+use Rattle.lists.specs.Lists.{Each, pad, atLast, lastD, isSome}
+use Rattle.lists.proofs.Laws.Tests.{not-not, or-none}
+use Rattle.lists.proofs.Laws.Each.{each-append, each-atLast}
+use Rattle.meaning.specs.Table.{Output, sum}
+use Rattle.meaning.specs.Record.{term}
+use Rattle.meaning.specs.Reader.{signed, Reading, latest, reach, latestReach, misplaced, skipping, tooMany, addTerm, changeOutputs, taken}
+use Rattle.meaning.specs.Block.{word, block}
+use Rattle.rules.specs.Summary.{arraysBy}
+use Rattle.meaning.specs.Flat.{slotWords, rangeWords, blockWords, constantWords}
+use Rattle.meaning.proofs.Laws.Reading.{taken-kept, atLast-length}
+use Rattle.meaning.proofs.Laws.Narrow.{Bits, NarrowOutput}
+use Rattle.meaning.proofs.Laws.Numbers.{word-signed}
+use Rattle.meaning.proofs.Laws.Rows.{Grouped, numberOf, rows-latest}
+use Rattle.meaning.proofs.Laws.Stored.{slotRow, rangeRow, constantRow, last-atLast, block-term, constantRow-term}
+use Rattle.rules.proofs.Laws.Represents.{arrays-same, summaryOf, latestOf, summary, flat, Read, latest-begun, kind-there, latest-changed, grouped-changed, summary-changed, narrow-changed}
+use Rattle.meaning.proofs.Laws.Decoding.{FittingRecord}
+use Rattle.rules.proofs.Laws.Taken.{reader, next, Taken}
+
+term-reach : (p a : ℕ) (o : Output) → reach o ≤ p → reach (addTerm p (signed 16 a) o) ≡ p + 1
+term-reach p a (sum c ks) l = rw (length-append, length-append, length-replicate) (omega arith)
+
+-- no coefficient for the positions between
+bits-none : Bits 16 (pos 0)
+unfolding signed
+bits-none = record { number = 0; below = omega arith; same = refl }
+
+each-replicate : {A : Type 0} (P : A → Type 0) (n : ℕ) (a : A) → P a → Each P (replicate n a)
+each-replicate P zero a p = tt
+each-replicate P (suc n) a p = (p, each-replicate P n a p)
+
+term-narrow : (p a : ℕ) (o : Output) → a < 65536 → NarrowOutput o → NarrowOutput (addTerm p (signed 16 a) o)
+term-narrow p a (sum c ks) f h = (
+  h .0,
+  each-append (Bits 16) (ks ++ replicate (p - length ks) (pos 0)) (signed 16 a ∷ [])
+      (each-append (Bits 16) ks (replicate (p - length ks) (pos 0)) (h .1) (each-replicate (Bits 16) (p - length ks) (pos 0) bits-none))
+      (record { number = a; below = f; same = refl }, tt),
+)
+
+term-tests : (s : Reading) (p a : ℕ) → T (not (misplaced s (term p a))) →
+    T (eqb (s .kind) 3 || eqb (s .kind) 4) × (p < latestOf (s .table) .size) × (reach (lastD (sum (pos 0) []) (latestOf (s .table) .outputs)) ≤ p)
+unfolding misplaced latest latestReach
+term-tests s p a m =
+    let g = latestOf (s .table) in
+    let kinds = eqb (s .kind) 3 || eqb (s .kind) 4 in
+    let last = reach (lastD (sum (pos 0) []) (g .outputs)) in
+    let t = or-none (not kinds || leb (g .size) p) (ltb p last) m in
+    let u = or-none (not kinds) (leb (g .size) p) (t .0) in
+    (not-not kinds (u .0), nleb→lt (g .size) p (u .1), nltb→le p last (t .1))
+
+module _ (s : Reading) (p a : ℕ) (h : Read s) where
+  term-summary : Grouped (s .table .rules) (s .table .default) → 1 ≤ length (latestOf (s .table) .outputs) →
+      reach (lastD (sum (pos 0) []) (latestOf (s .table) .outputs)) ≤ p → next (summary s) (term p a) ≡ summary (taken s (term p a))
+  unfolding taken
+  term-summary grouped some-output before =
+      let g = latestOf (s .table) in
+      let os = g .outputs in
+      let z = signed 16 a in
+      let F = changeOutputs (atLast (addTerm p z)) in
+      let outputs : length os ≡ length (atLast (addTerm p z) os) = sym (atLast-length (addTerm p z) os) in
+      let reached : p + 1 ≡ reach (lastD (sum (pos 0) []) (atLast (addTerm p z) os)) =
+      sym (ap reach (last-atLast (addTerm p z) (sum (pos 0) []) os some-output) ∙ term-reach p a (lastD (sum (pos 0) []) os) before) in
+      let same : next (summary s) (term p a) ≡ summaryOf 4 (length (s .table .rules)) (isSome (s .table .default)) (F g) =
+      ap₂ (reader 4 (length (s .table .rules)) (isSome (s .table .default)) (g .size) (length (g .ranges)) (length (lastD [] (g .ranges))) (summary s .highest)) outputs reached in
+      same ∙ sym (summary-changed F 4 (s .table .rules) (s .table .default) grouped)
+
+  term-arrays : Grouped (s .table .rules) (s .table .default) → p < 8 → 1 ≤ length (latestOf (s .table) .outputs) → length (latestOf (s .table) .outputs) ≤ 8 →
+      reach (lastD (sum (pos 0) []) (latestOf (s .table) .outputs)) ≤ p → a < 65536 → arraysBy (summary s) (term p a) (flat (s .table)) ≡ flat (taken s (term p a) .table)
+  unfolding taken slotWords rangeWords blockWords constantWords
+  term-arrays grouped inside some-output most before fits =
+      let g = latestOf (s .table) in
+      let rs = s .table .rules in
+      let d = s .table .default in
+      let z = signed 16 a in
+      let F = changeOutputs (atLast (addTerm p z)) in
+      let o = length (g .outputs) in
+      let number = numberOf rs d in
+      let place : 75 * number + 4 + 9 * pred o + p ≡ 75 * number + (4 + 9 * pred o + p) = omega arith in
+      arrays-same
+      (sym (rows-latest 8 slotRow [] tt rs d F (h .kept .few) grouped refl))
+      (sym (rows-latest 64 rangeRow [] tt rs d F (h .kept .few) grouped refl))
+      (ap₂ (λ i v. set (blockWords (s .table)) i v) place (sym (word-signed a fits))
+      ∙ sym (rows-latest 75 block ((4 + 9 * pred o + p, word z) ∷ []) (omega arith, tt) rs d F (h .kept .few) grouped (block-term p z g inside some-output most before)))
+      (sym (rows-latest 8 constantRow [] tt rs d F (h .kept .few) grouped (ap (pad 8) (constantRow-term p z (g .outputs)))))
+
+  pub term-taken : FittingRecord (term p a) → T (not (misplaced s (term p a))) → T (not (skipping s (term p a))) → T (not (tooMany s (term p a))) → Taken s (term p a)
+  unfolding taken
+  term-taken f m n o =
+      let g = latestOf (s .table) in
+      let rs = s .table .rules in
+      let d = s .table .default in
+      let F = changeOutputs (atLast (addTerm p (signed 16 a))) in
+      let t = term-tests s p a m in
+      let grouped = h .grouped (kind-there (s .kind) 3 4 (t .0) tt tt) in
+      let some-output : 1 ≤ length (g .outputs) = h .writing (t .0) in (
+        term-summary grouped some-output (t .2),
+        term-arrays grouped (omega arith) some-output (latest-begun s h .outputs .0) (t .2) (f .2),
+        record {
+          kept = taken-kept s (term p a) tt m n o (h .kept);
+          narrow = narrow-changed F rs d (λ b. record { few = b .few; narrow = each-atLast NarrowOutput (addTerm p (signed 16 a)) (g .outputs) (λ q. term-narrow p a q (f .2)) (b .narrow) }) (h .narrow);
+          grouped = λ _. grouped-changed F rs d grouped;
+          writing = λ _. subst (λ q. 1 ≤ length (q .outputs)) (sym (latest-changed F rs d grouped)) (rw atLast-length some-output);
+        },
+      )

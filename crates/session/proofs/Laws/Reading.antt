@@ -1,0 +1,272 @@
+-- What the machine reads of the text: classes worked out beforehand, the part of the text where it is, and how it reads on or writes defaults there.
+-- Each law is one turn of a loop; a state that a character leads on from accepts nothing at once, and state 0 is the one of depth 0.
+use mathlib.Core.Bool.{Bool, true, false, _&&_}
+use mathlib.Core.List.{List, [], _∷_, _++_, append-nil}
+use mathlib.Core.Logic.{_≢_}
+use mathlib.Core.Path.{_≡_, refl, sym, ap, subst, _∙_}
+use Prim.Native.Nat.{ℕ, zero, suc, _+_, _*_, _-_, _≤_, _<_}
+use native.Mathlib.Decide.{ℕ-discrete}
+use native.Mathlib.Omega.{arith}
+use lib.Dec.{T, eqb, leb, eqb→eq}
+use lib.ListN.{length, getD, set, take, drop, length-append, length-drop, List·getD-append}
+use lib.Seq.{take-all, drop-nil, drop-cons, getD-drop, drop-drop, drop-append-add, getD-set-same, getD-set-other, paste}
+use Rattle.lists.proofs.Laws.Tests.{holds, below, of-cond, of-between}
+use Rattle.meaning.specs.Block.{at, wordSum, blockOutput}
+use Rattle.meaning.proofs.Laws.Writing.{groupText, groupSum, written-more, written-all}
+use Rattle.automaton.specs.Sound.{longestWord, expansionWord, stateCount, depthWord, acceptWord, targetWord, classCount, blockAt, soundState, sound}
+use Rattle.automaton.specs.Classes.{classOf}
+use Rattle.automaton.specs.Automaton.{fromWords}
+use Rattle.machine.specs.declared.numbers.StateNo.{StateNo}
+use Rattle.automaton.proofs.Laws.Words.{sound-state, sound-class, sound-good}
+use Rattle.reckoning.specs.Machine.{Ended}
+use Rattle.session.specs.Running.{firstOf, standing, storeOf, Placed, Going, left, Onward, Beyond, Passes, Stands, Between, ReadsOn, readTo, Read, Back}
+use Rattle.session.specs.declared.kept.Status.the-variants as Kept
+use Rattle.session.specs.declared.run.Ran.{Ran}
+use Rattle.session.specs.declared.run.Ahead.{Ahead}
+use Rattle.session.proofs.Laws.Running.{first-at, character-backs, character-reads, decides-character, turn-room, default-words, onward-read, onward-default, beyond-on}
+
+-- one more place of a table is filled
+pub filled : (f : ℕ → ℕ) (table : List ℕ) (n x : ℕ) → n < length table → x ≡ f n → ((i : ℕ) → i < n → getD table i 0 ≡ f i) →
+    (i : ℕ) → i < n + 1 → getD (set table n x) i 0 ≡ f i
+filled f table n x h e k i l =
+    elim (ℕ-discrete i n) [
+      | yes p ↦ subst (λ m. getD (set table n x) m 0 ≡ f m) (sym p) (getD-set-same table n x 0 h ∙ e)
+      | no p ↦ getD-set-other table n i x 0 p ∙ k i (omega arith)
+    ]
+
+-- The text beyond those given back is the piece's.
+
+pub beyond-given : (given piece : List ℕ) (n : ℕ) → length given ≤ n → drop n (given ++ piece) ≡ drop (n - length given) piece
+beyond-given given piece n h =
+    let e : n ≡ length given + (n - length given) = omega arith in
+    ap (λ k. drop k (given ++ piece)) e ∙ drop-append-add given piece (n - length given)
+
+pub piece-part : (given piece : List ℕ) (n k : ℕ) → length given ≤ n →
+    take k (take (length piece - (n - length given)) (drop (n - length given) piece)) ≡ take k (drop n (given ++ piece))
+piece-part given piece n k h =
+    ap (take k) (take-all (length piece - (n - length given)) (drop (n - length given) piece) (omega (arith, length-drop (n - length given) piece))
+    ∙ sym (beyond-given given piece n h))
+
+-- The part of the text where the machine is.
+
+abbrev pub partOf : List ℕ → List ℕ → ℕ → List ℕ
+partOf given piece n = firstOf (drop n given) (drop (n - length given) piece)
+
+part-rest : (given piece : List ℕ) (n : ℕ) → (rest : List ℕ) × (drop n (given ++ piece) ≡ partOf given piece n ++ rest)
+part-rest [] piece n = let e : n - 0 ≡ n = omega arith in rw (drop-nil n, e) ([], sym (append-nil (drop n piece)))
+part-rest (x ∷ given) piece zero = (piece, refl)
+part-rest (x ∷ given) piece (suc n) = let e : suc n - suc (length given) ≡ n - length given = omega arith in rw e (part-rest given piece n)
+
+module _ (given piece part : List ℕ) (n : ℕ) (e : part ≡ partOf given piece n) where
+  abbrev u : List ℕ
+  u = given ++ piece
+
+  part-split : drop n u ≡ part ++ part-rest given piece n .0
+  part-split = part-rest given piece n .1 ∙ ap (λ l. l ++ part-rest given piece n .0) (sym e)
+
+  pub part-inside : n ≤ length u → n + length part ≤ length u
+  part-inside h = omega (arith, length-drop n u, ap length part-split, length-append part (part-rest given piece n .0))
+
+  pub part-some : n < length u → 0 < length part
+  part-some h = omega (arith, ap length e, first-at given piece n (omega (arith, length-append given piece)) .0)
+
+  pub part-at : (i : ℕ) → i < length part → getD part i 0 ≡ getD u (n + i) 0
+  part-at i h = sym (List·getD-append part (part-rest given piece n .0) 0 i h) ∙ ap (λ l. getD l i 0) (sym part-split) ∙ getD-drop n u i 0
+
+  -- one character
+  pub part-one : (i : ℕ) → i < length part → n ≤ length u → take 1 (drop i part) ≡ take 1 (drop (n + i) u)
+  part-one i h k =
+      ap (take 1) (drop-cons part i 0 h) ∙ ap (λ c. c ∷ []) (part-at i h) ∙ ap (take 1) (sym (drop-cons u (n + i) 0 (omega (arith, part-inside k))))
+
+-- The default's output, by its places in the words: block 32 begins at 19622.
+
+pub default-count : (w : List ℕ) → at (blockAt w 32) 2 ≡ at w 19624
+default-count w = getD-drop (17222 + 75 * 32) w 2 0
+
+module _ (w word : List ℕ) where
+  abbrev pub defaultText : List ℕ
+  defaultText = groupText (drop 17222 w) 32 word
+
+  pub default-sum : (j : ℕ) → at (blockAt w 32) 0 ≡ 1 → wordSum (at w (19625 + 9 * j)) (take 1 (drop (19625 + 9 * j + 1) w)) word ≡ groupSum (drop 17222 w) 32 word j
+  default-sum j one =
+      let a : 19625 + 9 * j ≡ 17222 + (75 * 32 + 3 + 9 * j) = omega arith in
+      let b : 19625 + 9 * j + 1 ≡ 17222 + (75 * 32 + 3 + 9 * j + 1) = omega arith in
+      let p : at w (19625 + 9 * j) ≡ at (drop 17222 w) (75 * 32 + 3 + 9 * j) = ap (at w) a ∙ sym (getD-drop 17222 w (75 * 32 + 3 + 9 * j) 0) in
+      let q : 1 ≡ at (drop 17222 w) (75 * 32) = sym one ∙ getD-drop (17222 + 75 * 32) w 0 0 ∙ sym (getD-drop 17222 w (75 * 32) 0) in
+      let r : drop (19625 + 9 * j + 1) w ≡ drop (75 * 32 + 3 + 9 * j + 1) (drop 17222 w) =
+      ap (λ k. drop k w) b ∙ sym (drop-drop (75 * 32 + 3 + 9 * j + 1) 17222 w) in
+      λ i. wordSum (p i) (take (q i) (r i)) word
+
+  pub default-more : (d : List ℕ) (count j x : ℕ) → j < at w 19624 → count + j < length d → x ≡ groupSum (drop 17222 w) 32 word j →
+      set (paste d count defaultText j) (count + j) x ≡ paste d count defaultText (j + 1)
+  default-more d count j x h k e =
+      ap (set (paste d count defaultText j) (count + j)) e
+      ∙ written-more (drop 17222 w) 32 word d count j (omega (arith, getD-drop 17222 w (75 * 32 + 2) 0)) k
+
+  pub default-all : (d : List ℕ) (count n : ℕ) → n ≡ at w 19624 →
+      paste d count defaultText n ≡ take count d ++ blockOutput (blockAt w 32) word ++ drop (count + at (blockAt w 32) 2) d
+  default-all d count n e =
+      let m : at (drop 17222 w) (75 * 32 + 2) ≡ at w 19624 = getD-drop 17222 w (75 * 32 + 2) 0 in
+      ap (paste d count defaultText) (e ∙ sym m) ∙ written-all (drop 17222 w) 32 word d count
+      ∙ (λ i. take count d ++ blockOutput (drop-drop (75 * 32) 17222 w i) word ++ drop (count + (m ∙ sym (default-count w)) i) d)
+
+-- A run that leads on, and then on again.
+
+pub passes-same : (w u : List ℕ) (room : ℕ) (old new : Ran) (output : List ℕ) → Placed w u room old → new .state .0 ≡ old .state .0 → new .from ≡ old .from →
+    new .at ≡ old .at → new .count ≡ old .count → new .steps ≡ old .steps → Passes w u room old output new output
+passes-same w u room old new output P e₁ e₂ e₃ e₄ e₅ =
+    let i₁ = P .order in
+    let i₂ = P .inside in
+    let i₃ = P .few in
+    let placed : Placed w u room new =
+    record {
+      order = omega arith;
+      inside = omega arith;
+      state = rw e₁ (P .state);
+      depth = rw (e₁, e₂, e₃) (P .depth);
+      written = rw (e₂, e₄) (P .written);
+      enough = P .enough;
+      short = P .short;
+      few = omega arith;
+    } in (
+      placed,
+      omega arith,
+      λ ended r G. record {
+        log = G .log;
+        runs = rw (e₁, e₂, e₃, e₅) (G .runs);
+        covers = G .covers ∙ sym e₂;
+        count = e₄ ∙ G .count;
+        text = ap (λ k. take k output) e₄ ∙ G .text;
+      },
+    )
+
+pub passes-on : (w u : List ℕ) (room : ℕ) (old mid new : Ran) (before between after : List ℕ) → Passes w u room old before mid between →
+    ((ended : Bool) → Onward w u ended room mid between false new after) → Passes w u room old before new after
+passes-on w u room old mid new before between after p f =
+    (f false .0, omega (arith, p .1, f false .1), λ ended r G. f ended .2 r (p .2 ended r G))
+
+pub passes-both : (w u : List ℕ) (room : ℕ) (old mid new : Ran) (before between after : List ℕ) → Passes w u room old before mid between →
+    Passes w u room mid between new after → Passes w u room old before new after
+passes-both w u room old mid new before between after p f = (f .0, omega (arith, p .1, f .1), λ ended r G. f .2 ended r (p .2 ended r G))
+
+-- How far the machine reads by targets.
+
+abbrev pub ahead : StateNo → ℕ → Ahead
+ahead q n = record { state = q; at = n; stuck = false }
+
+-- a run in one state at a place reads on to another state at another place
+abbrev pub Reaches : List ℕ → List ℕ → StateNo → ℕ → StateNo → ℕ → Type 0
+Reaches w u q n p m =
+    (p .0 < stateCount w)
+    × ((now : Ran) (output : List ℕ) → now .state .0 ≡ q .0 → now .at ≡ n → Placed w u (length output) now →
+    Passes w u (length output) now output (readTo now (ahead p m)) output)
+
+abbrev pub classIn : List ℕ → ℕ → ℕ
+classIn w x = classOf (take (classCount w) (drop 6 w)) x
+
+module _ (w u : List ℕ) (q : StateNo) (n : ℕ) where
+  pub reaches-none : (m : ℕ) → m ≡ n → q .0 < stateCount w → Reaches w u q n q m
+  reaches-none m z h =
+      (h, λ now output e a P. passes-same w u (length output) now (readTo now (ahead q m)) output P (sym e) refl (z ∙ sym a) refl (omega arith))
+
+  pub reaches-next : T (sound w) → (p : StateNo) (m : ℕ) → Reaches w u q n p m → (t : StateNo) (k : ℕ) → k ≡ m + 1 → n ≤ m → m < length u →
+      t .0 ≡ targetWord w (p .0) (classIn w (getD u m 0)) → t .0 ≢ 0 → Reaches w u q n t k
+  reaches-next W p m r t k z o some e h =
+      let x = getD u m 0 in
+      let f = sound-state w W (p .0) (r .0) .target (classIn w x) (sound-class w W x) (λ y. h (e ∙ y)) in
+      let c = character-reads w W (p .0) (r .0) x t (sym (f .no-accept)) e h in (
+        c .1 .0,
+        λ now output s a P.
+            let mid = readTo now (ahead p m) in
+            let l = r .1 now output s a P in
+            passes-on w u (length output) now mid (readTo now (ahead t k)) output output output l
+            (λ ended. onward-read w u ended W mid output (l .0) (readTo now (ahead t k)) t
+            (decides-character w u ended (p .0) (mid .from) m (Read t) x some refl (c .0)) (c .1) some refl refl z refl (omega arith)),
+      )
+
+module _ (w u : List ℕ) (now : Ran) (a : Ahead) (o : now .at ≤ a .at) (r : Reaches w u (now .state) (now .at) (a .state) (a .at)) where
+  pub reads-stuck : a .stuck ≡ true → a .at < length u → targetWord w (a .state .0) (classIn w (getD u (a .at) 0)) ≡ 0 → ReadsOn w u now a
+  unfolding fromWords
+  reads-stuck e h z =
+      record {
+        onward = o;
+        passes = λ output P. r .1 now output refl refl P;
+        stuck = λ _. (h, z);
+        free = λ f _. absurd (subst T (sym e ∙ f) tt);
+      }
+
+  pub reads-free : a .stuck ≡ false → (a .at < length u → now .at < a .at) → ReadsOn w u now a
+  reads-free e h =
+      record {
+        onward = o;
+        passes = λ output P. r .1 now output refl refl P;
+        stuck = λ t. absurd (subst T (sym t ∙ e) tt);
+        free = λ _. h;
+      }
+
+-- How far defaults are written, in state 0 and with an empty store.
+
+-- the only state of depth 0 is state 0, which accepts nothing at once
+first-state : (w : List ℕ) → T (sound w) → (q : ℕ) → q < stateCount w → depthWord w q ≡ 0 → q ≡ 0
+unfolding sound soundState
+first-state w W q b z =
+    let depth = depthWord w q in
+    let h = holds _ (below (stateCount w) _ (holds _ W .1 .1 .1 .1 .0) q b) in
+    let deep : T (leb 1 depth && leb depth (longestWord w)) → 1 ≤ depth = λ t. of-between 1 (longestWord w) depth t .0 in
+    of-cond (λ c. T c → q ≡ 0) (eqb q 0) (eqb depth 0) (leb 1 depth && leb depth (longestWord w)) (λ e _. eqb→eq q 0 e) (λ _ t. absurd (omega (arith, deep t))) (h .0)
+
+first-accept : (w : List ℕ) → T (sound w) → acceptWord w 0 ≡ 0
+unfolding fromWords
+first-accept w W = sound-good w W .accept-0
+
+-- the run between two words, in the state where it is
+abbrev pub betweenAt : Ran → ℕ → ℕ → ℕ → Ran
+betweenAt now place written made = record { done = false; status = Kept.Open; state = now .state; from = place; at = place; count = written; steps = made }
+
+-- a run with an empty store at place n, with a count and steps, writes defaults up to another place
+abbrev pub Defaulted : List ℕ → List ℕ → ℕ → ℕ → ℕ → List ℕ → ℕ → ℕ → ℕ → List ℕ → Type 0
+Defaulted w u n count made before m written more after =
+    (now : Ran) → now .from ≡ n → now .at ≡ n → now .count ≡ count → now .steps ≡ made → Placed w u (length before) now →
+    Passes w u (length before) now before (betweenAt now m written more) after × Beyond now before (betweenAt now m written more) after
+
+module _ (w u : List ℕ) (n count made : ℕ) (before : List ℕ) where
+  pub defaulted-none : (m more : ℕ) → m ≡ n → more ≡ made → Defaulted w u n count made before m count more before
+  defaulted-none m more z y now e₁ e₂ e₃ e₄ P =
+      (passes-same w u (length before) now (betweenAt now m count more) before P refl (z ∙ sym e₁) (z ∙ sym e₂) (sym e₃) (y ∙ sym e₄), (omega arith, refl))
+
+  pub defaulted-next : T (sound w) → at w 5 ≡ 1 → (m written more : ℕ) (between : List ℕ) → length between ≡ length before →
+      Defaulted w u n count made before m written more between → m < length u → targetWord w 0 (classIn w (getD u m 0)) ≡ 0 → (m′ written′ more′ : ℕ) (after : List ℕ) →
+      m′ ≡ m + 1 → written′ ≡ written + at (blockAt w 32) 2 → more′ ≡ more + 3 →
+      after ≡ take written between ++ blockOutput (blockAt w 32) (take 1 (drop m u)) ++ drop (written + at (blockAt w 32) 2) between →
+      Defaulted w u n count made before m′ written′ more′ after
+  defaulted-next W one m written more between size f some none m′ written′ more′ after p₁ p₂ p₃ wrote now e₁ e₂ e₃ e₄ P =
+      let x = getD u m 0 in
+      let q = now .state .0 in
+      let old = betweenAt now m written more in
+      let new = betweenAt now m′ written′ more′ in
+      let l = f now e₁ e₂ e₃ e₄ P in
+      let z : q ≡ 0 = first-state w W q (P .state) (P .depth ∙ omega arith) in
+      let placed : Placed w u (length between) old = subst (λ room. Placed w u room old) (sym size) (l .0 .0) in
+      let back = character-backs w W q (P .state) x (sym (ap (acceptWord w) z ∙ first-accept w W)) (ap (λ s. targetWord w s (classIn w x)) z ∙ none) in
+      let default : fromWords w .default ≡ true = default-words w true (sym (ap (λ k. eqb k 1) one)) in
+      let on : (ended : Bool) → Onward w u ended (length between) old between false new after × Beyond old between new after =
+      λ ended. onward-default w u ended W old between placed new (decides-character w u ended q m m Back x some refl back) some after default z p₁ p₁ p₂ p₃ wrote in (
+        passes-on w u (length before) now old new before between after (l .0) (λ ended. subst (λ room. Onward w u ended room old between false new after) size (on ended .0)),
+        (omega (arith, l .1 .0, on false .1 .0), beyond-on old new before between after (l .1 .1) (on false .1)),
+      )
+
+  -- the default has room
+  pub defaulted-room : (now : Ran) → now .from ≡ n → now .at ≡ n → now .count ≡ count → now .steps ≡ made → Placed w u (length before) now → (m written more : ℕ) (after : List ℕ) →
+      Defaulted w u n count made before m written more after → m < length u → (k : ℕ) → k ≤ expansionWord w → written + k ≤ length before
+  defaulted-room now e₁ e₂ e₃ e₄ P m written more after f some k few =
+      turn-room w u (length before) (betweenAt now m written more) (f now e₁ e₂ e₃ e₄ P .0 .0) some k few
+
+  pub defaulted-end : T (sound w) → (now : Ran) → now .from ≡ n → now .at ≡ n → now .count ≡ count → now .steps ≡ made → Placed w u (length before) now →
+      (m written more : ℕ) (after : List ℕ) → Defaulted w u n count made before m written more after → (new : Ran) → Between m written more new →
+      Passes w u (length before) now before new after × Beyond now before new after
+  defaulted-end W now e₁ e₂ e₃ e₄ P m written more after f new B =
+      let old = betweenAt now m written more in
+      let l = f now e₁ e₂ e₃ e₄ P in
+      let z : now .state .0 ≡ 0 = first-state w W (now .state .0) (P .state) (P .depth ∙ omega arith) in
+      let same = passes-same w u (length before) old new after (l .0 .0) (B .state ∙ sym z) (B .from) (B .at) (B .count) (B .steps) in
+      (passes-both w u (length before) now old new before after after (l .0) same, rw (B .count) (l .1))

@@ -1,0 +1,226 @@
+-- `run::write_defaults` meets its contract. The invariant: any run with an empty store at the part's start writes defaults for the characters read.
+-- The measure is the characters of the part left. Assumes nothing.
+use mathlib.Core.Path.{_≡_, refl, sym, ap, _∙_}
+use mathlib.Core.List.{List, _++_}
+use Prim.Native.Nat.{ℕ, _+_, _-_, _*_, _≤_, _<_}
+use native.Mathlib.Omega.{arith}
+use borrow.Author.Needs.{needs}
+use lib.ListN.{length, getD, take, drop, length-append}
+use Rattle.meaning.specs.Block.{at, blockOutput}
+use Rattle.automaton.specs.Sound.{targetWord, blockAt}
+use Rattle.automaton.proofs.Laws.Words.{sound-header, sound-class, sound-default}
+use Rattle.session.proofs.Laws.Reading.{partOf, part-inside, part-at, part-one, classIn, Defaulted, defaulted-none, defaulted-next, defaulted-room, defaulted-end}
+use Rattle.session.proofs.run.write_defaults.Statement.{statement}
+use Rattle.session.proofs.run.write_defaults.Tie as tie
+
+abbrev Inv-loop : tie.InvT-loop
+Inv-loop words classes given piece output₀ part from steps count₀ read₀ output count read =
+    (read ≤ length part) × (length output ≡ length output₀)
+    × Defaulted words (given ++ piece) from count₀ steps output₀ (from + read) count (steps + 3 * read) output
+
+abbrev μ-loop : tie.MeasureT-loop
+μ-loop words classes given piece output₀ part from steps count₀ read₀ output count read = length part - read
+
+abbrev text : tie.Start Inv-loop μ-loop → List ℕ
+text s = s .args .given .now ++ s .args .piece .now
+
+within : (s : tie.Start Inv-loop μ-loop) (part : List ℕ) → part ≡ partOf (s .args .given .now) (s .args .piece .now) (s .args .run .at) → (read : ℕ) → read ≤ length part →
+    s .args .run .at + read ≤ length (text s)
+within s part e read h = omega (arith, h, part-inside (s .args .given .now) (s .args .piece .now) part (s .args .run .at) e (s .pre .1 .0 .inside))
+
+unread-requires : tie.Need-unread-requires Inv-loop μ-loop
+unread-requires c κs =
+    let s = c .before .before .before .before .before in
+    let a = s .args in
+    let h : a .run .at ≤ length (a .given .now) + length (a .piece .now) = omega (arith, s .pre .1 .0 .inside, length-append (a .given .now) (a .piece .now)) in
+    h
+
+loop-holds : tie.Need-loop-holds Inv-loop μ-loop
+loop-holds c =
+    let s = c .before .before .before .before .before .before in
+    let a = s .args in
+    (omega arith, refl, defaulted-none (a .words .now) (text s) (a .run .at) (a .run .count) (a .run .steps) (a .output .now) (a .run .at + 0) (a .run .steps + 0) (omega arith) (omega arith))
+
+mul-class-in : tie.Need-mul-class-in Inv-loop μ-loop
+mul-class-in c = search needs
+
+shared-slice-read-class-in : tie.Need-shared-slice-read-class-in Inv-loop μ-loop
+shared-slice-read-class-in c = search needs
+
+class-in-requires : tie.Need-class-in-requires Inv-loop μ-loop
+class-in-requires c κs = search needs
+
+target-requires : tie.Need-target-requires Inv-loop μ-loop
+target-requires c κs =
+    let s = c .before .before .before .before .before .before .before .before .before .before in
+    let w = s .args .words .now in
+    let h = sound-header w (s .pre .0 .0) in
+    let x = getD (c .before .before .before .before .unread .result .now) (c .before .before .before .loop .read) 0 in
+    let e : c .class-in .result .0 ≡ classIn w x = c .class-in .ensures in
+    (h .long, omega arith, omega (arith, h .few-classes, sound-class w (s .pre .0 .0) x, e))
+
+add-between : tie.Need-add-between Inv-loop μ-loop
+add-between c =
+    let s = c .before .before .before .before .before .before .before .before .before .before .before .before .before in
+    let p = c .before .before .before .before .before .before .before .unread in
+    let l = c .before .before .before .before .before .before .loop in
+    omega (arith, within s (p .result .now) (p .ensures) (l .read) (l .inv .0), s .pre .1 .0 .short)
+
+mul-between : tie.Need-mul-between Inv-loop μ-loop
+mul-between c =
+    let s = c .before .before .before .before .before .before .before .before .before .before .before .before .before in
+    let p = c .before .before .before .before .before .before .before .unread in
+    let l = c .before .before .before .before .before .before .loop in
+    omega (arith, within s (p .result .now) (p .ensures) (l .read) (l .inv .0), s .pre .1 .0 .short)
+
+add-between-2 : tie.Need-add-between-2 Inv-loop μ-loop
+add-between-2 c =
+    let s = c .before .before .before .before .before .before .before .before .before .before .before .before .before in
+    let p = c .before .before .before .before .before .before .before .unread in
+    let l = c .before .before .before .before .before .before .loop in
+    omega (arith, within s (p .result .now) (p .ensures) (l .read) (l .inv .0), s .pre .1 .0 .short, s .pre .1 .0 .few, s .pre .1 .1)
+
+between-requires : tie.Need-between-requires Inv-loop μ-loop
+between-requires c κs = search needs
+
+same-length : tie.Need-same-length Inv-loop μ-loop
+same-length c = c .before .before .before .before .before .before .before .loop .inv .1
+
+-- where the next character leads from state 0
+abbrev start : tie.After-target Inv-loop μ-loop → tie.Start Inv-loop μ-loop
+start c = c .before .before .before .before .before .before .before .before .before .before .before
+
+leads : (c : tie.After-target Inv-loop μ-loop) →
+    let a = start c .args in
+    let l = c .before .before .before .before .loop in
+    (a .run .at + l .read < length (text (start c)))
+    × (c .target .result .0 ≡ targetWord (a .words .now) 0 (classIn (a .words .now) (getD (text (start c)) (a .run .at + l .read) 0)))
+leads c =
+    let s = start c in
+    let a = s .args in
+    let p = c .before .before .before .before .before .unread in
+    let l = c .before .before .before .before .loop in
+    let t : l .read < length (p .result .now) = c .before .before .before .loop-test .taken in
+    let w = a .words .now in
+    let x = part-at (a .given .now) (a .piece .now) (p .result .now) (a .run .at) (p .ensures) (l .read) t in (
+      omega (arith, t, within s (p .result .now) (p .ensures) (l .read + 1) (omega (arith, t))),
+      c .target .ensures ∙ ap (targetWord w 0) (c .before .class-in .ensures ∙ ap (classIn w) x),
+    )
+
+returns : tie.Need-returns Inv-loop μ-loop
+returns c =
+    let s = c .before .before .before .before .before .before .before .before .before .before .before .before .before .before in
+    let a = s .args in
+    let l = c .before .before .before .before .before .before .before .loop in
+    defaulted-end (a .words .now) (text s) (a .run .at) (a .run .count) (a .run .steps) (a .output .now) (s .pre .0 .0) (a .run) (s .pre .1 .1) refl refl refl (s .pre .1 .0)
+    (a .run .at + l .read) (l .count) (a .run .steps + 3 * l .read) (l .output) (l .inv .2) (c .between .result) (c .between .ensures)
+
+write-default-requires : tie.Need-write-default-requires Inv-loop μ-loop
+write-default-requires c κs =
+    let s = c .before .before .before .before .before .before .before .before .before .before .before .before .before .before in
+    let a = s .args in
+    let w = a .words .now in
+    let l = c .before .before .before .before .before .before .before .loop in
+    let h = sound-header w (s .pre .0 .0) in
+    let d = sound-default w (s .pre .0 .0) (s .pre .0 .2) in
+    let k = leads (c .before .before .before) in
+    let room : l .count + at (blockAt w 32) 2 ≤ length (a .output .now) =
+    defaulted-room w (text s) (a .run .at) (a .run .count) (a .run .steps) (a .output .now) (a .run) (s .pre .1 .1) refl refl refl (s .pre .1 .0)
+    (a .run .at + l .read) (l .count) (a .run .steps + 3 * l .read) (l .output) (l .inv .2) (k .0) (at (blockAt w 32) 2) (d .outputs) in
+    let fits : l .count + at (blockAt w 32) 2 ≤ length (l .output) = omega (arith, room, l .inv .1) in
+    ((h .long, c .before .before .before .before .before .before .loop-test .taken, omega (arith, d .positive, d .size)), (omega (arith, d .outputs, h .expansion), fits))
+
+add-read : tie.Need-add-read Inv-loop μ-loop
+add-read c =
+    let s = c .before .before .before .before .before .before .before .before .before .before .before .before .before .before .before .before .before in
+    let p = c .before .before .before .before .before .before .before .before .before .before .before .unread in
+    let l = c .before .before .before .before .before .before .before .before .before .before .loop in
+    omega (arith, within s (p .result .now) (p .ensures) (l .read) (l .inv .0), s .pre .1 .0 .short)
+
+loop-less : tie.Need-loop-less Inv-loop μ-loop
+loop-less c = omega (arith, c .before .before .before .before .before .before .before .before .before .loop-test .taken)
+
+loop-again : tie.Need-loop-again Inv-loop μ-loop
+loop-again c =
+    let s = c .before .before .before .before .before .before .before .before .before .before .before .before .before .before .before .before .before in
+    let a = s .args in
+    let w = a .words .now in
+    let b = blockAt w 32 in
+    let p = c .before .before .before .before .before .before .before .before .before .before .before .unread in
+    let l = c .before .before .before .before .before .before .before .before .before .before .loop in
+    let t : l .read < length (p .result .now) = c .before .before .before .before .before .before .before .before .before .loop-test .taken in
+    let k = leads (c .before .before .before .before .before .before) in
+    let known = c .before .before .write-default .ensures in
+    let size = l .inv .1 in
+    let one = part-one (a .given .now) (a .piece .now) (p .result .now) (a .run .at) (p .ensures) (l .read) t (s .pre .1 .0 .inside) in (
+      omega (arith, t),
+      search needs,
+      defaulted-next w (text s) (a .run .at) (a .run .count) (a .run .steps) (a .output .now) (s .pre .0 .0) (s .pre .0 .2)
+          (a .run .at + l .read) (l .count) (a .run .steps + 3 * l .read) (l .output) size (l .inv .2) (k .0) (sym (k .1) ∙ c .before .before .before .before .if1 .left)
+          (a .run .at + (l .read + 1)) (c .before .before .write-default .result) (a .run .steps + 3 * (l .read + 1)) _ (omega arith) (known .0) (omega arith)
+          (known .1 ∙ ap (λ x. take (l .count) (l .output) ++ blockOutput b x ++ drop (l .count + at b 2) (l .output)) one),
+    )
+
+add-between-3 : tie.Need-add-between-3 Inv-loop μ-loop
+add-between-3 c =
+    let s = c .before .before .before .before .before .before .before .before in
+    let p = c .before .before .unread in
+    let l = c .before .loop in
+    omega (arith, within s (p .result .now) (p .ensures) (l .read) (l .inv .0), s .pre .1 .0 .short)
+
+mul-between-2 : tie.Need-mul-between-2 Inv-loop μ-loop
+mul-between-2 c =
+    let s = c .before .before .before .before .before .before .before .before in
+    let p = c .before .before .unread in
+    let l = c .before .loop in
+    omega (arith, within s (p .result .now) (p .ensures) (l .read) (l .inv .0), s .pre .1 .0 .short)
+
+add-between-4 : tie.Need-add-between-4 Inv-loop μ-loop
+add-between-4 c =
+    let s = c .before .before .before .before .before .before .before .before in
+    let p = c .before .before .unread in
+    let l = c .before .loop in
+    omega (arith, within s (p .result .now) (p .ensures) (l .read) (l .inv .0), s .pre .1 .0 .short, s .pre .1 .0 .few, s .pre .1 .1)
+
+between-requires-2 : tie.Need-between-requires-2 Inv-loop μ-loop
+between-requires-2 c κs = search needs
+
+same-length-2 : tie.Need-same-length-2 Inv-loop μ-loop
+same-length-2 c = c .before .before .loop .inv .1
+
+returns-2 : tie.Need-returns-2 Inv-loop μ-loop
+returns-2 c =
+    let s = c .before .before .before .before .before .before .before .before .before in
+    let a = s .args in
+    let l = c .before .before .loop in
+    defaulted-end (a .words .now) (text s) (a .run .at) (a .run .count) (a .run .steps) (a .output .now) (s .pre .0 .0) (a .run) (s .pre .1 .1) refl refl refl (s .pre .1 .0)
+    (a .run .at + l .read) (l .count) (a .run .steps + 3 * l .read) (l .output) (l .inv .2) (c .between2 .result) (c .between2 .ensures)
+
+pub write-defaults-spec : {M : Type 1} → statement M
+write-defaults-spec =
+    tie.close
+    (tie.spec
+    Inv-loop
+    μ-loop
+    unread-requires
+    loop-holds
+    mul-class-in
+    shared-slice-read-class-in
+    class-in-requires
+    target-requires
+    add-between
+    mul-between
+    add-between-2
+    between-requires
+    same-length
+    returns
+    write-default-requires
+    add-read
+    loop-less
+    loop-again
+    add-between-3
+    mul-between-2
+    add-between-4
+    between-requires-2
+    same-length-2
+    returns-2)

@@ -1,0 +1,110 @@
+/*
+ * Converts standard input under a table, piece by piece.
+ *
+ * `station TABLE < input > output`, one character a byte. Standard error has
+ * the counts at the end. Ends with 0 for closed, 2 for stopped, 1 for all else.
+ */
+#include <inttypes.h>
+#include <stdbool.h>
+#include <stdint.h>
+#include <stdio.h>
+#include <stdlib.h>
+
+#include "cobbletwill.h"
+
+/* The most bytes of a table that any accepted one has: 32 rules of a record, 32
+ * ranges and 8 output characters of 9 records, and a default of 17. */
+enum { TABLE = 8 * (32 * (1 + 32 + 8 * 9) + 17) };
+
+/* The most bytes that are read at once, and the output that a feed of them and
+ * 8 held characters asks for under any table. */
+enum { PIECE = 4096, ROOM = 8 * (8 + PIECE) };
+
+static uint8_t table[TABLE + 8];
+static uint16_t words[COBBLETWILL_WORDS];
+static uint16_t piece[PIECE];
+static uint16_t output[ROOM];
+
+/* Compiles the table of a file; says why not. */
+static bool compile(const char *path) {
+    FILE *file = fopen(path, "rb");
+    if (file == NULL) {
+        perror(path);
+        return false;
+    }
+    size_t length = fread(table, 1, sizeof table, file);
+    fclose(file);
+    uint32_t refusal = cobbletwill_compile(table, length, words, COBBLETWILL_WORDS);
+    if (refusal != 0) {
+        fprintf(stderr, "station: refused %" PRIu32 "\n", refusal);
+    }
+    return refusal == 0;
+}
+
+/* Reads a piece, one character a byte; its length, 0 at the end. */
+static size_t read_piece(void) {
+    static uint8_t bytes[PIECE];
+    size_t length = fread(bytes, 1, sizeof bytes, stdin);
+    if (ferror(stdin)) {
+        perror("station");
+        exit(1);
+    }
+    for (size_t i = 0; i < length; i++) {
+        piece[i] = bytes[i];
+    }
+    return length;
+}
+
+/* Prints output characters, one a byte; none above 255 is printed as another. */
+static bool print_text(uint64_t count) {
+    for (uint64_t i = 0; i < count; i++) {
+        if (output[i] > 255) {
+            fputs("station: an output character above 255\n", stderr);
+            return false;
+        }
+        putchar(output[i]);
+    }
+    return fflush(stdout) == 0;
+}
+
+/* The counts, with the steps beside their bound. */
+static void report(const cobbletwill_session *session, uint32_t answer, uint64_t fed) {
+    uint64_t consumed = session->received - session->count;
+    uint64_t longest = words[2];
+    fprintf(stderr, "%s: %" PRIu64 " characters fed, %" PRIu64 " consumed, %" PRIu64 " produced\n",
+            answer == COBBLETWILL_STOPPED ? "stopped" : "closed", fed, consumed, session->produced);
+    fprintf(stderr, "%" PRIu64 " steps, at most (%" PRIu64 " + 3) * %" PRIu64 " + 1 = %" PRIu64 "\n",
+            session->steps, longest, fed, (longest + 3) * fed + 1);
+}
+
+int main(int argc, char **argv) {
+    if (argc != 2) {
+        fputs("usage: station TABLE < input\n", stderr);
+        return 1;
+    }
+    if (!compile(argv[1])) {
+        return 1;
+    }
+    cobbletwill_session session = {0};
+    uint64_t fed = 0;
+    uint32_t answer = COBBLETWILL_OPEN;
+    while (answer == COBBLETWILL_OPEN) {
+        uint64_t count = 0;
+        size_t length = read_piece();
+        if (length == 0) {
+            answer = cobbletwill_finish(words, COBBLETWILL_WORDS, &session, output, ROOM, &count);
+        } else {
+            answer = cobbletwill_feed(words, COBBLETWILL_WORDS, &session, piece, length, output, ROOM, &count);
+        }
+        fed += length;
+        if (!print_text(count)) {
+            return 1;
+        }
+    }
+    if (answer != COBBLETWILL_OK && answer != COBBLETWILL_STOPPED) {
+        fprintf(stderr, "station: refused %" PRIu32 "\n", answer);
+        return 1;
+    }
+    report(&session, answer, fed);
+    return answer == COBBLETWILL_OK ? 0 : 2;
+}

@@ -1,0 +1,51 @@
+//! The proved rollback converter for Rust callers, over the C face of
+//! `include/cobbletwill.h`. Document 01 says what tables, machine words, sessions
+//! and refusals are.
+//!
+//! ```
+//! use cobbletwill::record::{output, range, rule, term, DEFAULT};
+//! use cobbletwill::{Machine, Session, Status};
+//!
+//! // One rule: `+` is written as a blank. The default writes what it took.
+//! let plus = [rule(1, false), range(0, 43, 43), output(32)];
+//! let default = [DEFAULT, output(0), term(0, 1)];
+//! let machine = Machine::compile(&[plus, default].concat().concat())?;
+//!
+//! let mut session = Session::fresh();
+//! let mut text = [0; 5];
+//! let piece: Vec<u16> = "0+214".encode_utf16().collect();
+//! let fed = session.feed(&machine, &piece, &mut text)?;
+//! assert_eq!((fed.status, fed.count), (Status::Open, 5));
+//! assert_eq!(String::from_utf16_lossy(&text), "0 214");
+//! assert_eq!(session.finish(&machine, &mut [])?.status, Status::Closed);
+//! # Ok::<(), cobbletwill::Refusal>(())
+//! ```
+//!
+//! - [`check`], [`convert`]: the table check and direct conversion
+//! - [`Machine`]: compiled tables
+//! - [`Session`]: feed and finish; [`run`] makes them all
+//! - [`Refusal`]: the numbered refusals
+//! - [`record`]: writing a table's records
+//! - [`raw`]: the functions of the header as they are, on any words and sessions
+
+#![deny(unsafe_code)]
+#![warn(missing_docs)]
+
+mod direct;
+mod machine;
+pub mod raw;
+pub mod record;
+mod refusal;
+mod session;
+
+pub use direct::{check, convert, Conversion, Ending};
+pub use machine::Machine;
+pub use refusal::Refusal;
+pub use session::{run, Progress, Session, Status};
+
+/// The machine words of a table: 19,697 of 16 bits.
+pub const WORDS: usize = 19_697;
+
+/// The most output characters that a group has, so that so many times the input
+/// is room enough under every table.
+pub const MOST_OUTPUTS: usize = 8;

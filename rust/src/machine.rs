@@ -1,0 +1,93 @@
+//! Compiled tables.
+
+use std::fmt;
+
+use crate::raw;
+use crate::refusal::Refusal;
+use crate::WORDS;
+
+/// A machine: sound words, compiled from a table or tested.
+#[derive(Clone, PartialEq, Eq)]
+pub struct Machine {
+    words: Box<[u16]>,
+}
+
+impl Machine {
+    /// Compiles a table; refused by the first of 1 to 9 in document 01's order.
+    pub fn compile(table: &[u8]) -> Result<Machine, Refusal> {
+        let mut words = vec![0; WORDS].into_boxed_slice();
+        match raw::compile(table, &mut words) {
+            raw::OK => Ok(Machine { words }),
+            number => Err(Refusal::answered(number)),
+        }
+    }
+
+    /// A machine of words that came from elsewhere; refused by 11 where they are
+    /// under 19,697 or not sound. Words beyond are left out.
+    pub fn from_words(words: &[u16]) -> Result<Machine, Refusal> {
+        let words = words.get(..WORDS).ok_or(Refusal::UnsoundWords)?;
+        match raw::is_sound(words) {
+            0 => Err(Refusal::UnsoundWords),
+            _ => Ok(Machine {
+                words: words.into(),
+            }),
+        }
+    }
+
+    /// The machine words.
+    pub fn words(&self) -> &[u16] {
+        &self.words
+    }
+
+    /// The number of states.
+    pub fn states(&self) -> u16 {
+        self.words[0]
+    }
+
+    /// The number of classes.
+    pub fn classes(&self) -> u16 {
+        self.words[1]
+    }
+
+    /// L, the greatest length of a pattern.
+    pub fn longest(&self) -> u16 {
+        self.words[2]
+    }
+
+    /// E, the greatest number of output characters in a group.
+    pub fn most_outputs(&self) -> u16 {
+        self.words[3]
+    }
+
+    /// The number of rules.
+    pub fn rules(&self) -> u16 {
+        self.words[4]
+    }
+
+    /// Whether there is a default.
+    pub fn has_default(&self) -> bool {
+        self.words[5] != 0
+    }
+
+    /// The most steps for an input of so many characters: (L + 3) times them,
+    /// plus 1.
+    pub fn most_steps(&self, characters: u64) -> u64 {
+        let most_a_character = u64::from(self.longest()) + 3;
+        characters
+            .saturating_mul(most_a_character)
+            .saturating_add(1)
+    }
+}
+
+impl fmt::Debug for Machine {
+    fn fmt(&self, f: &mut fmt::Formatter<'_>) -> fmt::Result {
+        f.debug_struct("Machine")
+            .field("states", &self.states())
+            .field("classes", &self.classes())
+            .field("longest", &self.longest())
+            .field("most_outputs", &self.most_outputs())
+            .field("rules", &self.rules())
+            .field("has_default", &self.has_default())
+            .finish_non_exhaustive()
+    }
+}

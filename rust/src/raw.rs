@@ -1,0 +1,206 @@
+//! The functions of `include/cobbletwill.h` as they are, safe to call: answers
+//! are numbers, and words and sessions may have any content. This module has the
+//! package's only unsafe code.
+
+#![allow(unsafe_code)]
+
+use crate::session::Session;
+
+/// The answer for a table that is accepted or compiled, and for a conversion or
+/// a session that closed.
+pub const OK: u32 = 0;
+/// The answer for a conversion or a session that stopped.
+pub const STOPPED: u32 = 64;
+/// The answer for a session that waits for more.
+pub const OPEN: u32 = 65;
+
+/// The declarations, as C has them.
+mod c {
+    use crate::session::Session;
+
+    extern "C" {
+        pub fn cobbletwill_check(table: *const u8, table_length: usize) -> u32;
+
+        pub fn cobbletwill_convert(
+            table: *const u8,
+            table_length: usize,
+            input: *const u16,
+            input_length: usize,
+            output: *mut u16,
+            output_length: usize,
+            place: *mut u64,
+            count: *mut u64,
+        ) -> u32;
+
+        pub fn cobbletwill_compile(
+            table: *const u8,
+            table_length: usize,
+            words: *mut u16,
+            words_length: usize,
+        ) -> u32;
+
+        pub fn cobbletwill_is_sound(words: *const u16, words_length: usize) -> u32;
+
+        pub fn cobbletwill_feed(
+            words: *const u16,
+            words_length: usize,
+            session: *mut Session,
+            piece: *const u16,
+            piece_length: usize,
+            output: *mut u16,
+            output_length: usize,
+            count: *mut u64,
+        ) -> u32;
+
+        pub fn cobbletwill_finish(
+            words: *const u16,
+            words_length: usize,
+            session: *mut Session,
+            output: *mut u16,
+            output_length: usize,
+            count: *mut u64,
+        ) -> u32;
+    }
+}
+
+/// The table check: 0, or the number of a refusal.
+pub fn check(table: &[u8]) -> u32 {
+    // SAFETY: the pointer and the length are those of a slice, which the
+    // function only reads.
+    unsafe { c::cobbletwill_check(table.as_ptr(), table.len()) }
+}
+
+/// Direct conversion: 0 for closed or 64 for stopped, with the place and the
+/// count set, or the number of a refusal.
+pub fn convert(
+    table: &[u8],
+    input: &[u16],
+    output: &mut [u16],
+    place: &mut u64,
+    count: &mut u64,
+) -> u32 {
+    // SAFETY: each pointer and length are those of a slice, and what is written
+    // is borrowed for this call alone.
+    unsafe {
+        c::cobbletwill_convert(
+            table.as_ptr(),
+            table.len(),
+            input.as_ptr(),
+            input.len(),
+            output.as_mut_ptr(),
+            output.len(),
+            place,
+            count,
+        )
+    }
+}
+
+/// Compiling: 0 with the words of the table, or the number of a refusal.
+pub fn compile(table: &[u8], words: &mut [u16]) -> u32 {
+    // SAFETY: each pointer and length are those of a slice, and what is written
+    // is borrowed for this call alone.
+    unsafe { c::cobbletwill_compile(table.as_ptr(), table.len(), words.as_mut_ptr(), words.len()) }
+}
+
+/// The test of words: 1 for sound words, else 0.
+pub fn is_sound(words: &[u16]) -> u32 {
+    // SAFETY: the pointer and the length are those of a slice, which the
+    // function only reads.
+    unsafe { c::cobbletwill_is_sound(words.as_ptr(), words.len()) }
+}
+
+/// A feed: 65 for open, 0 for closed or 64 for stopped, with the count set, or
+/// the number of a refusal.
+pub fn feed(
+    words: &[u16],
+    session: &mut Session,
+    piece: &[u16],
+    output: &mut [u16],
+    count: &mut u64,
+) -> u32 {
+    // SAFETY: each pointer and length are those of a slice, the session has the
+    // layout of the header's, and what is written is borrowed for this call alone.
+    unsafe {
+        c::cobbletwill_feed(
+            words.as_ptr(),
+            words.len(),
+            session,
+            piece.as_ptr(),
+            piece.len(),
+            output.as_mut_ptr(),
+            output.len(),
+            count,
+        )
+    }
+}
+
+/// A finish: answers as [`feed`] does.
+pub fn finish(words: &[u16], session: &mut Session, output: &mut [u16], count: &mut u64) -> u32 {
+    // SAFETY: as for a feed.
+    unsafe {
+        c::cobbletwill_finish(
+            words.as_ptr(),
+            words.len(),
+            session,
+            output.as_mut_ptr(),
+            output.len(),
+            count,
+        )
+    }
+}
+
+/// "With the number 0 the pointer is not used and may be null."
+#[cfg(test)]
+mod tests {
+    use std::ptr::{null, null_mut};
+
+    use super::c;
+    use crate::{Session, WORDS};
+
+    /// One rule without output, which takes `a`.
+    const TABLE: [u8; 16] = [1, 1, 0, 0, 0, 0, 0, 0, 2, 0, 0, 0, 97, 0, 97, 0];
+
+    #[test]
+    fn an_empty_table_or_no_words() {
+        // SAFETY: with the length 0 a pointer is not used.
+        unsafe {
+            assert_eq!(c::cobbletwill_check(null(), 0), 5);
+            assert_eq!(c::cobbletwill_compile(null(), 0, null_mut(), 0), 10);
+            assert_eq!(c::cobbletwill_is_sound(null(), 0), 0);
+        }
+    }
+
+    #[test]
+    fn empty_inputs_and_outputs_of_a_conversion() {
+        let (table, length) = (TABLE.as_ptr(), TABLE.len());
+        let (mut place, mut count) = (17, 19);
+        // SAFETY: with the length 0 a pointer is not used; the others are those
+        // of a slice and of numbers that are borrowed for this call alone.
+        let mut convert = |table, length| unsafe {
+            let output = null_mut();
+            c::cobbletwill_convert(table, length, null(), 0, output, 0, &mut place, &mut count)
+        };
+        assert_eq!(convert(null(), 0), 5);
+        assert_eq!(convert(table, length), 0);
+        assert_eq!((place, count), (0, 0));
+    }
+
+    #[test]
+    fn empty_pieces_and_outputs_of_a_session() {
+        let mut words = vec![0; WORDS];
+        assert_eq!(super::compile(&TABLE, &mut words), 0);
+        let (words, length) = (words.as_ptr(), words.len());
+        let (mut session, mut count) = (Session::fresh(), 19);
+        // SAFETY: with the length 0 a pointer is not used; the others are those
+        // of the words, of a session and of a number borrowed for this call alone.
+        unsafe {
+            let (at, out) = (&mut session, null_mut());
+            let fed = c::cobbletwill_feed(words, length, at, null(), 0, out, 0, &mut count);
+            assert_eq!((fed, count), (65, 0));
+            let refused = c::cobbletwill_finish(null(), 0, at, out, 0, &mut count);
+            assert_eq!(refused, 11);
+            let closed = c::cobbletwill_finish(words, length, at, out, 0, &mut count);
+            assert_eq!((closed, count), (0, 0));
+        }
+    }
+}

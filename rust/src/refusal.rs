@@ -1,0 +1,119 @@
+//! The numbered refusals.
+
+use std::error::Error;
+use std::fmt;
+
+/// A refusal of document 01, "Refusals by who causes them".
+#[derive(Clone, Copy, Debug, PartialEq, Eq, PartialOrd, Ord, Hash)]
+#[repr(u8)]
+pub enum Refusal {
+    /// 1: the table's length is no multiple of 8.
+    TableLength = 1,
+    /// 2: an unknown kind, a field outside its own range, a byte that must be
+    /// zero and isn't, lowest above highest.
+    Field = 2,
+    /// 3: a record where its kind can't come, a position not below K, ranges or
+    /// terms out of order.
+    Place = 3,
+    /// 4: a position skipped, or unfilled when the ranges end.
+    Unfilled = 4,
+    /// 5: no rule.
+    NoRule = 5,
+    /// 6: a 33rd rule, fifth range of a position, ninth output character.
+    TooMany = 6,
+    /// 7: an output value may leave 0 to 65535.
+    Value = 7,
+    /// 8: a 65th class.
+    Classes = 8,
+    /// 9: a 257th state.
+    States = 9,
+    /// 10: under 19,697 words for compiling.
+    ShortWords = 10,
+    /// 11: under 19,697 words, or words that are not sound.
+    UnsoundWords = 11,
+    /// 12: the session is not sound.
+    UnsoundSession = 12,
+    /// 13: the session is closed or stopped.
+    Ended = 13,
+    /// 14: received plus piece above 1,099,511,627,776.
+    TooLong = 14,
+    /// 15: the output is shorter than may be needed.
+    ShortOutput = 15,
+}
+
+impl Refusal {
+    /// All refusals, by number.
+    pub const ALL: [Refusal; 15] = [
+        Refusal::TableLength,
+        Refusal::Field,
+        Refusal::Place,
+        Refusal::Unfilled,
+        Refusal::NoRule,
+        Refusal::TooMany,
+        Refusal::Value,
+        Refusal::Classes,
+        Refusal::States,
+        Refusal::ShortWords,
+        Refusal::UnsoundWords,
+        Refusal::UnsoundSession,
+        Refusal::Ended,
+        Refusal::TooLong,
+        Refusal::ShortOutput,
+    ];
+
+    /// "A refusal answers its number."
+    pub const fn number(self) -> u32 {
+        self as u32
+    }
+
+    /// The refusal with a number, 1 to 15.
+    pub fn from_number(number: u32) -> Option<Refusal> {
+        Refusal::ALL
+            .into_iter()
+            .find(|refusal| refusal.number() == number)
+    }
+
+    /// Document 01's words for it.
+    pub const fn words(self) -> &'static str {
+        match self {
+            Refusal::TableLength => "length no multiple of 8",
+            Refusal::Field => {
+                "unknown kind, a field outside its own range, \
+                 a byte that must be zero and isn't, lowest above highest"
+            }
+            Refusal::Place => {
+                "a record where its kind can't come, a position not below K, \
+                 ranges or terms out of order"
+            }
+            Refusal::Unfilled => "a position skipped, or unfilled when the ranges end",
+            Refusal::NoRule => "no rule",
+            Refusal::TooMany => "a 33rd rule, fifth range of a position, ninth output character",
+            Refusal::Value => "an output value may leave 0 to 65535",
+            Refusal::Classes => "a 65th class",
+            Refusal::States => "a 257th state",
+            Refusal::ShortWords => "under 19,697 words for compiling",
+            Refusal::UnsoundWords => "under 19,697 words or not sound",
+            Refusal::UnsoundSession => "session not sound",
+            Refusal::Ended => "session closed or stopped",
+            Refusal::TooLong => "received plus piece (direct: input) above 1,099,511,627,776",
+            Refusal::ShortOutput => {
+                "output shorter than E times (held + piece); \
+                 finish: E times held; direct: E times input"
+            }
+        }
+    }
+
+    /// The refusal that a function of the header answered.
+    pub(crate) fn answered(number: u32) -> Refusal {
+        Refusal::from_number(number)
+            .unwrap_or_else(|| panic!("{number} is no answer of the header"))
+    }
+}
+
+impl fmt::Display for Refusal {
+    fn fmt(&self, f: &mut fmt::Formatter<'_>) -> fmt::Result {
+        write!(f, "refused {}: {}", self.number(), self.words())
+    }
+}
+
+impl Error for Refusal {}

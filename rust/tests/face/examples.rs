@@ -1,0 +1,100 @@
+//! Document 01's examples through the safe interface, with the answers copied
+//! from the document: direct, in one feed, in two pieces and one by one.
+
+use crate::tables::{t1, t1_with, t2, t3, t3_with};
+use cobbletwill::{check, convert, run, Ending, Machine, Refusal, Session, Status, MOST_OUTPUTS};
+
+/// The characters of a text.
+fn units(text: &str) -> Vec<u16> {
+    text.encode_utf16().collect()
+}
+
+/// An input in every two pieces, and one by one.
+fn splits(input: &[u16]) -> Vec<Vec<&[u16]>> {
+    let pairs = (0..=input.len()).map(|place| vec![&input[..place], &input[place..]]);
+    pairs.chain([input.chunks(1).collect()]).collect()
+}
+
+/// Direct conversion gives a text and an ending at a place; so do all sessions,
+/// after so many steps.
+fn expect(table: &[u8], input: &str, text: &str, ending: Ending, place: usize, steps: u64) {
+    let (input, text) = (units(input), units(text));
+    let mut output = vec![0; MOST_OUTPUTS * input.len()];
+    let direct = convert(table, &input, &mut output).expect("accepted");
+    assert_eq!((direct.ending, direct.place), (ending, place));
+    assert_eq!(output[..direct.count], text);
+
+    let machine = Machine::compile(table).expect("compiles");
+    for pieces in splits(&input) {
+        let (joined, session) = run(&machine, pieces.iter().copied()).expect("accepted");
+        assert_eq!(joined, text, "{pieces:?}");
+        let status = if ending == Ending::Closed { 1 } else { 2 };
+        assert_eq!(
+            (session.status, session.steps),
+            (status, steps),
+            "{pieces:?}"
+        );
+        assert_eq!(session.consumed(), place as u64);
+        assert_eq!(session.produced, text.len() as u64);
+        assert!(steps <= machine.most_steps(input.len() as u64));
+    }
+}
+
+/// An input that is converted to its end.
+fn closed(table: &[u8], input: &str, text: &str, steps: u64) {
+    expect(table, input, text, Ending::Closed, input.len(), steps);
+}
+
+#[test]
+fn the_lines_marked_p_that_convert() {
+    closed(&t1(), "&&#00;&#38;&#", "&&#00;&&#", 20);
+    closed(&t1(), "", "", 1);
+    closed(&t1(), "&#", "&#", 4);
+    closed(&t1(), "&#4", "&#4", 13);
+    closed(&t2(), "a", "X", 3);
+    closed(&t2(), "aa", "YX", 5);
+    expect(&t2(), "ab", "Y", Ending::Stopped, 1, 4);
+    closed(&t3(), "aba", "1a", 8);
+    closed(&t1(), "A&#38;", "A&", 10);
+}
+
+#[test]
+fn the_lines_marked_p_about_values() {
+    assert_eq!(check(&t1_with(-529)), Err(Refusal::Value));
+    assert_eq!(Machine::compile(&t1_with(-529)), Err(Refusal::Value));
+    assert_eq!(check(&t3_with(65535, -1)), Ok(()));
+    assert_eq!(check(&t3_with(1, 1)), Err(Refusal::Value));
+}
+
+#[test]
+fn t1_has_28_records_10_classes_and_9_states() {
+    assert_eq!(t1().len(), 28 * 8);
+    let machine = Machine::compile(&t1()).expect("compiles");
+    assert_eq!((machine.classes(), machine.states()), (10, 9));
+    assert_eq!((machine.longest(), machine.most_outputs()), (5, 5));
+    assert_eq!((machine.rules(), machine.has_default()), (3, true));
+    assert_eq!(machine.most_steps(13), 105);
+}
+
+#[test]
+fn a_pieces_end_is_not_the_inputs_end() {
+    let machine = Machine::compile(&t1()).expect("compiles");
+    let pieces = [units("&#"), units("38;")];
+    let (joined, _) = run(&machine, pieces.iter().map(Vec::as_slice)).expect("accepted");
+    assert_eq!(joined, units("&"));
+}
+
+#[test]
+fn an_open_session_holds_what_may_still_fit() {
+    let machine = Machine::compile(&t1()).expect("compiles");
+    let mut session = Session::fresh();
+    let mut output = [7; 20];
+    let fed = session.feed(&machine, &units("A&#3"), &mut output).unwrap();
+    assert_eq!((fed.count, fed.status), (1, Status::Open));
+    assert_eq!(output[..2], [65, 7]);
+    assert_eq!(
+        (session.count, session.received, session.consumed()),
+        (3, 4, 1)
+    );
+    assert_eq!(session.held, [38, 35, 51, 0, 0, 0, 0, 0]);
+}

@@ -1,0 +1,181 @@
+//! Each refusal through the safe interface, and that it changes nothing.
+
+use crate::tables::{default, plain, t1, t2};
+use cobbletwill::record::{output, range, rule, Record};
+use cobbletwill::{check, convert, raw, Machine, Refusal, Session, Status, WORDS};
+
+/// A rule that takes any characters, of a first character and a length.
+fn long(first: u16, length: u8) -> Vec<Record> {
+    let others = (1..length).map(|position| range(position, 0, 65535));
+    [rule(length, false), range(0, first, first)]
+        .into_iter()
+        .chain(others)
+        .collect()
+}
+
+/// 32 rules of length 8, the last of another, every second character from one.
+fn large(first: u16, last_length: u8) -> Vec<u8> {
+    let lengths = [[8; 31].as_slice(), &[last_length]].concat();
+    let rules = lengths.into_iter().zip((first..).step_by(2));
+    rules
+        .flat_map(|(length, first)| long(first, length))
+        .collect::<Vec<_>>()
+        .concat()
+}
+
+/// A table that is refused by each of 1 to 7.
+fn refused_tables() -> [Vec<u8>; 7] {
+    let one = || plain("a", false, "");
+    [
+        vec![1],
+        [rule(1, false), range(0, 98, 97)].concat(),
+        output(1).to_vec(),
+        rule(1, false).to_vec(),
+        default(0, 1).concat(),
+        [one(), vec![output(49); 9]].concat().concat(),
+        [one(), vec![output(65536)]].concat().concat(),
+    ]
+}
+
+#[test]
+fn tables_by_1_to_7() {
+    for (table, number) in refused_tables().iter().zip(1..) {
+        let refusal = Refusal::from_number(number).expect("a refusal");
+        assert_eq!(check(table), Err(refusal));
+        assert_eq!(Machine::compile(table), Err(refusal));
+        assert_eq!(convert(table, &[97], &mut [7; 8]), Err(refusal));
+    }
+}
+
+#[test]
+fn compiling_by_8_and_9_at_one_beyond_the_limits() {
+    let machine = Machine::compile(&large(0, 7)).expect("at the limits");
+    assert_eq!((machine.classes(), machine.states()), (64, 256));
+    assert_eq!(Machine::compile(&large(1, 7)), Err(Refusal::Classes));
+    assert_eq!(Machine::compile(&large(0, 8)), Err(Refusal::States));
+    assert_eq!(check(&large(1, 8)), Ok(()));
+}
+
+#[test]
+fn words_by_10_and_11() {
+    let mut short = vec![7; WORDS - 1];
+    assert_eq!(raw::compile(&t1(), &mut short), 10);
+    assert!(short.iter().all(|&word| word == 7));
+    assert_eq!(Machine::from_words(&short), Err(Refusal::UnsoundWords));
+    assert_eq!(Machine::from_words(&[0; WORDS]), Err(Refusal::UnsoundWords));
+    let machine = Machine::compile(&t1()).expect("compiles");
+    let longer = [machine.words(), &[7; 3]].concat();
+    assert_eq!(Machine::from_words(&longer), Ok(machine));
+}
+
+/// A feed that is refused and changes nothing.
+fn refused(session: Session, piece: &[u16], room: usize, refusal: Refusal) {
+    let machine = Machine::compile(&t1()).expect("compiles");
+    let (mut later, mut output) = (session, vec![7; room]);
+    assert_eq!(later.feed(&machine, piece, &mut output), Err(refusal));
+    assert_eq!((later, output), (session, vec![7; room]));
+}
+
+#[test]
+fn sessions_by_12_to_15() {
+    let fresh = Session::fresh();
+    let with = |change: fn(&mut Session)| {
+        let mut session = Session::fresh();
+        change(&mut session);
+        session
+    };
+    refused(
+        with(|session| session.produced = 1),
+        &[],
+        9,
+        Refusal::UnsoundSession,
+    );
+    refused(
+        with(|session| session.status = 3),
+        &[],
+        9,
+        Refusal::UnsoundSession,
+    );
+    refused(
+        with(|session| session.held[7] = 1),
+        &[],
+        9,
+        Refusal::UnsoundSession,
+    );
+    refused(with(|session| session.status = 1), &[], 9, Refusal::Ended);
+    refused(with(|session| session.status = 2), &[], 9, Refusal::Ended);
+    refused(
+        with(|session| session.received = 1 << 40),
+        &[97],
+        9,
+        Refusal::TooLong,
+    );
+    refused(fresh, &[97, 97], 9, Refusal::ShortOutput);
+}
+
+#[test]
+fn a_stopped_session_takes_nothing_more() {
+    let machine = Machine::compile(&t2()).expect("compiles");
+    let mut session = Session::fresh();
+    let fed = session
+        .feed(&machine, &[97, 98, 97], &mut [0; 3])
+        .expect("accepted");
+    assert_eq!((fed.count, fed.status), (1, Status::Stopped));
+    assert_eq!((session.received, session.consumed()), (1, 1));
+    assert_eq!(
+        session.feed(&machine, &[97], &mut [0; 3]),
+        Err(Refusal::Ended)
+    );
+    assert_eq!(session.finish(&machine, &mut [0; 3]), Err(Refusal::Ended));
+}
+
+#[test]
+fn raw_calls_leave_the_count_as_found_when_refused() {
+    let machine = Machine::compile(&t1()).expect("compiles");
+    let (mut session, mut count) = (Session::fresh(), 19);
+    assert_eq!(
+        raw::feed(&[], &mut session, &[97], &mut [0; 9], &mut count),
+        11
+    );
+    assert_eq!(
+        raw::feed(machine.words(), &mut session, &[97], &mut [], &mut count),
+        15
+    );
+    assert_eq!((session, count), (Session::fresh(), 19));
+    assert_eq!(
+        raw::feed(
+            machine.words(),
+            &mut session,
+            &[97],
+            &mut [0; 9],
+            &mut count
+        ),
+        raw::OPEN
+    );
+    assert_eq!(count, 1);
+    assert_eq!(
+        raw::finish(machine.words(), &mut session, &mut [], &mut count),
+        raw::OK
+    );
+    assert_eq!(count, 0);
+}
+
+#[test]
+fn numbers_and_words() {
+    for (refusal, number) in Refusal::ALL.into_iter().zip(1..) {
+        assert_eq!(refusal.number(), number);
+        assert_eq!(Refusal::from_number(number), Some(refusal));
+    }
+    assert_eq!(Refusal::from_number(0), None);
+    assert_eq!(Refusal::from_number(64), None);
+    assert_eq!(Refusal::Classes.to_string(), "refused 8: a 65th class");
+}
+
+#[test]
+fn a_session_has_the_headers_layout() {
+    assert_eq!(size_of::<Session>(), 48);
+    assert_eq!(std::mem::offset_of!(Session, steps), 16);
+    assert_eq!(std::mem::offset_of!(Session, status), 24);
+    assert_eq!(std::mem::offset_of!(Session, count), 28);
+    assert_eq!(std::mem::offset_of!(Session, held), 30);
+}

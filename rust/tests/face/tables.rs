@@ -1,0 +1,68 @@
+//! The example tables of document 01.
+
+use cobbletwill::record::{output, range, rule, term, Record, DEFAULT};
+
+/// One character at each position from 0.
+fn spelled(text: &str) -> Vec<Record> {
+    let units = text.encode_utf16().zip(0..);
+    units
+        .map(|(unit, position)| range(position, unit, unit))
+        .collect()
+}
+
+/// A text that is written as it stands.
+fn text(text: &str) -> Vec<Record> {
+    text.encode_utf16()
+        .map(|unit| output(i32::from(unit)))
+        .collect()
+}
+
+/// A rule that takes one text and writes another.
+pub fn plain(pattern: &str, anchored: bool, written: &str) -> Vec<Record> {
+    let head = rule(pattern.len() as u8, anchored);
+    [vec![head], spelled(pattern), text(written)].concat()
+}
+
+/// The default that writes a constant plus a coefficient times x0.
+pub fn default(constant: i32, coefficient: i16) -> Vec<Record> {
+    vec![DEFAULT, output(constant), term(0, coefficient)]
+}
+
+/// T1, with a constant for its -528.
+pub fn t1_with(constant: i32) -> Vec<u8> {
+    let mut digits = plain("&#00;", false, "");
+    digits[3] = range(2, 48, 57);
+    digits[4] = range(3, 48, 57);
+    digits.extend([output(constant), term(2, 10), term(3, 1)]);
+    let rules = [
+        plain("&#00;", false, "&#00;"),
+        digits,
+        plain("&#", true, "&#"),
+    ];
+    [rules.concat(), default(0, 1)].concat().concat()
+}
+
+/// T1.
+pub fn t1() -> Vec<u8> {
+    t1_with(-528)
+}
+
+/// T2.
+pub fn t2() -> Vec<u8> {
+    [plain("a", true, "X"), plain("a", false, "Y")]
+        .concat()
+        .concat()
+}
+
+/// T3, with a constant and a coefficient for its default.
+pub fn t3_with(constant: i32, coefficient: i16) -> Vec<u8> {
+    let rules = [plain("ab", false, "1"), plain("aba", false, "2")];
+    [rules.concat(), default(constant, coefficient)]
+        .concat()
+        .concat()
+}
+
+/// T3.
+pub fn t3() -> Vec<u8> {
+    t3_with(0, 1)
+}

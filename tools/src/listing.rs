@@ -1,0 +1,143 @@
+//! A table's records in words, and the verdict of the proved library.
+
+use cobbletwill::record::Record;
+use cobbletwill::{Machine, Refusal};
+
+use crate::place::{opens_group, place, Place};
+
+/// The table's records, one a line, group by group, and the verdict.
+pub fn listing(table: &[u8]) -> String {
+    let refused = Machine::compile(table).err();
+    let marked = refused.map(|refusal| (place(table, refusal), refusal));
+    let (records, rest) = table.as_chunks();
+    let mut text = String::new();
+    let mut rules = 0;
+    for (number, record) in records.iter().enumerate() {
+        if opens_group(record) {
+            text += &heading(record, &mut rules);
+        }
+        text += &line(number, record);
+        if let Some((Place::Record(at), refusal)) = marked {
+            if at == number {
+                text += &format!("  <- refused {}", refusal.number());
+            }
+        }
+        text += "\n";
+    }
+    if !rest.is_empty() {
+        text += &format!("left over\n      {}\n", hexadecimal(rest));
+    }
+    text + &verdict(table)
+}
+
+/// The name of a group, of which a rule's number is that of the rules before it.
+fn heading(record: &Record, rules: &mut usize) -> String {
+    if record[0] == 5 {
+        return "default\n".to_owned();
+    }
+    *rules += 1;
+    format!("rule {}\n", *rules - 1)
+}
+
+/// A record's number, its bytes and what it says.
+fn line(number: usize, record: &Record) -> String {
+    format!("{number:4}  {}  {}", hexadecimal(record), describe(record))
+}
+
+/// Bytes as two hexadecimal digits each.
+fn hexadecimal(bytes: &[u8]) -> String {
+    let digits: Vec<String> = bytes.iter().map(|byte| format!("{byte:02x}")).collect();
+    digits.join(" ")
+}
+
+/// What a record says, whether it is accepted or not.
+fn describe(record: &Record) -> String {
+    let [kind, first, second, _, b4, b5, b6, b7] = *record;
+    match kind {
+        1 if second == 1 => format!("rule of length {first}, anchored"),
+        1 => format!("rule of length {first}"),
+        2 => {
+            let (lowest, highest) = (u16::from_le_bytes([b4, b5]), u16::from_le_bytes([b6, b7]));
+            format!("position {first} takes {}", characters(lowest, highest))
+        }
+        3 => {
+            let constant = i32::from_le_bytes([b4, b5, b6, b7]);
+            format!("writes {}", shown(constant))
+        }
+        4 => {
+            let coefficient = i16::from_le_bytes([b4, b5]);
+            format!("plus {coefficient} times x{first}")
+        }
+        5 => "default".to_owned(),
+        _ => format!("unknown kind {kind}"),
+    }
+}
+
+/// The characters of a range.
+fn characters(lowest: u16, highest: u16) -> String {
+    let (lowest, highest) = (i32::from(lowest), i32::from(highest));
+    match lowest == highest {
+        true => shown(lowest),
+        false => format!("{} to {}", shown(lowest), shown(highest)),
+    }
+}
+
+/// A number, with the visible ASCII character that it stands for.
+fn shown(number: i32) -> String {
+    match u8::try_from(number) {
+        Ok(byte @ b'!'..=b'~') => format!("{number} '{}'", char::from(byte)),
+        _ => number.to_string(),
+    }
+}
+
+/// What compiling says of a table: its measures, or the refusal with its place.
+pub fn verdict(table: &[u8]) -> String {
+    match Machine::compile(table) {
+        Ok(machine) => measures(&machine),
+        Err(refusal) => format!("{refusal}\n{}\n", where_refused(table, refusal)),
+    }
+}
+
+/// The measures of a compiled table.
+fn measures(machine: &Machine) -> String {
+    let default = match machine.has_default() {
+        true => "a default",
+        false => "no default",
+    };
+    let (rules, classes, states) = (machine.rules(), machine.classes(), machine.states());
+    let (longest, most_outputs) = (machine.longest(), machine.most_outputs());
+    format!(
+        "accepted: rules {rules}, {default}, classes {classes}, states {states}, \
+         L {longest}, E {most_outputs}\n"
+    )
+}
+
+/// The place of a refusal in words.
+fn where_refused(table: &[u8], refusal: Refusal) -> String {
+    let records = table.as_chunks().0;
+    match place(table, refusal) {
+        Place::Bytes(count) => format!("{count} of 8 bytes after the last whole record"),
+        Place::Record(number) => format!("at record {number}, in {}", group_of(records, number)),
+        Place::End if records.is_empty() => "at the table's end".to_owned(),
+        Place::End => {
+            let last = group_of(records, records.len() - 1);
+            format!("at the table's end, after {last}")
+        }
+        Place::Rule(number) => {
+            format!("first with rule {number}; direct conversion accepts the table")
+        }
+    }
+}
+
+/// The name of the group of a record.
+fn group_of(records: &[Record], number: usize) -> String {
+    let before = &records[..=number];
+    match before.iter().rfind(|record| opens_group(record)) {
+        None => "no group".to_owned(),
+        Some([5, ..]) => "the default".to_owned(),
+        Some(_) => {
+            let rules = before.iter().filter(|record| record[0] == 1).count();
+            format!("rule {}", rules - 1)
+        }
+    }
+}

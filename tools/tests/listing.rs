@@ -1,0 +1,222 @@
+//! Listings, written by hand: of an accepted table and of one for each refusal.
+
+use cobbletwill::record::{output, range, rule, term, Record, DEFAULT};
+use tools::listing::{listing, verdict};
+use tools::source;
+
+/// The records of a table are listed so.
+fn lists(records: &[Record], expected: &[&str]) {
+    let found = listing(&records.concat());
+    assert_eq!(found.lines().collect::<Vec<_>>(), expected);
+}
+
+/// A source's table has this verdict.
+fn says(source: &str, expected: &[&str]) {
+    let table = source::table(source).expect("a source");
+    let found = verdict(&table);
+    assert_eq!(found.lines().collect::<Vec<_>>(), expected, "{source}");
+}
+
+const FIELD: &str = "refused 2: unknown kind, a field outside its own range, \
+                     a byte that must be zero and isn't, lowest above highest";
+const PLACE: &str = "refused 3: a record where its kind can't come, a position not below K, \
+                     ranges or terms out of order";
+const UNFILLED: &str = "refused 4: a position skipped, or unfilled when the ranges end";
+const TOO_MANY: &str = "refused 6: a 33rd rule, fifth range of a position, ninth output character";
+const VALUE: &str = "refused 7: an output value may leave 0 to 65535";
+
+#[test]
+fn an_accepted_table() {
+    lists(
+        &[
+            rule(2, false),
+            range(0, 97, 97),
+            range(1, 48, 57),
+            range(1, 256, 9999),
+            output(-48),
+            term(0, 300),
+            term(1, -1),
+            rule(1, true),
+            range(0, 10, 10),
+            DEFAULT,
+            output(63),
+        ],
+        &[
+            "rule 0",
+            "   0  01 02 00 00 00 00 00 00  rule of length 2",
+            "   1  02 00 00 00 61 00 61 00  position 0 takes 97 'a'",
+            "   2  02 01 00 00 30 00 39 00  position 1 takes 48 '0' to 57 '9'",
+            "   3  02 01 00 00 00 01 0f 27  position 1 takes 256 to 9999",
+            "   4  03 00 00 00 d0 ff ff ff  writes -48",
+            "   5  04 00 00 00 2c 01 00 00  plus 300 times x0",
+            "   6  04 01 00 00 ff ff 00 00  plus -1 times x1",
+            "rule 1",
+            "   7  01 01 01 00 00 00 00 00  rule of length 1, anchored",
+            "   8  02 00 00 00 0a 00 0a 00  position 0 takes 10",
+            "default",
+            "   9  05 00 00 00 00 00 00 00  default",
+            "  10  03 00 00 00 3f 00 00 00  writes 63 '?'",
+            "accepted: rules 2, a default, classes 9, states 4, L 2, E 1",
+        ],
+    );
+}
+
+#[test]
+fn t2() {
+    lists(
+        &[
+            rule(1, true),
+            range(0, 97, 97),
+            output(88),
+            rule(1, false),
+            range(0, 97, 97),
+            output(89),
+        ],
+        &[
+            "rule 0",
+            "   0  01 01 01 00 00 00 00 00  rule of length 1, anchored",
+            "   1  02 00 00 00 61 00 61 00  position 0 takes 97 'a'",
+            "   2  03 00 00 00 58 00 00 00  writes 88 'X'",
+            "rule 1",
+            "   3  01 01 00 00 00 00 00 00  rule of length 1",
+            "   4  02 00 00 00 61 00 61 00  position 0 takes 97 'a'",
+            "   5  03 00 00 00 59 00 00 00  writes 89 'Y'",
+            "accepted: rules 2, no default, classes 3, states 2, L 1, E 1",
+        ],
+    );
+}
+
+#[test]
+fn refusal_1() {
+    let table = [&rule(1, false)[..], &[2, 0]].concat();
+    let expected = [
+        "rule 0",
+        "   0  01 01 00 00 00 00 00 00  rule of length 1",
+        "left over",
+        "      02 00",
+        "refused 1: length no multiple of 8",
+        "2 of 8 bytes after the last whole record",
+    ];
+    assert_eq!(listing(&table).lines().collect::<Vec<_>>(), expected);
+}
+
+#[test]
+fn refusal_2() {
+    lists(
+        &[rule(1, false), range(0, 98, 97), [9; 8]],
+        &[
+            "rule 0",
+            "   0  01 01 00 00 00 00 00 00  rule of length 1",
+            "   1  02 00 00 00 62 00 61 00  position 0 takes 98 'b' to 97 'a'  <- refused 2",
+            "   2  09 09 09 09 09 09 09 09  unknown kind 9",
+            FIELD,
+            "at record 1, in rule 0",
+        ],
+    );
+    lists(
+        &[[0; 8]],
+        &[
+            "   0  00 00 00 00 00 00 00 00  unknown kind 0  <- refused 2",
+            FIELD,
+            "at record 0, in no group",
+        ],
+    );
+}
+
+#[test]
+fn refusal_3() {
+    lists(
+        &[rule(1, false), range(0, 97, 97), term(0, 1)],
+        &[
+            "rule 0",
+            "   0  01 01 00 00 00 00 00 00  rule of length 1",
+            "   1  02 00 00 00 61 00 61 00  position 0 takes 97 'a'",
+            "   2  04 00 00 00 01 00 00 00  plus 1 times x0  <- refused 3",
+            PLACE,
+            "at record 2, in rule 0",
+        ],
+    );
+}
+
+#[test]
+fn refusal_4_at_a_record_and_at_the_tables_end() {
+    let unfilled = [rule(2, false), range(0, 97, 97), output(1)];
+    lists(
+        &unfilled,
+        &[
+            "rule 0",
+            "   0  01 02 00 00 00 00 00 00  rule of length 2",
+            "   1  02 00 00 00 61 00 61 00  position 0 takes 97 'a'",
+            "   2  03 00 00 00 01 00 00 00  writes 1  <- refused 4",
+            UNFILLED,
+            "at record 2, in rule 0",
+        ],
+    );
+    lists(
+        &unfilled[..2],
+        &[
+            "rule 0",
+            "   0  01 02 00 00 00 00 00 00  rule of length 2",
+            "   1  02 00 00 00 61 00 61 00  position 0 takes 97 'a'",
+            UNFILLED,
+            "at the table's end, after rule 0",
+        ],
+    );
+}
+
+#[test]
+fn refusal_5() {
+    lists(
+        &[DEFAULT],
+        &[
+            "default",
+            "   0  05 00 00 00 00 00 00 00  default",
+            "refused 5: no rule",
+            "at the table's end, after the default",
+        ],
+    );
+    lists(&[], &["refused 5: no rule", "at the table's end"]);
+}
+
+#[test]
+fn refusal_6() {
+    says("\"[acegi]\" ==> [];", &[TOO_MANY, "at record 5, in rule 0"]);
+    let nine = "\"a\" ==> [1]; \"b\" ==> [1, 2, 3, 4, 5, 6, 7, 8, 9];";
+    says(nine, &[TOO_MANY, "at record 13, in rule 1"]);
+    let rules = "\"a\" ==> [];".repeat(33);
+    says(&rules, &[TOO_MANY, "at record 64, in rule 32"]);
+}
+
+#[test]
+fn refusal_7_in_a_rule_and_in_the_default() {
+    let t1 = "\"&#00;\" ==> [38, 35, 48, 48, 59];\n\
+              \"&#[0-9][0-9];\" ==> [10 * x2 + x3 - 529];\n\
+              \"&#$\" ==> [38, 35];\n\
+              else ==> [x0];";
+    says(t1, &[VALUE, "at record 17, in rule 1"]);
+    let t3 = "\"ab\" ==> [49]; \"aba\" ==> [50]; else ==> [x0, x0 + 1];";
+    says(t3, &[VALUE, "at record 12, in the default"]);
+}
+
+/// 32 rules of a length, every second character first from one on, then any.
+fn rules(first: u16, length: u8) -> Vec<u8> {
+    let rule = |number: u16| {
+        let first = first + 2 * number;
+        let any = (1..length).map(|position| range(position, 0, 65535));
+        let head = [rule(length, false), range(0, first, first)];
+        head.into_iter().chain(any).collect::<Vec<_>>().concat()
+    };
+    (0..32).flat_map(rule).collect()
+}
+
+#[test]
+fn refusals_8_and_9() {
+    let place = "first with rule 31; direct conversion accepts the table";
+    let found = verdict(&rules(1, 1));
+    assert_eq!(found, format!("refused 8: a 65th class\n{place}\n"));
+    let found = verdict(&rules(0, 8));
+    assert_eq!(found, format!("refused 9: a 257th state\n{place}\n"));
+    let found = verdict(&rules(0, 7));
+    let measures = "rules 32, no default, classes 64, states 225, L 7, E 0";
+    assert_eq!(found, format!("accepted: {measures}\n"));
+}

@@ -1,0 +1,178 @@
+//! The tables of `tables/`: source, records, input and expected text agree, for
+//! direct conversion and for sessions in pieces.
+
+use std::collections::BTreeSet;
+use std::fs;
+use std::path::{Path, PathBuf};
+
+use cobbletwill::{convert, run, Ending, Machine, MOST_OUTPUTS};
+use tools::source;
+
+/// The tables of river stations, whose numbers are kept.
+const STATION: [&str; 5] = ["centimetres", "decimal-comma", "nmea", "sdi12", "shef"];
+/// The tables that write other numbers than they read.
+const OTHER: [&str; 1] = ["html-decimal"];
+
+/// The folder of the tables.
+fn folder() -> PathBuf {
+    Path::new(env!("CARGO_MANIFEST_DIR")).join("../tables")
+}
+
+/// A file of a table.
+fn file(name: &str, file: &str) -> Vec<u8> {
+    let path = folder().join(name).join(file);
+    fs::read(&path).unwrap_or_else(|fault| panic!("{}: {fault}", path.display()))
+}
+
+/// A text file of a table, one character a byte.
+fn text(name: &str, of: &str) -> Vec<u16> {
+    file(name, of).into_iter().map(u16::from).collect()
+}
+
+/// All tables.
+fn names() -> impl Iterator<Item = &'static str> {
+    STATION.into_iter().chain(OTHER)
+}
+
+/// The machine of a table.
+fn machine(name: &str) -> Machine {
+    Machine::compile(&file(name, "rules.tab")).expect("it compiles")
+}
+
+/// The text that direct conversion gives for an input, to whose end it comes.
+fn direct(table: &[u8], input: &[u16]) -> Vec<u16> {
+    let mut output = vec![0; MOST_OUTPUTS * input.len()];
+    let answer = convert(table, input, &mut output).expect("accepted");
+    assert_eq!((answer.ending, answer.place), (Ending::Closed, input.len()));
+    output.truncate(answer.count);
+    output
+}
+
+/// Pieces give a text; the steps, which are within their bound.
+fn fed(machine: &Machine, pieces: &[&[u16]], expected: &[u16]) -> u64 {
+    let (joined, session) = run(machine, pieces.iter().copied()).expect("accepted");
+    assert_eq!(joined, expected);
+    let length = pieces.concat().len() as u64;
+    assert_eq!((session.status, session.received), (1, length));
+    assert!(session.steps <= machine.most_steps(length));
+    session.steps
+}
+
+#[test]
+fn every_table_is_named_here() {
+    let entries = fs::read_dir(folder()).expect("a folder");
+    let folders = entries
+        .map(|entry| entry.expect("an entry"))
+        .filter(|entry| entry.path().is_dir())
+        .map(|entry| entry.file_name().into_string().expect("a name"));
+    let named: BTreeSet<String> = names().map(str::to_owned).collect();
+    assert_eq!(folders.collect::<BTreeSet<_>>(), named);
+}
+
+#[test]
+fn records_are_those_of_the_source() {
+    for name in names() {
+        let source = String::from_utf8(file(name, "rules.txt")).expect("UTF-8");
+        let table = source::table(&source).unwrap_or_else(|fault| panic!("{name}: {fault}"));
+        assert!(table == file(name, "rules.tab"), "{name}");
+    }
+}
+
+#[test]
+fn every_table_compiles_with_the_measures_that_its_page_names() {
+    for name in names() {
+        let machine = machine(name);
+        let measures = format!(
+            "Measures: {} classes, {} states, L {}, E {}.",
+            machine.classes(),
+            machine.states(),
+            machine.longest(),
+            machine.most_outputs()
+        );
+        let page = String::from_utf8(file(name, "README.md")).expect("UTF-8");
+        assert!(page.contains(&measures), "{name}: {measures}");
+    }
+}
+
+#[test]
+fn direct_conversion_gives_the_expected_text() {
+    for name in names() {
+        let text_of_input = direct(&file(name, "rules.tab"), &text(name, "input.txt"));
+        assert_eq!(text_of_input, text(name, "expected.txt"), "{name}");
+    }
+}
+
+#[test]
+fn sessions_give_the_expected_text_however_the_input_is_cut() {
+    for name in names() {
+        let (input, expected) = (text(name, "input.txt"), text(name, "expected.txt"));
+        let machine = machine(name);
+        let steps = fed(&machine, &[&input], &expected);
+        for place in 0..=input.len() {
+            let (first, second) = input.split_at(place);
+            assert_eq!(fed(&machine, &[first, second], &expected), steps, "{name}");
+        }
+        let single: Vec<&[u16]> = input.chunks(1).collect();
+        assert_eq!(fed(&machine, &single, &expected), steps, "{name}");
+    }
+}
+
+/// The numbers of a text as far as no table may alter them: its runs of digits
+/// and its minus signs, in order.
+fn numbers(text: &[u16]) -> Vec<String> {
+    let text: String = String::from_utf16(text).expect("bytes").replace('-', " - ");
+    let other = |c: char| !c.is_ascii_digit() && c != '-';
+    let parts = text.split(other).filter(|part| !part.is_empty());
+    parts.map(str::to_owned).collect()
+}
+
+/// Numbers from a seed (Knuth's MMIX multiplier and increment).
+struct Random(u64);
+
+impl Random {
+    /// A number below a bound.
+    fn below(&mut self, bound: usize) -> usize {
+        let next = self.0.wrapping_mul(6_364_136_223_846_793_005);
+        self.0 = next.wrapping_add(1_442_695_040_888_963_407);
+        (self.0 >> 33) as usize % bound
+    }
+
+    /// Short parts of a text, put together anew.
+    fn recombined<'a>(&mut self, text: &'a [u16]) -> Vec<&'a [u16]> {
+        let parts = 1 + self.below(12);
+        let part = |_| {
+            let start = self.below(text.len());
+            let length = 1 + self.below(6);
+            &text[start..text.len().min(start + length)]
+        };
+        (0..parts).map(part).collect()
+    }
+}
+
+#[test]
+fn numbers_are_told_apart_by_all_but_digits() {
+    let units = |text: &str| text.encode_utf16().collect::<Vec<_>>();
+    assert_eq!(numbers(&units("0+3.14-22")), ["0", "3", "14", "-", "22"]);
+    assert_ne!(numbers(&units("12 34")), numbers(&units("1234")));
+
+    // A table that drops the plus sign joins two numbers.
+    let dropping = source::table("\"+[.0-9]\" ==> [x1]; else ==> [x0];").expect("a source");
+    let input = units("0+3.14");
+    assert_ne!(numbers(&input), numbers(&direct(&dropping, &input)));
+}
+
+#[test]
+fn no_station_table_alters_joins_or_parts_a_number() {
+    let mut random = Random(2026);
+    for name in STATION {
+        let (table, machine) = (file(name, "rules.tab"), machine(name));
+        let samples = text(name, "input.txt");
+        for _ in 0..20_000 {
+            let pieces = random.recombined(&samples);
+            let input = pieces.concat();
+            let converted = direct(&table, &input);
+            assert_eq!(numbers(&input), numbers(&converted), "{name}: {input:?}");
+            fed(&machine, &pieces, &converted);
+        }
+    }
+}
