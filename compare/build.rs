@@ -1,4 +1,4 @@
-//! With the feature `flex`, links a scanner that flex generates.
+//! With the feature `flex`, links the scanners that flex generates.
 
 use std::env;
 use std::process::Command;
@@ -6,7 +6,7 @@ use std::process::Command;
 fn main() {
     println!("cargo::rerun-if-changed=build.rs");
     if env::var_os("CARGO_FEATURE_FLEX").is_some() {
-        build_scanner();
+        build_scanners();
     }
 }
 
@@ -15,18 +15,25 @@ fn variable(name: &str) -> String {
     env::var(name).expect("cargo sets the variable")
 }
 
-/// Generates `flex/t1.l`'s scanner with flex's fastest tables, compiles it and
-/// links it. The parts are written to cargo's folder.
-fn build_scanner() {
+/// Generates `flex/t1.l`'s scanner twice, with flex's usual tables and with its
+/// fastest, compiles and links both. The parts are written to cargo's folder.
+fn build_scanners() {
     let folder = variable("OUT_DIR");
     let part = |name: &str| format!("{folder}/{name}");
-    let (source, object, archive) = (part("t1.c"), part("t1.o"), part("libt1.a"));
-    run("flex", &["-Cfa", "-o", &source, "flex/t1.l"]);
-    run(
-        "cc",
-        &["-O3", "-Wall", "-Wextra", "-c", &source, "-o", &object],
-    );
-    run("ar", &["rcs", &archive, &object]);
+    let archive = part("libt1.a");
+    for (name, tables) in [("usual", "-Cem"), ("fastest", "-Cfa")] {
+        let (source, object) = (part(&format!("{name}.c")), part(&format!("{name}.o")));
+        let prefix = format!("-P{name}");
+        run("flex", &[tables, &prefix, "-o", &source, "flex/t1.l"]);
+        let entry = format!("-Dt1_scan=t1_scan_{name}");
+        run(
+            "cc",
+            &[
+                "-O3", "-Wall", "-Wextra", &entry, "-c", &source, "-o", &object,
+            ],
+        );
+        run("ar", &["rcs", &archive, &object]);
+    }
     println!("cargo::rustc-link-search=native={folder}");
     println!("cargo::rustc-link-lib=static=t1");
     println!("cargo::rerun-if-changed=flex/t1.l");

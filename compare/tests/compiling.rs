@@ -9,7 +9,7 @@ use compare::face::{check, compile, is_sound, OK};
 use reference::builder::TableBuilder;
 use reference::compile::{compile as compile_by_reference, compiled};
 use reference::random::Random;
-use reference::samples::{lookahead, t1, t1_with, t2, t3, t3_with_default};
+use reference::samples::{lookahead, refused_tables, rules, t1, t1_with, t2, t3, t3_with_default};
 use reference::words::{Words, WORDS};
 
 /// The seed of the random tables.
@@ -52,17 +52,6 @@ fn accepted(table: &[u8], header: [u16; 6]) -> Vec<u16> {
 /// A table that is refused, by a number.
 fn refused(table: &[u8], number: u32) {
     assert_eq!(compare(table, WORDS + 5).0, number);
-}
-
-/// A rule of length 1.
-fn rule() -> TableBuilder {
-    TableBuilder::new().rule(1).spelled(0, "a")
-}
-
-/// So many rules of length 1.
-fn rules(count: usize) -> TableBuilder {
-    let more = |table: TableBuilder, _| table.rule(1).spelled(0, "a");
-    (0..count).fold(TableBuilder::new(), more)
 }
 
 #[test]
@@ -125,7 +114,7 @@ fn rules_positions_ranges_and_outputs_at_their_limits_and_one_beyond() {
     accepted(&ranges(4).bytes(), [2, 8, 1, 0, 1, 0]);
     refused(&ranges(5).bytes(), 6);
 
-    for (group, default) in [(rule(), 0), (rule().default_group(), 1)] {
+    for (group, default) in [(rules(1), 0), (rules(1).default_group(), 1)] {
         let outputs = |count| (0..count).fold(group.clone(), TableBuilder::output).bytes();
         accepted(&outputs(8), [2, 3, 1, 8, 1, default]);
         refused(&outputs(9), 6);
@@ -155,23 +144,13 @@ fn the_last_words_of_the_last_blocks() {
 
 #[test]
 fn each_refusal_of_the_table() {
-    let tables = [
-        vec![1],
-        TableBuilder::new().rule(1).range(0, 98, 97).bytes(),
-        TableBuilder::new().output(1).bytes(),
-        TableBuilder::new().rule(1).bytes(),
-        TableBuilder::new().copying_default().bytes(),
-        rules(33).bytes(),
-        rule().output(65536).bytes(),
-        large_table(1, 7),
-        large_table(0, 8),
-    ];
-    for (table, number) in tables.iter().zip(1..) {
-        refused(table, number);
-        assert_eq!(compare(table, WORDS).0, number);
-        assert_eq!(compare(table, WORDS - 1).0, 10);
+    let large = [(8, large_table(1, 7)), (9, large_table(0, 8))];
+    for (number, table) in refused_tables().into_iter().chain(large) {
+        let number = u32::from(number);
+        refused(&table, number);
+        assert_eq!(compare(&table, WORDS).0, number);
+        assert_eq!(compare(&table, WORDS - 1).0, 10);
     }
-    refused(&[], 5);
 }
 
 #[test]

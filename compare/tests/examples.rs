@@ -6,7 +6,7 @@ use compare::cases::pattern;
 use compare::face::{check, convert, converted};
 use compare::face::{compile, Session, OK, OPEN, STOPPED};
 use reference::builder::{characters, TableBuilder};
-use reference::samples::{t1, t1_with, t2, t3, t3_with_default};
+use reference::samples::{refused_tables, rules, t1, t1_with, t2, t3, t3_with_default};
 use reference::words::WORDS;
 
 /// Converts an input into a long buffer and looks at all that the call leaves:
@@ -122,26 +122,13 @@ fn the_limits_on_classes_and_states_do_not_apply_to_direct_conversion() {
     expect(&table_of_257_states(), &[31; 17], &[], STOPPED, 16);
 }
 
-/// A rule of length 1.
-fn rule() -> TableBuilder {
-    TableBuilder::new().rule(1).spelled(0, "a")
-}
-
 #[test]
 fn each_refusal_of_the_table_answers_its_number_and_changes_nothing() {
-    let tables = [
-        vec![1],
-        TableBuilder::new().rule(1).range(0, 98, 97).bytes(),
-        TableBuilder::new().output(1).bytes(),
-        TableBuilder::new().rule(1).bytes(),
-        TableBuilder::new().copying_default().bytes(),
-        (0..9).fold(rule(), TableBuilder::output).bytes(),
-        rule().output(65536).bytes(),
-    ];
-    for (table, number) in tables.iter().zip(1..) {
-        assert_eq!(check(table), number);
-        expect_refused(table, &[97], 8, number);
-        expect_refused(table, &[], 0, number);
+    for (number, table) in refused_tables() {
+        let number = u32::from(number);
+        assert_eq!(check(&table), number);
+        expect_refused(&table, &[97], 8, number);
+        expect_refused(&table, &[], 0, number);
     }
 }
 
@@ -176,7 +163,7 @@ fn empty_buffers() {
 
 #[test]
 fn a_table_without_output_writes_nothing_into_an_empty_buffer() {
-    let table = rule().bytes();
+    let table = rules(1).bytes();
     let (mut place, mut count) = (17, 19);
     assert_eq!(
         convert(&table, &[97; 9], &mut [], &mut place, &mut count),

@@ -15,7 +15,7 @@
 //! - [`refusal`], [`lengths`]: the refusals, and the two that look at lengths alone
 //!
 //! For tests and comparisons: [`builder`] writes tables, [`random`] draws
-//! numbers from a seed, [`samples`] has the example tables and random ones.
+//! numbers from a seed, [`samples`] has the example tables, refused and random ones.
 
 #![forbid(unsafe_code)]
 #![warn(missing_docs)]

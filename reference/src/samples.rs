@@ -1,4 +1,5 @@
-//! The example tables of document 01, and random tables and inputs.
+//! The example tables of document 01, refused tables, and random tables and
+//! inputs.
 
 use crate::builder::TableBuilder;
 use crate::random::Random;
@@ -79,6 +80,34 @@ pub fn lookahead() -> Vec<u8> {
         .text("Z")
         .copying_default()
         .bytes()
+}
+
+/// The table with one more rule: `a` writes nothing.
+pub fn rule_a(table: TableBuilder) -> TableBuilder {
+    table.rule(1).spelled(0, "a")
+}
+
+/// So many rules of [`rule_a`].
+pub fn rules(count: usize) -> TableBuilder {
+    (0..count).fold(TableBuilder::new(), |table, _| rule_a(table))
+}
+
+/// Tables that compiling and direct conversion refuse, by 1 to 7, each with the
+/// number that document 01's "Refusals by who causes them" gives it.
+pub fn refused_tables() -> [(u8, Vec<u8>); 10] {
+    let new = TableBuilder::new;
+    [
+        (1, vec![1]),
+        (2, new().rule(1).range(0, 98, 97).bytes()),
+        (3, new().output(1).bytes()),
+        (4, new().rule(1).bytes()),
+        (5, Vec::new()),
+        (5, new().copying_default().bytes()),
+        (6, rules(33).bytes()),
+        (6, (0..9).fold(rules(1), TableBuilder::output).bytes()),
+        (7, rules(1).output(-1).bytes()),
+        (7, rules(1).output(65536).bytes()),
+    ]
 }
 
 /// A random table that keeps the rules for direct conversion. Its rules share a

@@ -4,7 +4,7 @@ use reference::builder::{characters, encode, TableBuilder};
 use reference::direct::{self, Conversion};
 use reference::meaning::{convert, Ending};
 use reference::random::Random;
-use reference::samples::{random_input, random_table};
+use reference::samples::{lookahead, random_input, random_table};
 use reference::table::{Group, Table};
 
 /// Definition 7 read a second time: lengths rising, then rule numbers, then the
@@ -86,8 +86,8 @@ fn definition_7_agrees_with_a_second_reading_and_direct_conversion_with_both() {
 }
 
 /// The text that a table without faults gives.
-fn text(table: TableBuilder, input: &str) -> String {
-    let table = Table::read(&table.bytes()).unwrap();
+fn text(table: &[u8], input: &str) -> String {
+    let table = Table::read(table).unwrap();
     String::from_utf16(&convert(&table, &characters(input)).text).unwrap()
 }
 
@@ -104,21 +104,13 @@ fn the_shortest_is_chosen_then_the_lowest_number() {
         .spelled(0, "a")
         .text("3")
         .copying_default();
-    assert_eq!(text(longer_first, "abab"), "1b1b");
+    assert_eq!(text(&longer_first.bytes(), "abab"), "1b1b");
 }
 
 #[test]
 fn an_anchored_rule_fits_at_the_last_characters_only() {
-    let anchored_first = TableBuilder::new()
-        .anchored(1)
-        .spelled(0, "a")
-        .text("X")
-        .rule(2)
-        .spelled(0, "aa")
-        .text("Y")
-        .copying_default();
-    assert_eq!(text(anchored_first.clone(), "aaa"), "YX");
-    assert_eq!(text(anchored_first, "aaaa"), "YY");
+    assert_eq!(text(&lookahead(), "aaa"), "YX");
+    assert_eq!(text(&lookahead(), "aaaa"), "YY");
 }
 
 #[test]
@@ -128,5 +120,5 @@ fn the_default_is_no_rule_and_loses_to_a_longer_one() {
         .range(0, 0, 65535)
         .range(1, 0, 65535)
         .copying_default();
-    assert_eq!(text(pair, "abcde"), "e");
+    assert_eq!(text(&pair.bytes(), "abcde"), "e");
 }

@@ -4,7 +4,7 @@
 use reference::builder::TableBuilder;
 use reference::compile::{compile, compiled};
 use reference::refusal::Refusal;
-use reference::samples::{t1, t2};
+use reference::samples::{refused_tables, rule_a, rules, t1, t2};
 use reference::table::Table;
 use reference::words::WORDS;
 
@@ -16,16 +16,6 @@ fn refused(table: &[u8]) -> u8 {
 /// The number that compiling answers for a table being written.
 fn refused_table(table: TableBuilder) -> u8 {
     refused(&table.bytes())
-}
-
-/// A rule of length 1 that takes `a`.
-fn rule_a(table: TableBuilder) -> TableBuilder {
-    table.rule(1).spelled(0, "a")
-}
-
-/// So many rules of length 1.
-fn rules(count: usize) -> TableBuilder {
-    (0..count).fold(TableBuilder::new(), |table, _| rule_a(table))
 }
 
 /// A table without records.
@@ -336,20 +326,10 @@ fn order_7_then_8_then_9() {
 
 #[test]
 fn refused_by_1_to_9_compiling_leaves_its_words_zero_and_those_beyond_as_found() {
-    let tables = [
-        vec![1],
-        new().rule(1).range(0, 98, 97).bytes(),
-        new().output(1).bytes(),
-        new().rule(1).bytes(),
-        Vec::new(),
-        rules(33).bytes(),
-        rules(1).output(-1).bytes(),
-        large_table(true, 0),
-        large_table(false, 0),
-    ];
-    for (table, number) in tables.iter().zip(1..) {
+    let large = [(8, large_table(true, 0)), (9, large_table(false, 0))];
+    for (number, table) in refused_tables().into_iter().chain(large) {
         let mut words = vec![5; WORDS + 3];
-        let refusal = compile(table, &mut words).expect_err("a refusal");
+        let refusal = compile(&table, &mut words).expect_err("a refusal");
         assert_eq!(refusal.number(), number);
         assert!(words[..WORDS].iter().all(|&word| word == 0));
         assert_eq!(words[WORDS..], [5, 5, 5]);

@@ -1,32 +1,17 @@
 //! The refusals of direct conversion: "1 to 7, 14, 15", and what they do to the
 //! output buffer.
 
-use reference::builder::TableBuilder;
 use reference::direct::{accepted_table, convert, refusal_for_lengths};
 use reference::refusal::Refusal;
-use reference::samples::{t1, t1_with, t2};
+use reference::samples::{refused_tables, t1, t1_with, t2};
 
 const LIMIT: u64 = 1_099_511_627_776;
 
-/// A rule of length 1.
-fn rule() -> TableBuilder {
-    TableBuilder::new().rule(1).spelled(0, "a")
-}
-
 #[test]
 fn each_refusal_of_the_table_leaves_the_output_as_found() {
-    let tables = [
-        vec![1],
-        TableBuilder::new().rule(1).range(0, 98, 97).bytes(),
-        TableBuilder::new().output(1).bytes(),
-        TableBuilder::new().rule(1).bytes(),
-        TableBuilder::new().copying_default().bytes(),
-        (0..9).fold(rule(), TableBuilder::output).bytes(),
-        rule().output(65536).bytes(),
-    ];
-    for (table, number) in tables.iter().zip(1..) {
+    for (number, table) in refused_tables() {
         let mut output = [7; 8];
-        let refusal = convert(table, &[97], &mut output).expect_err("a refusal");
+        let refusal = convert(&table, &[97], &mut output).expect_err("a refusal");
         assert_eq!(refusal.number(), number);
         assert_eq!(output, [7; 8]);
     }

@@ -14,6 +14,7 @@ use crate::states::build_states;
 use rules::convert::expansion;
 use rules::load::Load;
 use rules::load::load_table;
+use rules::reader::bit_of;
 
 pub enum Compiled {
     Accepted,
@@ -59,16 +60,6 @@ fn longest_of(blocks: &[u16], rules: usize) -> usize
         group += 1;
     }
     most
-}
-
-// 1 for true, 0 for false.
-fn bit_of(b: bool) -> u16
-    ensures { λ r. ⌜ r ≡ bit b ⌝ }
-{
-    if b {
-        return 1;
-    }
-    0
 }
 
 // The six words of the header.

@@ -12,7 +12,7 @@ ghost use lib.ListN.{length, take, drop};
 ghost use Rattle.meaning.specs.Block.{at, blockOutput};
 ghost use Rattle.automaton.specs.Classes.{classOf};
 ghost use Rattle.automaton.specs.Layout.{wordCount};
-ghost use Rattle.automaton.specs.Sound.{classCount, longestWord, expansionWord, acceptAtEndWord, acceptWord, targetWord, blockAt, used, sound};
+ghost use Rattle.automaton.specs.Sound.{classCount, longestWord, expansionWord, depthWord, acceptAtEndWord, acceptWord, targetWord, blockAt, used, sound};
 ghost use Rattle.machine.specs.Readings.{wordOf};
 
 // The rule that a state accepts, or nothing.
@@ -49,8 +49,35 @@ pub fn target(words: &[u16], state: StateNo, class: ClassNo) -> StateNo
     StateNo(words[838 + 64 * s + k])
 }
 
+// The depth of a state.
+pub fn depth_word(words: &[u16], state: StateNo) -> u16
+    requires { ⌜ (wordCount ≤ length (now words)) × (state .0 < 256) ⌝ }
+    ensures { λ r. ⌜ r ≡ depthWord (now (words .entry)) (state .0) ⌝ }
+{
+    let s = state.0 as usize;
+    words[70 + 3 * s]
+}
+
+// The word of a state for the rule that it accepts if the input ends there.
+pub fn accept_at_end_word(words: &[u16], state: StateNo) -> u16
+    requires { ⌜ (wordCount ≤ length (now words)) × (state .0 < 256) ⌝ }
+    ensures { λ r. ⌜ r ≡ acceptAtEndWord (now (words .entry)) (state .0) ⌝ }
+{
+    let s = state.0 as usize;
+    words[71 + 3 * s]
+}
+
+// The word of a state for the rule that it accepts at once.
+pub fn accept_word(words: &[u16], state: StateNo) -> u16
+    requires { ⌜ (wordCount ≤ length (now words)) × (state .0 < 256) ⌝ }
+    ensures { λ r. ⌜ r ≡ acceptWord (now (words .entry)) (state .0) ⌝ }
+{
+    let s = state.0 as usize;
+    words[72 + 3 * s]
+}
+
 // The rule that a word of a state names: its number + 1, or 0 for none.
-pub fn accept_of(word: u16) -> Accept
+fn accept_of(word: u16) -> Accept
     ensures { λ r. ⌜ wordOf r ≡ word ⌝ }
 {
     if word == 0 {
@@ -64,8 +91,7 @@ pub fn accept_at(words: &[u16], state: StateNo) -> Accept
     requires { ⌜ (wordCount ≤ length (now words)) × (state .0 < 256) ⌝ }
     ensures { λ r. ⌜ wordOf r ≡ acceptWord (now (words .entry)) (state .0) ⌝ }
 {
-    let s = state.0 as usize;
-    accept_of(words[72 + 3 * s])
+    accept_of(accept_word(words, state))
 }
 
 // The rule that a state accepts if the input ends there.
@@ -73,8 +99,7 @@ pub fn accept_at_end(words: &[u16], state: StateNo) -> Accept
     requires { ⌜ (wordCount ≤ length (now words)) × (state .0 < 256) ⌝ }
     ensures { λ r. ⌜ wordOf r ≡ acceptAtEndWord (now (words .entry)) (state .0) ⌝ }
 {
-    let s = state.0 as usize;
-    accept_of(words[71 + 3 * s])
+    accept_of(accept_at_end_word(words, state))
 }
 
 // The state accepts a rule at once, and no other rule if the input ends there.
@@ -83,12 +108,11 @@ pub fn settled(words: &[u16], state: StateNo) -> bool
     ensures { λ r. ⌜ r ≡ (used (acceptWord (now (words .entry)) (state .0))
         && eqb (acceptWord (now (words .entry)) (state .0)) (acceptAtEndWord (now (words .entry)) (state .0))) ⌝ }
 {
-    let s = state.0 as usize;
-    let go = words[72 + 3 * s];
+    let go = accept_word(words, state);
     if go == 0 {
         return false;
     }
-    go == words[71 + 3 * s]
+    go == accept_at_end_word(words, state)
 }
 
 // The table has a default.

@@ -12,6 +12,10 @@ ghost use Rattle.automaton.specs.Sound.{stateCount, classCount, ruleCount, long
 use crate::numbers::ClassNo;
 use crate::numbers::RuleNo;
 use crate::numbers::StateNo;
+use crate::read::accept_at_end_word;
+use crate::read::accept_word;
+use crate::read::depth_word;
+use crate::read::target;
 
 fn within(low: u16, high: u16, x: u16) -> bool
     ensures { λ r. ⌜ r ≡ between low high x ⌝ }
@@ -106,39 +110,6 @@ fn blocks_sound(words: &[u16]) -> bool
     true
 }
 
-fn depth_of(words: &[u16], state: StateNo) -> u16
-    requires { ⌜ (19697 ≤ length (now words)) × (state .0 < 256) ⌝ }
-    ensures { λ r. ⌜ r ≡ depthWord (now (words .entry)) (state .0) ⌝ }
-{
-    let s = state.0 as usize;
-    words[70 + 3 * s]
-}
-
-fn accept_at_end_of(words: &[u16], state: StateNo) -> u16
-    requires { ⌜ (19697 ≤ length (now words)) × (state .0 < 256) ⌝ }
-    ensures { λ r. ⌜ r ≡ acceptAtEndWord (now (words .entry)) (state .0) ⌝ }
-{
-    let s = state.0 as usize;
-    words[71 + 3 * s]
-}
-
-fn accept_of(words: &[u16], state: StateNo) -> u16
-    requires { ⌜ (19697 ≤ length (now words)) × (state .0 < 256) ⌝ }
-    ensures { λ r. ⌜ r ≡ acceptWord (now (words .entry)) (state .0) ⌝ }
-{
-    let s = state.0 as usize;
-    words[72 + 3 * s]
-}
-
-fn target_of(words: &[u16], state: StateNo, class: ClassNo) -> u16
-    requires { ⌜ (19697 ≤ length (now words)) × (state .0 < 256) × (class .0 < 64) ⌝ }
-    ensures { λ r. ⌜ r ≡ targetWord (now (words .entry)) (state .0) (class .0) ⌝ }
-{
-    let s = state.0 as usize;
-    let k = class.0 as usize;
-    words[838 + 64 * s + k]
-}
-
 // The rule is "below the count" and its "K is the depth".
 fn names_rule(words: &[u16], depth: u16, rule: RuleNo) -> bool
     requires { ⌜ (19697 ≤ length (now words)) × (ruleCount (now words) ≤ 32) ⌝ }
@@ -170,7 +141,7 @@ fn target_sound(words: &[u16], state: StateNo, target: StateNo) -> bool
     if number >= words[0] {
         return false;
     }
-    one_deeper(depth_of(words, target), depth_of(words, state))
+    one_deeper(depth_word(words, target), depth_word(words, state))
 }
 
 // "State 0 has depth 0, others 1 to L."
@@ -180,7 +151,7 @@ fn depth_sound(words: &[u16], state: StateNo) -> bool
         ⌜ r ≡ cond (eqb (state .0) 0) (eqb (depthWord (now (words .entry)) (state .0)) 0)
         (between 1 (longestWord (now (words .entry))) (depthWord (now (words .entry)) (state .0))) ⌝ }
 {
-    let depth = depth_of(words, state);
+    let depth = depth_word(words, state);
     if state.0 == 0 {
         return depth == 0;
     }
@@ -194,11 +165,11 @@ fn accept_at_end_sound(words: &[u16], state: StateNo) -> bool
         ⌜ r ≡ implies (used (acceptAtEndWord (now (words .entry)) (state .0)))
         (namesRule (now (words .entry)) (depthWord (now (words .entry)) (state .0)) (acceptAtEndWord (now (words .entry)) (state .0))) ⌝ }
 {
-    let accept = accept_at_end_of(words, state);
+    let accept = accept_at_end_word(words, state);
     if accept == 0 {
         return true;
     }
-    names_rule(words, depth_of(words, state), RuleNo(accept - 1))
+    names_rule(words, depth_word(words, state), RuleNo(accept - 1))
 }
 
 // The state's "go", if it has one, names an unanchored rule, and "a go comes with an end".
@@ -211,19 +182,19 @@ fn accept_sound(words: &[u16], state: StateNo) -> bool
         ∷ used (acceptAtEndWord (now (words .entry)) (state .0))
         ∷ [])) ⌝ }
 {
-    let accept = accept_of(words, state);
+    let accept = accept_word(words, state);
     if accept == 0 {
         return true;
     }
     let rule = accept - 1;
-    if !names_rule(words, depth_of(words, state), RuleNo(rule)) {
+    if !names_rule(words, depth_word(words, state), RuleNo(rule)) {
         return false;
     }
     let block = rule as usize;
     if words[17223 + 75 * block] != 0 {
         return false;
     }
-    accept_at_end_of(words, state) != 0
+    accept_at_end_word(words, state) != 0
 }
 
 // The target by the class, if there is one, is sound, and the state has no go.
@@ -235,14 +206,14 @@ fn class_target_sound(words: &[u16], state: StateNo, class: ClassNo) -> bool
         ∷ soundTarget (now (words .entry)) (state .0) (targetWord (now (words .entry)) (state .0) (class .0))
         ∷ [])) ⌝ }
 {
-    let target = target_of(words, state, class);
-    if target == 0 {
+    let next = target(words, state, class);
+    if next.0 == 0 {
         return true;
     }
-    if accept_of(words, state) != 0 {
+    if accept_word(words, state) != 0 {
         return false;
     }
-    target_sound(words, state, StateNo(target))
+    target_sound(words, state, next)
 }
 
 fn targets_sound(words: &[u16], state: StateNo) -> bool

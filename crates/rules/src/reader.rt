@@ -86,8 +86,8 @@ fn group_number(reader: Reader) -> usize
     reader.rules - 1
 }
 
-// 1 for true, 0 for false.
-fn bit_of(flag: bool) -> u16
+// A flag's word: 1 for true, 0 for false.
+pub fn bit_of(flag: bool) -> u16
     ensures { λ r. ⌜ r ≡ bit flag ⌝ }
 {
     if flag {

@@ -1,5 +1,5 @@
 //! Feeds of an input in pieces, and the finish: by the library, by the machine
-//! written for speed, and by a scanner that flex generates if there is one.
+//! written for speed, and by the scanners that flex generates if there are any.
 
 use std::hint::black_box;
 use std::time::Duration;
@@ -25,11 +25,11 @@ struct Fed {
     time: Duration,
 }
 
-/// The best times, that of the scanner if there is one.
+/// The best times, and those of the scanners: with usual tables, with the fastest.
 struct Best {
     library: Duration,
     fast: Duration,
-    flex: Option<Duration>,
+    flex: [Option<Duration>; 2],
 }
 
 /// T1's machine, an input, and a buffer for all of its output.
@@ -51,8 +51,8 @@ pub fn print() {
         PIECES[0].1, PIECES[1].1
     );
     println!();
-    println!("| input | piece | library | Rust | flex | library / Rust | library / flex |");
-    println!("|---|---:|---:|---:|---:|---:|---:|");
+    println!("| input | piece | library | Rust | flex | flex -Cfa | library / Rust | library / flex | library / flex -Cfa |");
+    println!("|---|---:|---:|---:|---:|---:|---:|---:|---:|");
     let words = compiled(&t1()).expect("T1 compiles");
     for (piece, runs) in PIECES {
         for (name, input) in inputs() {
@@ -69,28 +69,29 @@ pub fn print() {
 
 /// Prints a row.
 fn print_row(name: &str, piece: usize, best: &Best) {
-    let of_flex = |number: fn(Duration, &Best) -> f64| match best.flex {
-        Some(flex) => format!("{:.2}", number(flex, best)),
-        None => "-".to_string(),
-    };
+    let shown =
+        |number: Option<f64>| number.map_or("-".to_string(), |number| format!("{number:.2}"));
+    let [usual, fastest] = best.flex;
     println!(
-        "| {name} | {piece} | {:.2} | {:.2} | {} | {:.2} | {} |",
+        "| {name} | {piece} | {:.2} | {:.2} | {} | {} | {:.2} | {} | {} |",
         each(best.library, LENGTH),
         each(best.fast, LENGTH),
-        of_flex(|flex, _| each(flex, LENGTH)),
+        shown(usual.map(|flex| each(flex, LENGTH))),
+        shown(fastest.map(|flex| each(flex, LENGTH))),
         ratio(best.library, best.fast),
-        of_flex(|flex, best| ratio(best.library, flex))
+        shown(usual.map(|flex| ratio(best.library, flex))),
+        shown(fastest.map(|flex| ratio(best.library, flex)))
     );
 }
 
 impl Feeding<'_> {
-    /// The best times of the three, whose runs take turns and whose sessions and
+    /// The best times of all, whose runs take turns and whose sessions and
     /// texts are compared.
     fn best(&mut self, piece: usize, runs: usize) -> Best {
         let mut best = Best {
             library: Duration::MAX,
             fast: Duration::MAX,
-            flex: None,
+            flex: [None; 2],
         };
         for _ in 0..runs {
             let library = self.by_library(piece);
@@ -99,9 +100,9 @@ impl Feeding<'_> {
             assert!(library.text == fast.text, "the texts differ");
             best.library = best.library.min(library.time);
             best.fast = best.fast.min(fast.time);
-            if let Some((text, time)) = self.by_flex(piece) {
+            for (best, (text, time)) in best.flex.iter_mut().zip(self.by_flex(piece)) {
                 assert!(library.text == text, "the texts differ");
-                best.flex = Some(best.flex.map_or(time, |flex| flex.min(time)));
+                *best = Some(best.map_or(time, |best| best.min(time)));
             }
         }
         best
@@ -145,24 +146,28 @@ impl Feeding<'_> {
         self.fed(session, written, time)
     }
 
-    /// By the scanner that flex generates; its text and its time.
+    /// By the scanners that flex generates; their texts and times.
     #[cfg(feature = "flex")]
-    fn by_flex(&mut self, piece: usize) -> Option<(Vec<u16>, Duration)> {
+    fn by_flex(&mut self, piece: usize) -> Vec<(Vec<u16>, Duration)> {
+        use compare::flex::{scan, Tables};
         let bytes: Vec<u8> = self
             .input
             .iter()
             .map(|&character| character as u8)
             .collect();
-        self.output.fill(FILL);
-        let output = &mut self.output;
-        let (written, time) = worked(|| compare::flex::scan(black_box(&bytes), piece, output));
-        Some((self.output[..written].to_vec(), time))
+        let mut scanned = |tables| {
+            self.output.fill(FILL);
+            let output = &mut self.output;
+            let (written, time) = worked(|| scan(tables, black_box(&bytes), piece, output));
+            (self.output[..written].to_vec(), time)
+        };
+        vec![scanned(Tables::Usual), scanned(Tables::Fastest)]
     }
 
     /// No scanner was generated.
     #[cfg(not(feature = "flex"))]
-    fn by_flex(&mut self, _piece: usize) -> Option<(Vec<u16>, Duration)> {
-        None
+    fn by_flex(&mut self, _piece: usize) -> Vec<(Vec<u16>, Duration)> {
+        Vec::new()
     }
 
     /// What a run came to, whose text is in the buffer.

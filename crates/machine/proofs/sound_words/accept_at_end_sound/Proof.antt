@@ -7,14 +7,14 @@ use borrow.Author.Needs.{needs}
 use Rattle.machine.proofs.sound_words.accept_at_end_sound.Statement.{statement}
 use Rattle.machine.proofs.sound_words.accept_at_end_sound.Tie as tie
 
-accept-at-end-of-requires : tie.Need-accept-at-end-of-requires
-accept-at-end-of-requires c κs = search needs
+accept-at-end-word-requires : tie.Need-accept-at-end-word-requires
+accept-at-end-word-requires c κs = search needs
 
 returns : tie.Need-returns
-returns c = sym (unused _ (sym (c .before .accept-at-end-of .ensures) ∙ c .if1 .taken))
+returns c = sym (unused _ (sym (c .before .accept-at-end-word .ensures) ∙ c .if1 .taken))
 
-depth-of-requires : tie.Need-depth-of-requires
-depth-of-requires c κs = search needs
+depth-word-requires : tie.Need-depth-word-requires
+depth-word-requires c κs = search needs
 
 sub-t6 : tie.Need-sub-t6
 sub-t6 c = search needs
@@ -25,18 +25,18 @@ names-rule-requires c κs = search needs
 returns-2 : tie.Need-returns-2
 returns-2 c =
     let e = c .before .before in
-    let end = e .before .accept-at-end-of .ensures in
+    let end = e .before .accept-at-end-word .ensures in
     c .names-rule .ensures
-    ∙ names-word (now (e .before .before .before .args .words)) (c .before .depth-of .ensures) end (e .if1 .left)
+    ∙ names-word (now (e .before .before .before .args .words)) (c .before .depth-word .ensures) end (e .if1 .left)
     ∙ sym (in-use _ (λ z. e .if1 .left (end ∙ z)))
 
 pub accept-at-end-sound-spec : {M : Type 1} → statement M
 accept-at-end-sound-spec =
     tie.close
     (tie.spec
-    accept-at-end-of-requires
+    accept-at-end-word-requires
     returns
-    depth-of-requires
+    depth-word-requires
     sub-t6
     names-rule-requires
     returns-2)

@@ -13,7 +13,7 @@ use Rattle.machine.proofs.sound_words.accept_sound.Tie as tie
 
 -- a go that is not 0
 accept-used : (c : tie.Else1) → acceptWord (now (c .before .before .before .args .words)) (c .before .before .before .args .state .0) ≡ 0 → ⊥
-accept-used c z = c .if1 .left (c .before .accept-of .ensures ∙ z)
+accept-used c z = c .if1 .left (c .before .accept-word .ensures ∙ z)
 
 named : (c : tie.After-names-rule) →
     let a = c .before .before .before .before .before .args in
@@ -21,19 +21,19 @@ named : (c : tie.After-names-rule) →
 named c =
     let e = c .before .before in
     c .names-rule .ensures
-    ∙ names-word (now (e .before .before .before .args .words)) (c .before .depth-of .ensures) (e .before .accept-of .ensures) (e .if1 .left)
+    ∙ names-word (now (e .before .before .before .args .words)) (c .before .depth-word .ensures) (e .before .accept-word .ensures) (e .if1 .left)
 
-accept-of-requires : tie.Need-accept-of-requires
-accept-of-requires c κs = search needs
+accept-word-requires : tie.Need-accept-word-requires
+accept-word-requires c κs = search needs
 
 returns : tie.Need-returns
-returns c = sym (unused _ (sym (c .before .accept-of .ensures) ∙ c .if1 .taken))
+returns c = sym (unused _ (sym (c .before .accept-word .ensures) ∙ c .if1 .taken))
 
 sub-rule : tie.Need-sub-rule
 sub-rule c = search needs
 
-depth-of-requires : tie.Need-depth-of-requires
-depth-of-requires c κs = search needs
+depth-word-requires : tie.Need-depth-word-requires
+depth-word-requires c κs = search needs
 
 names-rule-requires : tie.Need-names-rule-requires
 names-rule-requires c κs = search needs
@@ -63,21 +63,21 @@ returns-3 : tie.Need-returns-3
 returns-3 c =
     let d = c .before .before in
     let e = d .before .before .before in
-    let free = named-word (now (e .before .before .before .args .words)) (e .before .accept-of .ensures) (e .if1 .left) in
+    let free = named-word (now (e .before .before .before .args .words)) (e .before .accept-word .ensures) (e .if1 .left) in
     sym
     (in-use _ (accept-used e)
     ∙ all-next _ (passed (named (d .before)) (d .if2 .left))
     ∙ all-stops _ (ne-eqb _ _ (λ z. c .if3 .taken (sym free ∙ z))))
 
-accept-at-end-of-requires : tie.Need-accept-at-end-of-requires
-accept-at-end-of-requires c κs = search needs
+accept-at-end-word-requires : tie.Need-accept-at-end-word-requires
+accept-at-end-word-requires c κs = search needs
 
 returns-4 : tie.Need-returns-4
 returns-4 c =
     let d = c .before .before .before in
     let e = d .before .before .before in
-    let free = named-word (now (e .before .before .before .args .words)) (e .before .accept-of .ensures) (e .if1 .left) in
-    ap used (c .accept-at-end-of .ensures)
+    let free = named-word (now (e .before .before .before .args .words)) (e .before .accept-word .ensures) (e .if1 .left) in
+    ap used (c .accept-at-end-word .ensures)
     ∙ sym
     (in-use _ (accept-used e)
     ∙ all-next _ (passed (named (d .before)) (d .if2 .left))
@@ -88,10 +88,10 @@ pub accept-sound-spec : {M : Type 1} → statement M
 accept-sound-spec =
     tie.close
     (tie.spec
-    accept-of-requires
+    accept-word-requires
     returns
     sub-rule
-    depth-of-requires
+    depth-word-requires
     names-rule-requires
     returns-2
     cast-block
@@ -100,5 +100,5 @@ accept-sound-spec =
     mul-if3-2
     shared-slice-read-if3
     returns-3
-    accept-at-end-of-requires
+    accept-at-end-word-requires
     returns-4)

@@ -11,23 +11,23 @@ use borrow.Author.Needs.{needs}
 use Rattle.machine.proofs.sound_words.class_target_sound.Statement.{statement}
 use Rattle.machine.proofs.sound_words.class_target_sound.Tie as tie
 
-target-used : (c : tie.Else1) → let a = c .before .before .before .args in targetWord (now (a .words)) (a .state .0) (a .class .0) ≡ 0 → ⊥
-target-used c z = c .if1 .left (c .before .target-of .ensures ∙ z)
+target-used : (c : tie.Else1) → let a = c .before .before .before .before .args in targetWord (now (a .words)) (a .state .0) (a .class .0) ≡ 0 → ⊥
+target-used c z = c .if1 .left (c .before .before .target .ensures ∙ z)
 
-target-of-requires : tie.Need-target-of-requires
-target-of-requires c κs = search needs
+target-requires : tie.Need-target-requires
+target-requires c κs = search needs
 
 returns : tie.Need-returns
-returns c = sym (unused _ (sym (c .before .target-of .ensures) ∙ c .if1 .taken))
+returns c = sym (unused _ (sym (c .before .before .target .ensures) ∙ c .if1 .taken))
 
-accept-of-requires : tie.Need-accept-of-requires
-accept-of-requires c κs = search needs
+accept-word-requires : tie.Need-accept-word-requires
+accept-word-requires c κs = search needs
 
 returns-2 : tie.Need-returns-2
 returns-2 c =
     sym
     (in-use _ (target-used (c .before .before))
-    ∙ all-stops _ (ap (λ b. not (not b)) (ne-eqb _ _ (λ z. c .if2 .taken (c .before .accept-of .ensures ∙ z)))))
+    ∙ all-stops _ (ap (λ b. not (not b)) (ne-eqb _ _ (λ z. c .if2 .taken (c .before .accept-word .ensures ∙ z)))))
 
 target-sound-requires : tie.Need-target-sound-requires
 target-sound-requires c κs = search needs
@@ -36,21 +36,21 @@ returns-3 : tie.Need-returns-3
 returns-3 c =
     let d = c .before in
     let e = d .before .before in
-    let a = e .before .before .before .args in
+    let a = e .before .before .before .before .args in
     c .target-sound .ensures
-    ∙ ap (soundTarget (now (a .words)) (a .state .0)) (e .before .target-of .ensures)
+    ∙ ap (soundTarget (now (a .words)) (a .state .0)) (e .before .before .target .ensures)
     ∙ sym
     (in-use _ (target-used e)
-    ∙ all-next _ (ap (λ b. not (not b)) (eq-eqb _ _ (sym (d .before .accept-of .ensures) ∙ d .if2 .left)))
+    ∙ all-next _ (ap (λ b. not (not b)) (eq-eqb _ _ (sym (d .before .accept-word .ensures) ∙ d .if2 .left)))
     ∙ all-last _)
 
 pub class-target-sound-spec : {M : Type 1} → statement M
 class-target-sound-spec =
     tie.close
     (tie.spec
-    target-of-requires
+    target-requires
     returns
-    accept-of-requires
+    accept-word-requires
     returns-2
     target-sound-requires
     returns-3)

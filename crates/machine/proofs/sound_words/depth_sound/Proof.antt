@@ -9,11 +9,11 @@ use borrow.Author.Needs.{needs}
 use Rattle.machine.proofs.sound_words.depth_sound.Statement.{statement}
 use Rattle.machine.proofs.sound_words.depth_sound.Tie as tie
 
-depth-of-requires : tie.Need-depth-of-requires
-depth-of-requires c κs = search needs
+depth-word-requires : tie.Need-depth-word-requires
+depth-word-requires c κs = search needs
 
 returns : tie.Need-returns
-returns c = rw (eq-eqb _ _ (c .if1 .taken)) (ap (λ d. eqb d 0) (c .before .before .depth-of .ensures))
+returns c = rw (eq-eqb _ _ (c .if1 .taken)) (ap (λ d. eqb d 0) (c .before .before .depth-word .ensures))
 
 shared-slice-read-within : tie.Need-shared-slice-read-within
 shared-slice-read-within c = search needs
@@ -25,9 +25,9 @@ returns-2 : tie.Need-returns-2
 returns-2 c =
     let e = c .before .before in
     let d = e .before .before in
-    rw (ne-eqb _ _ (e .if1 .left)) (c .within .ensures ∙ ap (between 1 (longestWord (now (d .before .before .args .words)))) (d .depth-of .ensures))
+    rw (ne-eqb _ _ (e .if1 .left)) (c .within .ensures ∙ ap (between 1 (longestWord (now (d .before .before .args .words)))) (d .depth-word .ensures))
 
 pub depth-sound-spec : {M : Type 1} → statement M
 depth-sound-spec =
     tie.close
-    (tie.spec depth-of-requires returns shared-slice-read-within within-requires returns-2)
+    (tie.spec depth-word-requires returns shared-slice-read-within within-requires returns-2)

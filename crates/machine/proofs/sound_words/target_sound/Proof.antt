@@ -20,11 +20,11 @@ returns-2 : tie.Need-returns-2
 unfolding soundTarget
 returns-2 c = sym (all-next _ (lt-ltb _ _ (c .before .before .if1 .left)) ∙ all-stops _ (le-ltb _ _ (c .if2 .taken)))
 
-depth-of-requires : tie.Need-depth-of-requires
-depth-of-requires c κs = search needs
+depth-word-requires : tie.Need-depth-word-requires
+depth-word-requires c κs = search needs
 
-depth-of-requires-2 : tie.Need-depth-of-requires-2
-depth-of-requires-2 c κs = search needs
+depth-word-requires-2 : tie.Need-depth-word-requires-2
+depth-word-requires-2 c κs = search needs
 
 one-deeper-requires : tie.Need-one-deeper-requires
 one-deeper-requires c κs = search needs
@@ -34,7 +34,7 @@ unfolding soundTarget
 returns-3 c =
     let e = c .before .before .before in
     c .one-deeper .ensures
-    ∙ one-deeper (c .before .before .depth-of .ensures) (c .before .depth-of2 .ensures)
+    ∙ one-deeper (c .before .before .depth-word .ensures) (c .before .depth-word2 .ensures)
     ∙ sym (all-next _ (lt-ltb _ _ (e .before .before .if1 .left)) ∙ all-next _ (lt-ltb _ _ (e .if2 .left)) ∙ all-last _)
 
 pub target-sound-spec : {M : Type 1} → statement M
@@ -44,7 +44,7 @@ target-sound-spec =
     returns
     shared-slice-read-if2
     returns-2
-    depth-of-requires
-    depth-of-requires-2
+    depth-word-requires
+    depth-word-requires-2
     one-deeper-requires
     returns-3)
