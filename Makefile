@@ -5,13 +5,13 @@ test:
 	@bash .ci/run
 
 demo:
-	rt staticlib capi
+	rt staticlib cobbletwill
 	@bash examples/demo.sh
 
-# The example in C; `rt staticlib capi` writes the library.
-target/examples/station: examples/c/station.c include/cobbletwill.h target/staticlib/libcapi.a
+# The example in C; `rt staticlib cobbletwill` writes the library.
+target/examples/station: examples/c/station.c include/cobbletwill.h target/staticlib/libcobbletwill.a
 	@mkdir -p $(@D)
-	cc -std=c11 -Wall -Wextra -Werror -O2 -Iinclude -o $@ $< target/staticlib/libcapi.a
+	cc -std=c11 -Wall -Wextra -Werror -O2 -Iinclude -o $@ $< target/staticlib/libcobbletwill.a
 
 # The tables of tables/ from their sources.
 tables:
@@ -21,7 +21,7 @@ tables:
 	done
 
 bench:
-	rt staticlib capi
+	rt staticlib cobbletwill
 	cargo run --release --offline --locked --quiet --manifest-path compare/Cargo.toml --target-dir target/cargo --features flex --bin bench
 
 fmt:

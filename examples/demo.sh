@@ -1,6 +1,6 @@
 #!/usr/bin/env bash
 # Converts the samples of two tables; prints input, output, and the steps beside their bound.
-# Run `rt staticlib capi` before; `make demo` does both.
+# Run `rt staticlib cobbletwill` before; `make demo` does both.
 set -euo pipefail
 cd "$(dirname "$0")/.."
 

@@ -3,8 +3,8 @@
  * into machine words, and conversion by the words, piece by piece.
  *
  * Document 01 says what tables, characters, direct conversion, machine words and
- * sessions are. The functions are those of the crate `capi`, in
- * target/staticlib/libcapi.a, which `rt staticlib capi` writes for x86-64 Linux.
+ * sessions are. The functions are those of the crate `cobbletwill`, in
+ * target/staticlib/libcobbletwill.a, which `rt staticlib cobbletwill` writes for x86-64 Linux.
  *
  * A buffer is a pointer to its first element and then its number of elements.
  * With the number 0 the pointer is not used and may be null. A buffer that is

@@ -1,0 +1,43 @@
+-- `cobbletwill::sessions::finish_numbers` meets its contract. Numbers with a status above 2 are refused by what `no_session` answers; of others
+-- `finish_by_value` comes to what finish of their session comes to, and `hand_over` hands that over.
+use denote.Ref.{now}
+use borrow.Author.Needs.{needs}
+use Rattle.reckoning.specs.Session.{Session}
+use Rattle.reckoning.specs.Calls as Call
+use Rattle.reckoning.specs.Calls.{CallOutcome}
+use Rattle.session.specs.Keeping.{sessionOf}
+use Rattle.session.specs.Contracts.{outcomeOf}
+use Rattle.cobbletwill.specs.Sessions.{finish}
+use Rattle.cobbletwill.proofs.Laws.Sessions.{refused-numbers, handed-over}
+use Rattle.cobbletwill.proofs.sessions.finish_numbers.Statement.{statement}
+use Rattle.cobbletwill.proofs.sessions.finish_numbers.Tie as tie
+
+-- the function's entry, from where the numbers are known
+abbrev entry : tie.After-struct-known → tie.Start
+entry c = c .before .before .before
+
+-- a finish of a session, with what was lent
+abbrev call : tie.Start → Session → CallOutcome
+call c s = Call.finish (now (c .args .words)) s (now (c .args .output))
+
+returns : tie.Need-returns
+unfolding finish
+returns c =
+    let s = entry (c .before .before) in
+    refused-numbers (call s) _ _ _ _ _ (c .before .if1 .taken) (c .no-session .ensures)
+
+returns-2 : tie.Need-returns-2
+unfolding finish
+returns-2 c =
+    let called = c .before .before .before .before in
+    let from = called .before .before in
+    let s = entry (from .before .before) in
+    let r = called .finish-by-value .result in
+    let handed = c .hand-over .ensures in
+    handed-over (call s) _ _ _ _ _ _ _ (sessionOf (from .session-from .result)) (outcomeOf (r .answer) (r .session) _) (from .before .if1 .left)
+    (from .session-from .ensures) (called .finish-by-value .ensures) (handed .0) (handed .1 .0) (handed .1 .1)
+
+pub finish-numbers-spec : {M : Type 1} → statement M
+finish-numbers-spec =
+    tie.close
+    (tie.spec (λ c κs. search needs) returns (λ c κs. search needs) (λ c κs. search needs) (λ c κs. search needs) (λ c. search needs) returns-2)

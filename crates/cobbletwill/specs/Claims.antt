@@ -1,0 +1,31 @@
+-- What holds of sessions as C holds them: numbers and sessions are the same, and demand 1 for feed and finish.
+use mathlib.Core.List.{List, [], _∷_}
+use mathlib.Core.Path.{_≡_}
+use Prim.Native.Nat.{ℕ, _≤_}
+use lib.Dec.{T, eqb}
+use Rattle.lists.specs.Lists.{any, pad}
+use Rattle.reckoning.specs.Session.{Session, fresh}
+use Rattle.cobbletwill.specs.Sessions.{sessionFrom, numbersOf, CalledFace, left, feed, finish}
+use Rattle.cobbletwill.specs.declared.sessions.SessionNumbers.{SessionNumbers}
+
+abbrev pub zeros : SessionNumbers
+zeros = record { received = 0; produced = 0; steps = 0; status = 0; state = 0; count = 0; held = pad 8 [] }
+
+pub record Faithful : Type 0 where
+  -- "Fresh: open, all 0."
+  pub zeros : sessionFrom zeros ≡ fresh
+  -- nothing is lost on the way to numbers and back, nor on the way to a session and back
+  pub sessions : (s : Session) → sessionFrom (numbersOf s) ≡ s
+  pub numbers : (n : SessionNumbers) → n .status ≤ 2 → numbersOf (sessionFrom n) ≡ n
+
+-- Demand 1 for a call that found the numbers n, the buffer and the count, and came to o: "an accepted answer or one of the numbered
+-- refusals"; "every other refusal changes nothing."
+pub record FaceAnswers (n : SessionNumbers) (buffer : List ℕ) (found : ℕ) (o : CalledFace) : Type 0 where
+  pub numbered : T (any (eqb (o .answer)) (0 ∷ 64 ∷ 65 ∷ 11 ∷ 12 ∷ 13 ∷ 14 ∷ 15 ∷ []))
+  pub unchanged : 11 ≤ o .answer → o .answer ≤ 15 → o ≡ left (o .answer) n buffer found
+
+unfoldable pub FeedsAnswer : Type 0
+FeedsAnswer = (w : List ℕ) (n : SessionNumbers) (piece buffer : List ℕ) (found : ℕ) → FaceAnswers n buffer found (feed w n piece buffer found)
+
+unfoldable pub FinishesAnswer : Type 0
+FinishesAnswer = (w : List ℕ) (n : SessionNumbers) (buffer : List ℕ) (found : ℕ) → FaceAnswers n buffer found (finish w n buffer found)

@@ -1,0 +1,92 @@
+-- Sessions as C holds them, and what feed and finish answer and leave there.
+use mathlib.Core.Bool.{Bool, cond}
+use mathlib.Core.List.{List}
+use Prim.Native.Nat.{ℕ}
+use lib.Dec.{eqb, ltb}
+use Rattle.meaning.specs.Refusal.{Outcome, refused, accepted}
+use Rattle.automaton.specs.Sound.{sound}
+use Rattle.reckoning.specs.Machine.{Status, Open, Closed, Stopped}
+use Rattle.reckoning.specs.Session.{Session}
+use Rattle.reckoning.specs.Calls as Call
+use Rattle.reckoning.specs.Calls.{Answer, CallOutcome}
+use Rattle.cobbletwill.specs.declared.sessions.SessionNumbers.{SessionNumbers}
+
+-- "a status (open, closed, stopped)" as it is kept
+abbrev pub statusNumber : Status → ℕ
+statusNumber Open = 0
+statusNumber Closed = 1
+statusNumber Stopped = 2
+
+-- the status of a number up to 2
+abbrev pub statusFrom : ℕ → Status
+statusFrom n = cond (eqb n 0) Open (cond (eqb n 1) Closed Stopped)
+
+-- the session that numbers with a status up to 2 are
+abbrev pub sessionFrom : SessionNumbers → Session
+sessionFrom n =
+    record {
+      status = statusFrom (n .status);
+      state = n .state;
+      held = n .held;
+      count = n .count;
+      received = n .received;
+      produced = n .produced;
+      steps = n .steps;
+    }
+
+abbrev pub numbersOf : Session → SessionNumbers
+numbersOf s =
+    record {
+      received = s .received;
+      produced = s .produced;
+      steps = s .steps;
+      status = statusNumber (s .status);
+      state = s .state;
+      count = s .count;
+      held = s .held;
+    }
+
+-- "answer its count and the status": 0 and 64 as direct conversion answers them, 65 for a session that waits for more
+abbrev pub statusCode : Status → ℕ
+statusCode Open = 65
+statusCode Closed = 0
+statusCode Stopped = 64
+
+-- "A refusal answers its number"
+abbrev pub answerCode : Outcome Answer → ℕ
+answerCode (refused n) = n
+answerCode (accepted a) = statusCode (a .status)
+
+-- "its count", or what was found: "every other refusal changes nothing"
+abbrev pub countAfter : Outcome Answer → ℕ → ℕ
+countAfter (refused n) found = found
+countAfter (accepted a) found = a .count
+
+-- what a call answers and leaves
+pub record CalledFace : Type 0 where
+  pub answer : ℕ
+  pub session : SessionNumbers
+  pub output : List ℕ
+  pub count : ℕ
+
+abbrev pub left : ℕ → SessionNumbers → List ℕ → ℕ → CalledFace
+left answer session output count = record { answer = answer; session = session; output = output; count = count }
+
+-- a call's outcome, where the count was found so
+abbrev pub faceOf : CallOutcome → ℕ → CalledFace
+faceOf o found = left (answerCode (o .answer)) (numbersOf (o .session)) (o .output) (countAfter (o .answer) found)
+
+-- numbers with a status above 2 are no session's: "12 session not sound", after "11 under 19,697 words or not sound"
+abbrev pub noSession : Bool → ℕ
+noSession soundWords = cond soundWords 12 11
+
+-- a call of the session that the numbers are; where they are none's, a refusal that changes nothing
+abbrev pub calledBy : (Session → CallOutcome) → List ℕ → SessionNumbers → List ℕ → ℕ → CalledFace
+calledBy call w n buffer found = cond (ltb 2 (n .status)) (left (noSession (sound w)) n buffer found) (faceOf (call (sessionFrom n)) found)
+
+-- words, session, piece, output buffer and count as found
+unfoldable pub feed : List ℕ → SessionNumbers → List ℕ → List ℕ → ℕ → CalledFace
+feed w n piece buffer found = calledBy (λ s. Call.feed w s piece buffer) w n buffer found
+
+unfoldable pub finish : List ℕ → SessionNumbers → List ℕ → ℕ → CalledFace
+finish w n buffer found = calledBy (λ s. Call.finish w s buffer) w n buffer found

@@ -1,0 +1,87 @@
+// The C face: each answer as a number, place and count through pointers. include/cobbletwill.h declares these functions.
+pub mod sessions;
+
+ghost use mathlib.Core.Path.{_≡_};
+ghost use Rattle.meaning.specs.Direct.{checked, direct};
+ghost use Rattle.automaton.specs.Compile as Spec;
+ghost use Rattle.automaton.specs.Sound.{sound};
+ghost use Rattle.cobbletwill.specs.Face.{checkCode, codeOf, placeOf, countOf, soundCode};
+use machine::compile::Compiled;
+use machine::compile::compile;
+use machine::sound_words::is_sound;
+use rules::convert::Conversion;
+use rules::convert::Verdict;
+use rules::convert::check;
+use rules::convert::convert;
+
+// 0 for a table that keeps the rules, else the number of its refusal, 1 to 7.
+#[no_mangle]
+pub extern "C" fn cobbletwill_check(table: &[u8]) -> u32
+    ensures { λ r. ⌜ r ≡ checkCode (checked (now (table .entry))) ⌝ }
+{
+    let verdict = check(table);
+    match verdict {
+        Verdict::Accepted => 0,
+        Verdict::Refused(number) => number as u32,
+    }
+}
+
+// 0 for closed and 64 for stopped, with the place and the output count set; else the number of the refusal, 1 to 7, 14 or 15, and nothing changed.
+#[no_mangle]
+pub extern "C" fn cobbletwill_convert(
+    table: &[u8],
+    input: &[u16],
+    output: &mut [u16],
+    place: &mut u64,
+    count: &mut u64,
+) -> u32
+    ensures answer { λ r. ⌜ r ≡ codeOf (direct (now (table .entry)) (now (input .entry)) (now (output .entry)) .answer) ⌝ }
+    ensures output { λ _. ⌜ now (output .exit) ≡ direct (now (table .entry)) (now (input .entry)) (now (output .entry)) .output ⌝ }
+    ensures place { λ _. ⌜ now (place .exit) ≡ placeOf (direct (now (table .entry)) (now (input .entry)) (now (output .entry)) .answer) (now (place .entry)) ⌝ }
+    ensures count { λ _. ⌜ now (count .exit) ≡ countOf (direct (now (table .entry)) (now (input .entry)) (now (output .entry)) .answer) (now (count .entry)) ⌝ }
+{
+    let conversion = convert(table, input, output);
+    match conversion {
+        Conversion::Closed {
+            place: reached,
+            count: written,
+        } => {
+            *place = reached as u64;
+            *count = written as u64;
+            0
+        }
+        Conversion::Stopped {
+            place: reached,
+            count: written,
+        } => {
+            *place = reached as u64;
+            *count = written as u64;
+            64
+        }
+        Conversion::Refused(number) => number as u32,
+    }
+}
+
+// 0 with the words of the table; else the number of the refusal, 1 to 9 with the 19,697 words zero, or 10 with nothing changed.
+#[no_mangle]
+pub extern "C" fn cobbletwill_compile(table: &[u8], words: &mut [u16]) -> u32
+    ensures answer { λ r. ⌜ r ≡ checkCode (Spec.compile (now (table .entry)) (now (words .entry)) .answer) ⌝ }
+    ensures words { λ _. ⌜ now (words .exit) ≡ Spec.compile (now (table .entry)) (now (words .entry)) .words ⌝ }
+{
+    let compiled = compile(table, words);
+    match compiled {
+        Compiled::Accepted => 0,
+        Compiled::Refused(number) => number as u32,
+    }
+}
+
+// 1 for sound words, 0 for words that no machine runs on.
+#[no_mangle]
+pub extern "C" fn cobbletwill_is_sound(words: &[u16]) -> u32
+    ensures { λ r. ⌜ r ≡ soundCode (sound (now (words .entry))) ⌝ }
+{
+    if is_sound(words) {
+        return 1;
+    }
+    0
+}
