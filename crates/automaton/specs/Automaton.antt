@@ -11,6 +11,7 @@ use Rattle.meaning.specs.Block.{at, blockOutput}
 use Rattle.automaton.specs.Classes.{starts, classOf}
 use Rattle.automaton.specs.States.{State, initial, acceptAtEndOf, acceptOf, states, targetOf}
 use Rattle.automaton.specs.Sound.{classCount, acceptAtEndWord, acceptWord, targetWord, blockAt}
+use Rattle.automaton.specs.Layout.{classesFrom}
 
 pub record Automaton : Type 0 where
   -- the state that a character leads to; 0 for none
@@ -39,7 +40,7 @@ fromTable t =
 
 unfoldable pub fromWords : List ℕ → Automaton
 fromWords m =
-    let ss = take (classCount m) (drop 6 m) in
+    let ss = take (classCount m) (drop classesFrom m) in
     record {
       target = λ s c. targetWord m s (classOf ss c);
       accept = λ s. acceptWord m s;

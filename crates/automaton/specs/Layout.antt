@@ -1,15 +1,38 @@
 -- "Layout, 19,697 words": the machine words of a table.
 use mathlib.Core.List.{List, [], _∷_, map}
-use Prim.Native.Nat.{ℕ}
+use Prim.Native.Nat.{ℕ, _+_, _*_}
 use lib.ListN.{length}
 use Rattle.lists.specs.Lists.{flatMap, pad, isSome, optional}
 use Rattle.meaning.specs.Table.{Table, longest, expansion}
-use Rattle.meaning.specs.Block.{bit, block}
+use Rattle.meaning.specs.Block.{blocksSize, bit, block, blockSize}
 use Rattle.automaton.specs.Classes.{starts}
 use Rattle.automaton.specs.States.{State, states, acceptAtEndOf, acceptOf, targetOf}
 
+-- "from 6, 64 class starts"
+abbrev pub classesFrom : ℕ
+classesFrom = 6
+
+-- "from 70, three words a state", of 256
+abbrev pub statesFrom : ℕ
+statesFrom = classesFrom + 64
+
+abbrev pub statesSize : ℕ
+statesSize = 256 * 3
+
+-- "from 838, 64 targets a state"
+abbrev pub targetsFrom : ℕ
+targetsFrom = statesFrom + statesSize
+
+abbrev pub targetsSize : ℕ
+targetsSize = 256 * 64
+
+-- "from 17222, 33 blocks"
+abbrev pub blocksFrom : ℕ
+blocksFrom = targetsFrom + targetsSize
+
+-- "19,697 words"
 abbrev pub wordCount : ℕ
-wordCount = 19697
+wordCount = blocksFrom + blocksSize
 
 -- "0 states, 1 classes, 2 L, 3 E, 4 rules, 5 default (0 or 1)"
 abbrev pub header : Table → List ℕ
@@ -28,10 +51,10 @@ unfoldable pub parts : Table → List (List ℕ)
 parts t =
     header t
     ∷ pad 64 (starts t)
-    ∷ pad 768 (flatMap (stateWords t) (states t))
-    ∷ pad 16384 (flatMap (targetWords t) (states t))
-    ∷ pad 2400 (flatMap block (t .rules))
-    ∷ pad 75 (flatMap block (optional (t .default)))
+    ∷ pad statesSize (flatMap (stateWords t) (states t))
+    ∷ pad targetsSize (flatMap (targetWords t) (states t))
+    ∷ pad (32 * blockSize) (flatMap block (t .rules))
+    ∷ pad blockSize (flatMap block (optional (t .default)))
     ∷ []
 
 unfoldable pub words : Table → List ℕ

@@ -5,6 +5,4 @@ pub mod Compile
 pub mod Sound
 pub mod Automaton
 pub mod Claims
-pub mod Build
-pub mod Noted
-pub mod Gathered
+pub mod bridge

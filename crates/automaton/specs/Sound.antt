@@ -6,8 +6,8 @@ use lib.Dec.{eqb, leb, ltb}
 use lib.ListN.{length, drop}
 use Rattle.lists.specs.Decide.{allOf, forBelow, implies}
 use Rattle.meaning.specs.Table.{defaultNumber}
-use Rattle.meaning.specs.Block.{at}
-use Rattle.automaton.specs.Layout.{wordCount}
+use Rattle.meaning.specs.Block.{at, blockSize}
+use Rattle.automaton.specs.Layout.{wordCount, blocksFrom, classesFrom, statesFrom, targetsFrom}
 
 abbrev pub classCount : List ℕ → ℕ
 classCount w = at w 1
@@ -27,23 +27,23 @@ abbrev pub stateCount : List ℕ → ℕ
 stateCount w = at w 0
 
 abbrev pub depthWord : List ℕ → ℕ → ℕ
-depthWord w s = at w (70 + 3 * s)
+depthWord w s = at w (statesFrom + 3 * s)
 
 -- end + 1
 abbrev pub acceptAtEndWord : List ℕ → ℕ → ℕ
-acceptAtEndWord w s = at w (71 + 3 * s)
+acceptAtEndWord w s = at w (statesFrom + 1 + 3 * s)
 
 -- go + 1
 abbrev pub acceptWord : List ℕ → ℕ → ℕ
-acceptWord w s = at w (72 + 3 * s)
+acceptWord w s = at w (statesFrom + 2 + 3 * s)
 
 -- of state s by class k
 abbrev pub targetWord : List ℕ → ℕ → ℕ → ℕ
-targetWord w s k = at w (838 + 64 * s + k)
+targetWord w s k = at w (targetsFrom + 64 * s + k)
 
 -- the words from block g on: K, anchored, output count, then the output characters
 abbrev pub blockAt : List ℕ → ℕ → List ℕ
-blockAt w g = drop (17222 + 75 * g) w
+blockAt w g = drop (blocksFrom + blockSize * g) w
 
 abbrev pub between : ℕ → ℕ → ℕ → Bool
 between lo hi x = leb lo x && leb x hi
@@ -67,7 +67,7 @@ module _ (w : List ℕ) where
 
   -- "the class starts begin at 0 and rise strictly"
   unfoldable pub soundStarts : Bool
-  soundStarts = allOf (eqb (at w 6) 0 ∷ forBelow (pred (classCount w)) (λ k. ltb (at w (6 + k)) (at w (7 + k))) ∷ [])
+  soundStarts = allOf (eqb (at w 6) 0 ∷ forBelow (pred (classCount w)) (λ k. ltb (at w (classesFrom + k)) (at w (classesFrom + 1 + k))) ∷ [])
 
   -- "blocks have K 1 to L (default 1), anchored 0 or 1 (default 0), output count at most E"
   unfoldable pub soundBlock : ℕ → ℕ → ℕ → Bool

@@ -5,7 +5,7 @@ ghost use lib.ListN.{length, take};
 ghost use Rattle.session.specs.Contracts.{Feeds};
 ghost use Rattle.session.specs.Keeping.{sessionOf};
 ghost use Rattle.reckoning.specs.Session as Spec;
-ghost use Rattle.convert.specs.Call.{Counted};
+ghost use Rattle.convert.specs.bridge.Call.{Counted};
 use crate::print::print_characters;
 use crate::print::print_refusal;
 use crate::print::print_status;

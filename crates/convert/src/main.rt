@@ -10,6 +10,7 @@ use crate::print::print_refusal;
 use crate::table::read_table;
 use machine::compile::Compiled;
 use machine::compile::compile;
+use machine::layout::WORDS;
 
 fn main() {
     let mut table = [0u8; 32768];
@@ -18,7 +19,7 @@ fn main() {
         return;
     }
     let size = found.size;
-    let mut words = [0u16; 19697];
+    let mut words = [0u16; WORDS];
     match compile(&table[..size], &mut words) {
         Compiled::Refused(number) => print_refusal(number),
         Compiled::Accepted => convert_input(&words),

@@ -4,17 +4,22 @@ ghost use mathlib.Core.Path.{_≡_};
 ghost use Prim.Native.Nat.{_≤_};
 ghost use lib.ListN.{length, take, drop};
 ghost use Rattle.lists.specs.Lists.{pad};
-ghost use Rattle.meaning.specs.Block.{bit};
-ghost use Rattle.meaning.specs.Flat.{Flat};
-ghost use Rattle.automaton.specs.Layout.{wordCount};
+ghost use Rattle.meaning.specs.Block.{bit, blocksSize};
+ghost use Rattle.meaning.specs.bridge.Flat.{Flat};
+ghost use Rattle.automaton.specs.Layout.{wordCount, blocksFrom, classesFrom};
 ghost use Rattle.automaton.specs.Compile as Spec;
-ghost use Rattle.machine.specs.Compiled.{compiledOf, longestAt, built};
+ghost use Rattle.machine.specs.Compiled.{compiledOf};
+ghost use Rattle.machine.specs.bridge.Building.{longestAt, built};
 use crate::gather::gather_starts;
 use crate::states::build_states;
 use rules::convert::expansion;
 use rules::load::Load;
 use rules::load::load_table;
 use rules::reader::bit_of;
+use rules::layout::BLOCK;
+use rules::layout::BLOCKS;
+use crate::layout::BLOCKS_FROM;
+use crate::layout::WORDS;
 
 pub enum Compiled {
     Accepted,
@@ -27,7 +32,7 @@ fn clear(words: &mut [u16])
     ensures { λ _. ⌜ now (words .exit) ≡ pad wordCount [] ++ drop wordCount (now (words .entry)) ⌝ }
 {
     let mut i: usize = 0;
-    while i < 19697 {
+    while i < WORDS {
         words[i] = 0;
         i += 1;
     }
@@ -35,25 +40,25 @@ fn clear(words: &mut [u16])
 
 // The blocks go to the last words.
 fn copy_blocks(words: &mut [u16], blocks: &[u16])
-    requires { ⌜ (wordCount ≤ length (now words)) × (length (now blocks) ≡ 2475) ⌝ }
-    ensures { λ _. ⌜ now (words .exit) ≡ take 17222 (now (words .entry)) ++ now (blocks .entry) ++ drop wordCount (now (words .entry)) ⌝ }
+    requires { ⌜ (wordCount ≤ length (now words)) × (length (now blocks) ≡ blocksSize) ⌝ }
+    ensures { λ _. ⌜ now (words .exit) ≡ take blocksFrom (now (words .entry)) ++ now (blocks .entry) ++ drop wordCount (now (words .entry)) ⌝ }
 {
     let mut i: usize = 0;
-    while i < 2475 {
-        words[17222 + i] = blocks[i];
+    while i < BLOCKS {
+        words[BLOCKS_FROM + i] = blocks[i];
         i += 1;
     }
 }
 
 // L: the greatest length of the first `rules` groups.
 fn longest_of(blocks: &[u16], rules: usize) -> usize
-    requires { ⌜ (length (now blocks) ≡ 2475) × (rules ≤ 32) ⌝ }
+    requires { ⌜ (length (now blocks) ≡ blocksSize) × (rules ≤ 32) ⌝ }
     ensures { λ r. ⌜ r ≡ longestAt (now (blocks .entry)) rules ⌝ }
 {
     let mut most: usize = 0;
     let mut group = 0;
     while group < rules {
-        let size = blocks[75 * group] as usize;
+        let size = blocks[BLOCK * group] as usize;
         if most < size {
             most = size;
         }
@@ -74,7 +79,7 @@ fn put_header(
 )
     requires { ⌜ (6 ≤ length (now words)) × (states ≤ 256) × (classes ≤ 64) × (longest ≤ 8) × (expansion ≤ 8) × (rules ≤ 32) ⌝ }
     ensures { λ _.
-        ⌜ now (words .exit) ≡ (states ∷ classes ∷ longest ∷ expansion ∷ rules ∷ bit defaulted ∷ []) ++ drop 6 (now (words .entry)) ⌝ }
+        ⌜ now (words .exit) ≡ (states ∷ classes ∷ longest ∷ expansion ∷ rules ∷ bit defaulted ∷ []) ++ drop classesFrom (now (words .entry)) ⌝ }
 {
     let last = bit_of(defaulted);
     words[0] = states as u16;
@@ -124,13 +129,13 @@ pub fn compile(table: &[u8], words: &mut [u16]) -> Compiled
     ensures answer { λ r. ⌜ compiledOf r ≡ Spec.compile (now (table .entry)) (now (words .entry)) .answer ⌝ }
     ensures words { λ _. ⌜ now (words .exit) ≡ Spec.compile (now (table .entry)) (now (words .entry)) .words ⌝ }
 {
-    if words.len() < 19697 {
+    if words.len() < WORDS {
         return Compiled::Refused(10);
     }
     clear(words);
     let mut slots = [0u16; 264];
     let mut ranges = [0u16; 2112];
-    let mut blocks = [0u16; 2475];
+    let mut blocks = [0u16; BLOCKS];
     let loaded = load_table(table, &mut slots, &mut ranges, &mut blocks);
     match loaded {
         Load::Refused(n) => Compiled::Refused(n),

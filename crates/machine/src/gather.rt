@@ -6,19 +6,22 @@ ghost use Prim.Native.Nat.{_+_, _-_, _*_, _≤_, _<_};
 ghost use lib.Dec.{eqb, ltb};
 ghost use lib.ListN.{length, take, drop};
 ghost use Rattle.lists.specs.Lists.{flatMap, pad};
-ghost use Rattle.meaning.specs.Block.{at};
-ghost use Rattle.meaning.specs.Flat.{rangesAt, patternAt, tableAt, Flat};
+ghost use Rattle.meaning.specs.Block.{at, blockSize};
+ghost use Rattle.meaning.specs.bridge.Flat.{rangesAt, patternAt, tableAt, Flat};
 ghost use Rattle.automaton.specs.Classes.{edges, starts};
-ghost use Rattle.automaton.specs.Gathered.{placeIn, rangeFrom, Gathers, Gathered};
+ghost use Rattle.automaton.specs.bridge.Gathered.{placeIn, rangeFrom, Gathers, Gathered};
+ghost use Rattle.automaton.specs.Layout.{classesFrom, statesFrom};
+use rules::layout::BLOCK;
+use crate::layout::CLASSES_FROM;
 
 // The place of `start` among the `count` rising words from word 6 on.
 fn place_of(words: &[u16], count: usize, start: u16) -> usize
     requires { ⌜ 6 + count ≤ length (now words) ⌝ }
-    ensures { λ r. ⌜ r ≡ placeIn start (take count (drop 6 (now (words .entry)))) ⌝ }
+    ensures { λ r. ⌜ r ≡ placeIn start (take count (drop classesFrom (now (words .entry)))) ⌝ }
 {
     let mut place: usize = 0;
     while place < count {
-        if words[6 + place] >= start {
+        if words[CLASSES_FROM + place] >= start {
             return place;
         }
         place += 1;
@@ -55,26 +58,26 @@ fn put_in(words: &mut [u16], place: usize, end: usize, start: u16)
 
 // `start` is put among the `count` starts met so far, unless it is there; the number after it. A count of 65 stands for more than fit.
 fn insert_start(words: &mut [u16], count: usize, start: u16) -> usize
-    requires { ⌜ (70 ≤ length (now words)) × (count ≤ 65) ⌝ }
+    requires { ⌜ (statesFrom ≤ length (now words)) × (count ≤ 65) ⌝ }
     ensures { λ r. ⌜ Gathers (start ∷ []) (now (words .entry)) count (now (words .exit)) r ⌝ }
 {
     if count > 64 {
         return 65;
     }
     let place = place_of(words, count, start);
-    if stands_at(words, 6 + place, 6 + count, start) {
+    if stands_at(words, CLASSES_FROM + place, CLASSES_FROM + count, start) {
         return count;
     }
     if count == 64 {
         return 65;
     }
-    put_in(words, 6 + place, 6 + count, start);
+    put_in(words, CLASSES_FROM + place, CLASSES_FROM + count, start);
     count + 1
 }
 
 // The edges of the range whose two numbers start at `i`.
 fn gather_range(ranges: &[u16], i: usize, words: &mut [u16], count: usize) -> usize
-    requires { ⌜ (i + 2 ≤ length (now ranges)) × (70 ≤ length (now words)) × (count ≤ 65) ⌝ }
+    requires { ⌜ (i + 2 ≤ length (now ranges)) × (statesFrom ≤ length (now words)) × (count ≤ 65) ⌝ }
     ensures { λ r. ⌜ Gathers (edges (rangeFrom (now (ranges .entry)) i)) (now (words .entry)) count (now (words .exit)) r ⌝ }
 {
     let lowest = ranges[i];
@@ -95,7 +98,7 @@ fn gather_place(
     count: usize,
 ) -> usize
     requires { ⌜ (place < 264) × (length (now slots) ≡ 264) × (length (now ranges) ≡ 2112) × (at (now slots) place ≤ 4) ⌝ }
-    requires { ⌜ (70 ≤ length (now words)) × (count ≤ 65) ⌝ }
+    requires { ⌜ (statesFrom ≤ length (now words)) × (count ≤ 65) ⌝ }
     ensures { λ r.
         ⌜ Gathers (flatMap edges (rangesAt (now (slots .entry)) (now (ranges .entry)) place)) (now (words .entry)) count (now (words .exit)) r ⌝ }
 {
@@ -119,12 +122,12 @@ fn gather_rule(
     count: usize,
 ) -> usize
     requires { ⌜ Flat (now slots) (now ranges) (now blocks) × (rule < 32) ⌝ }
-    requires { ⌜ (70 ≤ length (now words)) × (count ≤ 65) ⌝ }
+    requires { ⌜ (statesFrom ≤ length (now words)) × (count ≤ 65) ⌝ }
     ensures { λ r.
-        ⌜ Gathers (flatMap (flatMap edges) (patternAt (now (slots .entry)) (now (ranges .entry)) rule (at (now (blocks .entry)) (75 * rule))))
+        ⌜ Gathers (flatMap (flatMap edges) (patternAt (now (slots .entry)) (now (ranges .entry)) rule (at (now (blocks .entry)) (blockSize * rule))))
         (now (words .entry)) count (now (words .exit)) r ⌝ }
 {
-    let size = blocks[75 * rule] as usize;
+    let size = blocks[BLOCK * rule] as usize;
     let mut met = count;
     let mut p: usize = 0;
     while p < size {
@@ -143,7 +146,7 @@ pub fn gather_starts(
     words: &mut [u16],
 ) -> usize
     requires { ⌜ Flat (now slots) (now ranges) (now blocks) × (rules ≤ 32) ⌝ }
-    requires { ⌜ (70 ≤ length (now words)) × (take 64 (drop 6 (now words)) ≡ pad 64 []) ⌝ }
+    requires { ⌜ (statesFrom ≤ length (now words)) × (take 64 (drop classesFrom (now words)) ≡ pad 64 []) ⌝ }
     ensures { λ r.
         ⌜ Gathered (starts (tableAt (now (slots .entry)) (now (ranges .entry)) (now (blocks .entry)) rules false))
         (now (words .entry)) (now (words .exit)) r ⌝ }

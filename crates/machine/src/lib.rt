@@ -1,6 +1,7 @@
 // Machine words: the compiler, sound words, and what the rollback machine reads of words.
 pub mod compile;
 pub mod gather;
+pub mod layout;
 pub mod numbers;
 pub mod read;
 pub mod sets;

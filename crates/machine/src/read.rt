@@ -9,11 +9,19 @@ ghost use mathlib.Core.List.{_++_};
 ghost use Prim.Native.Nat.{_+_, _≤_, _<_};
 ghost use lib.Dec.{T, eqb};
 ghost use lib.ListN.{length, take, drop};
-ghost use Rattle.meaning.specs.Block.{at, blockOutput};
+ghost use Rattle.meaning.specs.Block.{at, blockOutput, blockSize};
 ghost use Rattle.automaton.specs.Classes.{classOf};
-ghost use Rattle.automaton.specs.Layout.{wordCount};
+ghost use Rattle.automaton.specs.Layout.{wordCount, classesFrom};
 ghost use Rattle.automaton.specs.Sound.{classCount, longestWord, expansionWord, depthWord, acceptAtEndWord, acceptWord, targetWord, blockAt, used, sound};
-ghost use Rattle.machine.specs.Readings.{wordOf};
+ghost use Rattle.machine.specs.bridge.Readings.{wordOf};
+use crate::layout::ACCEPT_FROM;
+use crate::layout::AT_END_FROM;
+use rules::layout::BLOCK;
+use crate::layout::BLOCKS_FROM;
+use crate::layout::CLASSES_FROM;
+use crate::layout::STATES_FROM;
+use crate::layout::TARGETS_FROM;
+use crate::layout::WORDS;
 
 // The rule that a state accepts, or nothing.
 pub enum Accept {
@@ -24,13 +32,13 @@ pub enum Accept {
 // The class of a character, by halving: the last start not above it is that of a class from `low` on and below `high`.
 pub fn class_of(words: &[u16], c: u16) -> ClassNo
     requires { ⌜ T (sound (now words)) ⌝ }
-    ensures { λ r. ⌜ r .0 ≡ classOf (take (classCount (now (words .entry))) (drop 6 (now (words .entry)))) c ⌝ }
+    ensures { λ r. ⌜ r .0 ≡ classOf (take (classCount (now (words .entry))) (drop classesFrom (now (words .entry)))) c ⌝ }
 {
     let mut low: usize = 0;
     let mut high = size(words[1]);
     while low + 1 < high {
         let middle = (low + high) / 2;
-        if words[6 + middle] <= c {
+        if words[CLASSES_FROM + middle] <= c {
             low = middle;
         } else {
             high = middle;
@@ -46,7 +54,7 @@ pub fn target(words: &[u16], state: StateNo, class: ClassNo) -> StateNo
 {
     let s = state.0 as usize;
     let k = class.0 as usize;
-    StateNo(words[838 + 64 * s + k])
+    StateNo(words[TARGETS_FROM + 64 * s + k])
 }
 
 // The depth of a state.
@@ -55,7 +63,7 @@ pub fn depth_word(words: &[u16], state: StateNo) -> u16
     ensures { λ r. ⌜ r ≡ depthWord (now (words .entry)) (state .0) ⌝ }
 {
     let s = state.0 as usize;
-    words[70 + 3 * s]
+    words[STATES_FROM + 3 * s]
 }
 
 // The word of a state for the rule that it accepts if the input ends there.
@@ -64,7 +72,7 @@ pub fn accept_at_end_word(words: &[u16], state: StateNo) -> u16
     ensures { λ r. ⌜ r ≡ acceptAtEndWord (now (words .entry)) (state .0) ⌝ }
 {
     let s = state.0 as usize;
-    words[71 + 3 * s]
+    words[AT_END_FROM + 3 * s]
 }
 
 // The word of a state for the rule that it accepts at once.
@@ -73,7 +81,7 @@ pub fn accept_word(words: &[u16], state: StateNo) -> u16
     ensures { λ r. ⌜ r ≡ acceptWord (now (words .entry)) (state .0) ⌝ }
 {
     let s = state.0 as usize;
-    words[72 + 3 * s]
+    words[ACCEPT_FROM + 3 * s]
 }
 
 // The rule that a word of a state names: its number + 1, or 0 for none.
@@ -148,10 +156,10 @@ pub fn expansion(words: &[u16]) -> usize
 
 // Word `i` of a group's block.
 fn block_word(words: &[u16], group: usize, i: usize) -> u16
-    requires { ⌜ (wordCount ≤ length (now words)) × (group < 33) × (i < 75) ⌝ }
+    requires { ⌜ (wordCount ≤ length (now words)) × (group < 33) × (i < blockSize) ⌝ }
     ensures { λ r. ⌜ r ≡ at (blockAt (now (words .entry)) group) i ⌝ }
 {
-    words[17222 + 75 * group + i]
+    words[BLOCKS_FROM + BLOCK * group + i]
 }
 
 // K of a group.
@@ -188,5 +196,5 @@ pub fn write_rule(
         ++ blockOutput (blockAt (now (words .entry)) group) (take (at (blockAt (now (words .entry)) group) 0) (now (store .entry)))
         ++ drop (count + at (blockAt (now (words .entry)) group) 2) (now (output .entry)) ⌝ }
 {
-    write_group(&words[17222..19697], group, store, 0, output, count)
+    write_group(&words[BLOCKS_FROM..WORDS], group, store, 0, output, count)
 }

@@ -7,10 +7,11 @@ ghost use lib.Dec.{eqb, ltb};
 ghost use lib.ListN.{length};
 ghost use Rattle.lists.specs.Lists.{filter, upTo};
 ghost use Rattle.meaning.specs.Table.{inRanges};
-ghost use Rattle.meaning.specs.Block.{at};
-ghost use Rattle.meaning.specs.Flat.{Flat, rangesAt, tableAt};
+ghost use Rattle.meaning.specs.Block.{at, blockSize, blocksSize};
+ghost use Rattle.meaning.specs.bridge.Flat.{Flat, rangesAt, tableAt};
 ghost use Rattle.automaton.specs.States.{firstNumber, longerRules, acceptOf, acceptAtEndOf};
-ghost use Rattle.automaton.specs.Build.{membersFrom, stateOf};
+ghost use Rattle.automaton.specs.bridge.Build.{membersFrom, stateOf};
+use rules::layout::BLOCK;
 
 // The set of all rules.
 pub fn all_rules(rules: usize) -> u32
@@ -30,9 +31,9 @@ pub fn all_rules(rules: usize) -> u32
 fn goes_on(slots: &[u16], ranges: &[u16], blocks: &[u16], rule: usize, depth: usize, c: u16) -> bool
     requires { ⌜ Flat (now slots) (now ranges) (now blocks) ⌝ }
     requires { ⌜ rule < 32 ⌝ }
-    ensures { λ r. ⌜ r ≡ ltb depth (at (now (blocks .entry)) (75 * rule)) && inRanges (rangesAt (now (slots .entry)) (now (ranges .entry)) (8 * rule + depth)) c ⌝ }
+    ensures { λ r. ⌜ r ≡ ltb depth (at (now (blocks .entry)) (blockSize * rule)) && inRanges (rangesAt (now (slots .entry)) (now (ranges .entry)) (8 * rule + depth)) c ⌝ }
 {
-    if depth < blocks[75 * rule] as usize {
+    if depth < blocks[BLOCK * rule] as usize {
         return rules::pattern::in_ranges(slots, ranges, 8 * rule + depth, c);
     }
     false
@@ -73,23 +74,23 @@ pub fn longer_rules(
 
 // The rule ends at the depth, and where only free rules count it is not anchored.
 fn ends_at(blocks: &[u16], rule: usize, depth: usize, free: bool) -> bool
-    requires { ⌜ (length (now blocks) ≡ 2475) × (rule < 32) ⌝ }
-    ensures { λ r. ⌜ r ≡ eqb (at (now (blocks .entry)) (75 * rule)) depth && not (free && eqb (at (now (blocks .entry)) (75 * rule + 1)) 1) ⌝ }
+    requires { ⌜ (length (now blocks) ≡ blocksSize) × (rule < 32) ⌝ }
+    ensures { λ r. ⌜ r ≡ eqb (at (now (blocks .entry)) (blockSize * rule)) depth && not (free && eqb (at (now (blocks .entry)) (blockSize * rule + 1)) 1) ⌝ }
 {
-    if blocks[75 * rule] as usize != depth {
+    if blocks[BLOCK * rule] as usize != depth {
         return false;
     }
     if free {
-        return blocks[75 * rule + 1] != 1;
+        return blocks[BLOCK * rule + 1] != 1;
     }
     true
 }
 
 // The lowest rule + 1 of the set that ends at the depth, or 0.
 fn lowest_ending(blocks: &[u16], rules: usize, set: u32, depth: usize, free: bool) -> u16
-    requires { ⌜ (length (now blocks) ≡ 2475) × (rules ≤ 32) × (set < 2 ^ rules) ⌝ }
+    requires { ⌜ (length (now blocks) ≡ blocksSize) × (rules ≤ 32) × (set < 2 ^ rules) ⌝ }
     ensures { λ r.
-        ⌜ r ≡ firstNumber (filter (λ k. eqb (at (now (blocks .entry)) (75 * k)) depth && not (free && eqb (at (now (blocks .entry)) (75 * k + 1)) 1)) (membersFrom 0 rules set)) ⌝ }
+        ⌜ r ≡ firstNumber (filter (λ k. eqb (at (now (blocks .entry)) (blockSize * k)) depth && not (free && eqb (at (now (blocks .entry)) (blockSize * k + 1)) 1)) (membersFrom 0 rules set)) ⌝ }
 {
     let mut rest = set;
     let mut rule: usize = 0;
@@ -107,7 +108,7 @@ fn lowest_ending(blocks: &[u16], rules: usize, set: u32, depth: usize, free: boo
 
 // The rule + 1 that a state accepts at once, or 0.
 pub fn accept_of(blocks: &[u16], rules: usize, set: u32, depth: usize) -> u16
-    requires { ⌜ (length (now blocks) ≡ 2475) × (rules ≤ 32) × (set < 2 ^ rules) ⌝ }
+    requires { ⌜ (length (now blocks) ≡ blocksSize) × (rules ≤ 32) × (set < 2 ^ rules) ⌝ }
     ensures { λ r. ⌜ ((slots ranges : List ℕ) (d : Bool) → r ≡ acceptOf (tableAt slots ranges (now (blocks .entry)) rules d) (stateOf rules depth set)) ⌝ }
 {
     lowest_ending(blocks, rules, set, depth, true)
@@ -115,7 +116,7 @@ pub fn accept_of(blocks: &[u16], rules: usize, set: u32, depth: usize) -> u16
 
 // The rule + 1 that a state accepts where the input ends, or 0.
 pub fn accept_at_end_of(blocks: &[u16], rules: usize, set: u32, depth: usize) -> u16
-    requires { ⌜ (length (now blocks) ≡ 2475) × (rules ≤ 32) × (set < 2 ^ rules) ⌝ }
+    requires { ⌜ (length (now blocks) ≡ blocksSize) × (rules ≤ 32) × (set < 2 ^ rules) ⌝ }
     ensures { λ r. ⌜ ((slots ranges : List ℕ) (d : Bool) → r ≡ acceptAtEndOf (tableAt slots ranges (now (blocks .entry)) rules d) (stateOf rules depth set)) ⌝ }
 {
     lowest_ending(blocks, rules, set, depth, false)

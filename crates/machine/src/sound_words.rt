@@ -9,6 +9,7 @@ ghost use lib.ListN.{length};
 ghost use Rattle.lists.specs.Decide.{allOf, forBelow, implies};
 ghost use Rattle.meaning.specs.Block.{at};
 ghost use Rattle.automaton.specs.Sound.{stateCount, classCount, ruleCount, longestWord, depthWord, acceptAtEndWord, acceptWord, targetWord, blockAt, between, used, soundHeader, soundStarts, soundBlock, soundBlocks, namesRule, soundTarget, soundState, sound};
+ghost use Rattle.automaton.specs.Layout.{wordCount};
 use crate::numbers::ClassNo;
 use crate::numbers::RuleNo;
 use crate::numbers::StateNo;
@@ -16,6 +17,10 @@ use crate::read::accept_at_end_word;
 use crate::read::accept_word;
 use crate::read::depth_word;
 use crate::read::target;
+use rules::layout::BLOCK;
+use crate::layout::BLOCKS_FROM;
+use crate::layout::CLASSES_FROM;
+use crate::layout::WORDS;
 
 fn within(low: u16, high: u16, x: u16) -> bool
     ensures { λ r. ⌜ r ≡ between low high x ⌝ }
@@ -28,7 +33,7 @@ fn within(low: u16, high: u16, x: u16) -> bool
 
 // "The header is within its limits."
 fn header_sound(words: &[u16]) -> bool
-    requires { ⌜ 19697 ≤ length (now words) ⌝ }
+    requires { ⌜ wordCount ≤ length (now words) ⌝ }
     ensures { λ r. ⌜ r ≡ soundHeader (now (words .entry)) ⌝ }
 {
     if !within(1, 256, words[0]) {
@@ -51,7 +56,7 @@ fn header_sound(words: &[u16]) -> bool
 
 // "The class starts begin at 0 and rise strictly."
 fn starts_sound(words: &[u16]) -> bool
-    requires { ⌜ (19697 ≤ length (now words)) × (classCount (now words) ≤ 64) ⌝ }
+    requires { ⌜ (wordCount ≤ length (now words)) × (classCount (now words) ≤ 64) ⌝ }
     ensures { λ r. ⌜ r ≡ soundStarts (now (words .entry)) ⌝ }
 {
     if words[6] != 0 {
@@ -60,7 +65,7 @@ fn starts_sound(words: &[u16]) -> bool
     let classes = words[1] as usize;
     let mut k: usize = 0;
     while k + 1 < classes {
-        if words[6 + k] >= words[7 + k] {
+        if words[CLASSES_FROM + k] >= words[7 + k] {
             return false;
         }
         k += 1;
@@ -70,20 +75,20 @@ fn starts_sound(words: &[u16]) -> bool
 
 // K is at least 1 and at most `most`, anchored at most `anchored`, the output count at most E. Block 32 is the default's.
 fn block_sound(words: &[u16], block: usize, most: u16, anchored: u16) -> bool
-    requires { ⌜ (19697 ≤ length (now words)) × (block ≤ 32) ⌝ }
+    requires { ⌜ (wordCount ≤ length (now words)) × (block ≤ 32) ⌝ }
     ensures { λ r. ⌜ r ≡ soundBlock (now (words .entry)) block most anchored ⌝ }
 {
-    if !within(1, most, words[17222 + 75 * block]) {
+    if !within(1, most, words[BLOCKS_FROM + BLOCK * block]) {
         return false;
     }
-    if words[17223 + 75 * block] > anchored {
+    if words[17223 + BLOCK * block] > anchored {
         return false;
     }
-    words[17224 + 75 * block] <= words[3]
+    words[17224 + BLOCK * block] <= words[3]
 }
 
 fn rule_blocks_sound(words: &[u16]) -> bool
-    requires { ⌜ (19697 ≤ length (now words)) × (ruleCount (now words) ≤ 32) ⌝ }
+    requires { ⌜ (wordCount ≤ length (now words)) × (ruleCount (now words) ≤ 32) ⌝ }
     ensures { λ r. ⌜ r ≡ forBelow (ruleCount (now (words .entry))) (λ g. soundBlock (now (words .entry)) g (longestWord (now (words .entry))) 1) ⌝ }
 {
     let rules = words[4] as usize;
@@ -98,7 +103,7 @@ fn rule_blocks_sound(words: &[u16]) -> bool
 }
 
 fn blocks_sound(words: &[u16]) -> bool
-    requires { ⌜ (19697 ≤ length (now words)) × (ruleCount (now words) ≤ 32) ⌝ }
+    requires { ⌜ (wordCount ≤ length (now words)) × (ruleCount (now words) ≤ 32) ⌝ }
     ensures { λ r. ⌜ r ≡ soundBlocks (now (words .entry)) ⌝ }
 {
     if !rule_blocks_sound(words) {
@@ -112,7 +117,7 @@ fn blocks_sound(words: &[u16]) -> bool
 
 // The rule is "below the count" and its "K is the depth".
 fn names_rule(words: &[u16], depth: u16, rule: RuleNo) -> bool
-    requires { ⌜ (19697 ≤ length (now words)) × (ruleCount (now words) ≤ 32) ⌝ }
+    requires { ⌜ (wordCount ≤ length (now words)) × (ruleCount (now words) ≤ 32) ⌝ }
     ensures { λ r. ⌜ r ≡ namesRule (now (words .entry)) depth (suc (rule .0)) ⌝ }
 {
     let number = rule.0;
@@ -120,7 +125,7 @@ fn names_rule(words: &[u16], depth: u16, rule: RuleNo) -> bool
         return false;
     }
     let block = number as usize;
-    words[17222 + 75 * block] == depth
+    words[BLOCKS_FROM + BLOCK * block] == depth
 }
 
 fn one_deeper(deeper: u16, depth: u16) -> bool
@@ -131,7 +136,7 @@ fn one_deeper(deeper: u16, depth: u16) -> bool
 
 // "A target exceeds its state's number, is below the state count and lies one deeper."
 fn target_sound(words: &[u16], state: StateNo, target: StateNo) -> bool
-    requires { ⌜ (19697 ≤ length (now words)) × (stateCount (now words) ≤ 256) × (state .0 < 256) ⌝ }
+    requires { ⌜ (wordCount ≤ length (now words)) × (stateCount (now words) ≤ 256) × (state .0 < 256) ⌝ }
     ensures { λ r. ⌜ r ≡ soundTarget (now (words .entry)) (state .0) (target .0) ⌝ }
 {
     let number = target.0;
@@ -146,7 +151,7 @@ fn target_sound(words: &[u16], state: StateNo, target: StateNo) -> bool
 
 // "State 0 has depth 0, others 1 to L."
 fn depth_sound(words: &[u16], state: StateNo) -> bool
-    requires { ⌜ (19697 ≤ length (now words)) × (state .0 < 256) ⌝ }
+    requires { ⌜ (wordCount ≤ length (now words)) × (state .0 < 256) ⌝ }
     ensures { λ r.
         ⌜ r ≡ cond (eqb (state .0) 0) (eqb (depthWord (now (words .entry)) (state .0)) 0)
         (between 1 (longestWord (now (words .entry))) (depthWord (now (words .entry)) (state .0))) ⌝ }
@@ -160,7 +165,7 @@ fn depth_sound(words: &[u16], state: StateNo) -> bool
 
 // The state's "end", if it has one, names a rule.
 fn accept_at_end_sound(words: &[u16], state: StateNo) -> bool
-    requires { ⌜ (19697 ≤ length (now words)) × (ruleCount (now words) ≤ 32) × (state .0 < 256) ⌝ }
+    requires { ⌜ (wordCount ≤ length (now words)) × (ruleCount (now words) ≤ 32) × (state .0 < 256) ⌝ }
     ensures { λ r.
         ⌜ r ≡ implies (used (acceptAtEndWord (now (words .entry)) (state .0)))
         (namesRule (now (words .entry)) (depthWord (now (words .entry)) (state .0)) (acceptAtEndWord (now (words .entry)) (state .0))) ⌝ }
@@ -174,7 +179,7 @@ fn accept_at_end_sound(words: &[u16], state: StateNo) -> bool
 
 // The state's "go", if it has one, names an unanchored rule, and "a go comes with an end".
 fn accept_sound(words: &[u16], state: StateNo) -> bool
-    requires { ⌜ (19697 ≤ length (now words)) × (ruleCount (now words) ≤ 32) × (state .0 < 256) ⌝ }
+    requires { ⌜ (wordCount ≤ length (now words)) × (ruleCount (now words) ≤ 32) × (state .0 < 256) ⌝ }
     ensures { λ r.
         ⌜ r ≡ implies (used (acceptWord (now (words .entry)) (state .0)))
         (allOf (namesRule (now (words .entry)) (depthWord (now (words .entry)) (state .0)) (acceptWord (now (words .entry)) (state .0))
@@ -191,7 +196,7 @@ fn accept_sound(words: &[u16], state: StateNo) -> bool
         return false;
     }
     let block = rule as usize;
-    if words[17223 + 75 * block] != 0 {
+    if words[17223 + BLOCK * block] != 0 {
         return false;
     }
     accept_at_end_word(words, state) != 0
@@ -199,7 +204,7 @@ fn accept_sound(words: &[u16], state: StateNo) -> bool
 
 // The target by the class, if there is one, is sound, and the state has no go.
 fn class_target_sound(words: &[u16], state: StateNo, class: ClassNo) -> bool
-    requires { ⌜ (19697 ≤ length (now words)) × (stateCount (now words) ≤ 256) × (state .0 < 256) × (class .0 < 64) ⌝ }
+    requires { ⌜ (wordCount ≤ length (now words)) × (stateCount (now words) ≤ 256) × (state .0 < 256) × (class .0 < 64) ⌝ }
     ensures { λ r.
         ⌜ r ≡ implies (used (targetWord (now (words .entry)) (state .0) (class .0)))
         (allOf (not (used (acceptWord (now (words .entry)) (state .0)))
@@ -217,7 +222,7 @@ fn class_target_sound(words: &[u16], state: StateNo, class: ClassNo) -> bool
 }
 
 fn targets_sound(words: &[u16], state: StateNo) -> bool
-    requires { ⌜ (19697 ≤ length (now words)) × (stateCount (now words) ≤ 256) × (classCount (now words) ≤ 64) × (state .0 < 256) ⌝ }
+    requires { ⌜ (wordCount ≤ length (now words)) × (stateCount (now words) ≤ 256) × (classCount (now words) ≤ 64) × (state .0 < 256) ⌝ }
     ensures { λ r.
         ⌜ r ≡ forBelow (classCount (now (words .entry))) (λ k.
         implies (used (targetWord (now (words .entry)) (state .0) k))
@@ -237,7 +242,7 @@ fn targets_sound(words: &[u16], state: StateNo) -> bool
 }
 
 fn state_sound(words: &[u16], state: StateNo) -> bool
-    requires { ⌜ (19697 ≤ length (now words)) × (stateCount (now words) ≤ 256) × (classCount (now words) ≤ 64) × (ruleCount (now words) ≤ 32) × (state .0 < 256) ⌝ }
+    requires { ⌜ (wordCount ≤ length (now words)) × (stateCount (now words) ≤ 256) × (classCount (now words) ≤ 64) × (ruleCount (now words) ≤ 32) × (state .0 < 256) ⌝ }
     ensures { λ r. ⌜ r ≡ soundState (now (words .entry)) (state .0) ⌝ }
 {
     if !depth_sound(words, state) {
@@ -253,7 +258,7 @@ fn state_sound(words: &[u16], state: StateNo) -> bool
 }
 
 fn states_sound(words: &[u16]) -> bool
-    requires { ⌜ (19697 ≤ length (now words)) × (stateCount (now words) ≤ 256) × (classCount (now words) ≤ 64) × (ruleCount (now words) ≤ 32) ⌝ }
+    requires { ⌜ (wordCount ≤ length (now words)) × (stateCount (now words) ≤ 256) × (classCount (now words) ≤ 64) × (ruleCount (now words) ≤ 32) ⌝ }
     ensures { λ r. ⌜ r ≡ forBelow (stateCount (now (words .entry))) (soundState (now (words .entry))) ⌝ }
 {
     let states = words[0];
@@ -271,7 +276,7 @@ fn states_sound(words: &[u16]) -> bool
 pub fn is_sound(words: &[u16]) -> bool
     ensures { λ r. ⌜ r ≡ sound (now (words .entry)) ⌝ }
 {
-    if words.len() < 19697 {
+    if words.len() < WORDS {
         return false;
     }
     if !header_sound(words) {

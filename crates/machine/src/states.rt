@@ -7,12 +7,17 @@ ghost use lib.Dec.{ltb};
 ghost use lib.ListN.{length, getD, take, drop};
 ghost use Rattle.lists.specs.Lists.{flatMap, pad};
 ghost use Rattle.meaning.specs.Block.{at};
-ghost use Rattle.meaning.specs.Flat.{Flat, tableAt};
+ghost use Rattle.meaning.specs.bridge.Flat.{Flat, tableAt};
 ghost use Rattle.automaton.specs.Classes.{starts};
 ghost use Rattle.automaton.specs.States.{initial, acceptOf, states};
-ghost use Rattle.automaton.specs.Layout.{stateWords, targetWords};
-ghost use Rattle.automaton.specs.Build.{stateOf, numberIn, statesAt};
-ghost use Rattle.automaton.specs.Noted.{NotedAt, Kept, Onward};
+ghost use Rattle.automaton.specs.Layout.{stateWords, targetWords, blocksFrom, classesFrom, statesFrom, statesSize, targetsSize, wordCount};
+ghost use Rattle.automaton.specs.bridge.Build.{stateOf, numberIn, statesAt};
+ghost use Rattle.automaton.specs.bridge.Noted.{NotedAt, Kept, Onward};
+use crate::layout::ACCEPT_FROM;
+use crate::layout::AT_END_FROM;
+use crate::layout::CLASSES_FROM;
+use crate::layout::STATES_FROM;
+use crate::layout::TARGETS_FROM;
 
 // The number of the state with this depth and set, or the count where it is not there yet. The states before `from` have other depths.
 fn find_state(
@@ -23,8 +28,8 @@ fn find_state(
     depth: usize,
     set: u32,
 ) -> usize
-    requires { ⌜ (from ≤ count) × (count ≤ 256) × (19697 ≤ length (now words)) × (length (now sets) ≡ 256) ⌝ }
-    requires { ⌜ ((i : ℕ) → i < from → at (now words) (70 + 3 * i) ≡ depth → ⊥) ⌝ }
+    requires { ⌜ (from ≤ count) × (count ≤ 256) × (wordCount ≤ length (now words)) × (length (now sets) ≡ 256) ⌝ }
+    requires { ⌜ ((i : ℕ) → i < from → at (now words) (statesFrom + 3 * i) ≡ depth → ⊥) ⌝ }
     ensures { λ r. ⌜ r ≤ count ⌝ }
     ensures { λ r.
         ⌜ ((n : ℕ) → ((i : ℕ) → i < count → at (now (sets .entry)) i < 2 ^ n) → set < 2 ^ n →
@@ -33,7 +38,7 @@ fn find_state(
     let mut i = from;
     while i < count {
         if sets[i] == set {
-            if words[70 + 3 * i] as usize == depth {
+            if words[STATES_FROM + 3 * i] as usize == depth {
                 return i;
             }
         }
@@ -62,7 +67,7 @@ fn note_class(
         ⌜ Onward (tableAt (now (slots .entry)) (now (ranges .entry)) (now (blocks .entry)) rules false)
         rules (suc state) state (suc class) (now (words .entry)) (now (words .exit)) (now (sets .exit)) r ⌝ }
 {
-    let depth = words[70 + 3 * state] as usize;
+    let depth = words[STATES_FROM + 3 * state] as usize;
     let set = crate::sets::longer_rules(
         slots,
         ranges,
@@ -70,13 +75,13 @@ fn note_class(
         rules,
         sets[state],
         depth,
-        words[6 + class],
+        words[CLASSES_FROM + class],
     );
     if set == 0 {
         return count;
     }
     let number = find_state(words, sets, state + 1, count, depth + 1, set);
-    let place = 838 + 64 * state + class;
+    let place = TARGETS_FROM + 64 * state + class;
     if number != count {
         words[place] = number as u16;
         return count;
@@ -84,7 +89,7 @@ fn note_class(
     if count == 256 {
         return 257;
     }
-    words[70 + 3 * count] = (depth + 1) as u16;
+    words[STATES_FROM + 3 * count] = (depth + 1) as u16;
     sets[count] = set;
     words[place] = count as u16;
     count + 1
@@ -152,12 +157,12 @@ fn note_state(
         ⌜ Onward (tableAt (now (slots .entry)) (now (ranges .entry)) (now (blocks .entry)) rules false)
         rules (suc state) (suc state) 0 (now (words .entry)) (now (words .exit)) (now (sets .exit)) r ⌝ }
 {
-    let depth = words[70 + 3 * state] as usize;
+    let depth = words[STATES_FROM + 3 * state] as usize;
     let set = sets[state];
     let end = crate::sets::accept_at_end_of(blocks, rules, set, depth);
     let accept = crate::sets::accept_of(blocks, rules, set, depth);
-    words[71 + 3 * state] = end;
-    words[72 + 3 * state] = accept;
+    words[AT_END_FROM + 3 * state] = end;
+    words[ACCEPT_FROM + 3 * state] = accept;
     if accept != 0 {
         return count;
     }
@@ -186,8 +191,8 @@ pub fn build_states(
 ) -> usize
     requires { ⌜ Flat (now slots) (now ranges) (now blocks) ⌝ }
     requires { ⌜ (let t = tableAt (now slots) (now ranges) (now blocks) rules false in
-        (rules ≤ 32) × (classes ≡ length (starts t)) × (classes ≤ 64) × ((k : ℕ) → k < length (starts t) → at (now words) (6 + k) ≡ getD (starts t) k 0)) ⌝ }
-    requires { ⌜ (19697 ≤ length (now words)) × (length (now sets) ≡ 256) × ((i : ℕ) → 70 ≤ i → i < 17222 → at (now words) i ≡ 0) ⌝ }
+        (rules ≤ 32) × (classes ≡ length (starts t)) × (classes ≤ 64) × ((k : ℕ) → k < length (starts t) → at (now words) (classesFrom + k) ≡ getD (starts t) k 0)) ⌝ }
+    requires { ⌜ (wordCount ≤ length (now words)) × (length (now sets) ≡ 256) × ((i : ℕ) → statesFrom ≤ i → i < blocksFrom → at (now words) i ≡ 0) ⌝ }
     ensures answer { λ r.
         ⌜ (let t = tableAt (now (slots .entry)) (now (ranges .entry)) (now (blocks .entry)) rules false in
         r ≡ cond (ltb 256 (length (states t))) 257 (length (states t))) ⌝ }
@@ -195,10 +200,10 @@ pub fn build_states(
         ⌜ (let t = tableAt (now (slots .entry)) (now (ranges .entry)) (now (blocks .entry)) rules false in
         length (states t) ≤ 256 →
         now (words .exit)
-        ≡ take 70 (now (words .entry)) ++ pad 768 (flatMap (stateWords t) (states t)) ++ pad 16384 (flatMap (targetWords t) (states t)) ++ drop 17222 (now (words .entry))) ⌝ }
+        ≡ take statesFrom (now (words .entry)) ++ pad statesSize (flatMap (stateWords t) (states t)) ++ pad targetsSize (flatMap (targetWords t) (states t)) ++ drop blocksFrom (now (words .entry))) ⌝ }
     ensures kept { λ _. ⌜ Kept (now (words .entry)) (now (words .exit)) ⌝ }
 {
-    words[70] = 0;
+    words[STATES_FROM] = 0;
     sets[0] = crate::sets::all_rules(rules);
     let mut count: usize = 1;
     let mut state: usize = 0;

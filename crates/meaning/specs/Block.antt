@@ -1,4 +1,4 @@
--- A group as 75 numbers, from which it is evaluated modulo 65536: the "blocks" of document 01's layout.
+-- A group as numbers, from which it is evaluated modulo 65536: the "blocks" of document 01's layout.
 use mathlib.Core.Bool.{Bool, true, false}
 use mathlib.Core.List.{List, [], _∷_, map}
 use Prim.Native.Nat.{ℕ, _+_, _-_, _*_, _%_}
@@ -16,13 +16,24 @@ abbrev pub bit : Bool → ℕ
 bit true = 1
 bit false = 0
 
--- "a constant and eight coefficients by position"
+-- an entry: "a constant and eight coefficients by position"
+abbrev pub entrySize : ℕ
+entrySize = 9
+
+-- a block: "K, anchored, output count, then eight times" an entry
+abbrev pub blockSize : ℕ
+blockSize = 3 + 8 * entrySize
+
+-- "33 blocks"
+abbrev pub blocksSize : ℕ
+blocksSize = 33 * blockSize
+
 unfoldable pub entry : Output → List ℕ
 entry (sum c ks) = word c ∷ pad 8 (map word ks)
 
--- "K, anchored, output count, then eight times" an entry; "unused words are 0"
+-- "unused words are 0"
 unfoldable pub block : Group → List ℕ
-block g = pad 75 (g .size ∷ bit (g .anchored) ∷ length (g .outputs) ∷ flatMap entry (g .outputs))
+block g = pad blockSize (g .size ∷ bit (g .anchored) ∷ length (g .outputs) ∷ flatMap entry (g .outputs))
 
 -- number i of a list of words
 abbrev pub at : List ℕ → ℕ → ℕ
@@ -36,4 +47,4 @@ wordSum v (a ∷ ks) (c ∷ w) = wordSum ((v + a * c) % 65536) ks w
 
 -- what a block writes for a word, its coefficients below K
 unfoldable pub blockOutput : List ℕ → List ℕ → List ℕ
-blockOutput b w = tabFrom 0 (at b 2) (λ j. wordSum (at b (3 + 9 * j)) (take (at b 0) (drop (4 + 9 * j) b)) w)
+blockOutput b w = tabFrom 0 (at b 2) (λ j. wordSum (at b (3 + entrySize * j)) (take (at b 0) (drop (4 + entrySize * j) b)) w)

@@ -7,5 +7,5 @@ pub mod Meaning
 pub mod Block
 pub mod Direct
 pub mod Claims
-pub mod Flat
 pub mod Samples
+pub mod bridge

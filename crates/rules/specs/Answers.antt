@@ -1,50 +1,13 @@
 -- What the code's answers mean: the paper's number and values for each case.
-use mathlib.Core.Bool.{Bool, true, false, not}
-use mathlib.Core.List.{List, [], _∷_}
-use mathlib.Core.Option.{Option, none, some}
-use mathlib.Core.Path.{_≡_}
-use Prim.Native.Nat.{ℕ}
-use lib.Dec.{eqb}
-use lib.ListN.{length}
-use Rattle.lists.specs.Lists.{isSome}
-use Rattle.lists.specs.Decide.{select}
+use mathlib.Core.Bool.{true, false}
 use Rattle.meaning.specs.Refusal.{Outcome, refused, accepted}
-use Rattle.meaning.specs.Record as Spec
-use Rattle.meaning.specs.Table.{Table}
 use Rattle.meaning.specs.Direct.{Converted}
-use Rattle.rules.specs.Summary.{gap}
-use Rattle.meaning.specs.Flat.{slotWords, rangeWords, blockWords}
-use Rattle.rules.specs.declared.record.Record.{Record}
-use Rattle.rules.specs.declared.record.Record.the-variants.{Rule, Range, Output, Term, Default, Bad}
-use Rattle.rules.specs.declared.reader.Reader.{Reader}
-use Rattle.rules.specs.declared.reader.Step.{Step}
-use Rattle.rules.specs.declared.reader.Step.the-variants.{Onward, Refused}
-use Rattle.rules.specs.declared.load.Load.{Load}
-use Rattle.rules.specs.declared.load.Load.the-variants as Load
-use Rattle.rules.specs.declared.pattern.Choice.{Choice}
-use Rattle.rules.specs.declared.pattern.Choice.the-variants as Choice
 use Rattle.rules.specs.declared.convert.Conversion.{Conversion}
 use Rattle.rules.specs.declared.convert.Conversion.the-variants as Conversion
 use Rattle.rules.specs.declared.convert.Verdict.{Verdict}
 use Rattle.rules.specs.declared.convert.Verdict.the-variants as Verdict
 
-abbrev pub recordOf : Record → Option Spec.Record
-recordOf (Rule size anchored) = some (Spec.rule size anchored)
-recordOf (Range position lowest highest) = some (Spec.range position (record { lowest = lowest; highest = highest }))
-recordOf (Output constant) = some (Spec.output constant)
-recordOf (Term position coefficient) = some (Spec.term position coefficient)
-recordOf Default = some Spec.default
-recordOf Bad = none
-
-abbrev pub stepOf : Step → Outcome Reader
-stepOf (Onward r) = accepted r
-stepOf (Refused n) = refused n
-
--- the group's number; none for no choice
-abbrev pub choiceOf : Choice → Option ℕ
-choiceOf (Choice.Group n) = some n
-choiceOf Choice.Nothing = none
-
+-- "answers closed or stopped, the place and the output count"; "A refusal answers its number"
 abbrev pub conversionOf : Conversion → Outcome Converted
 conversionOf (Conversion.Closed place count) = accepted (record { closed = true; place = place; count = count })
 conversionOf (Conversion.Stopped place count) = accepted (record { closed = false; place = place; count = count })
@@ -53,14 +16,3 @@ conversionOf (Conversion.Refused n) = refused n
 abbrev pub checkOf : Verdict → Outcome (Unit {0})
 checkOf Verdict.Accepted = accepted tt
 checkOf (Verdict.Refused n) = refused n
-
--- the refusals of a table's end, of a table that passes refusal 7's test or not
-abbrev pub endOf : Reader → Bool → Load
-endOf r safe =
-    select ((gap r, Load.Refused 4) ∷ (eqb (r .rules) 0, Load.Refused 5) ∷ (not safe, Load.Refused 7) ∷ []) (Load.Accepted (r .rules) (r .defaulted))
-
--- the check's answer, and where the table is accepted the arrays: a function of the table
-abbrev pub LoadedBy : Outcome Table → Load → List ℕ → List ℕ → List ℕ → Type 0
-LoadedBy (refused n) r slots ranges blocks = r ≡ Load.Refused n
-LoadedBy (accepted t) r slots ranges blocks =
-    (r ≡ Load.Accepted (length (t .rules)) (isSome (t .default))) × (slots ≡ slotWords t) × (ranges ≡ rangeWords t) × (blocks ≡ blockWords t)

@@ -1,2 +1,2 @@
-pub mod Summary
 pub mod Answers
+pub mod bridge

@@ -4,9 +4,9 @@ ghost use mathlib.Core.Path.{_≡_};
 ghost use Prim.Native.Nat.{ℕ, _*_, _≤_, _<_};
 ghost use lib.ListN.{length};
 ghost use Rattle.meaning.specs.Refusal.{accepted};
-ghost use Rattle.meaning.specs.Block.{at};
+ghost use Rattle.meaning.specs.Block.{at, blockSize, blocksSize};
 ghost use Rattle.meaning.specs.Meaning.{covered};
-ghost use Rattle.meaning.specs.Flat.{Flat, expansionAt, flatConversion, flatText, flatDirect};
+ghost use Rattle.meaning.specs.bridge.Flat.{Flat, expansionAt, flatConversion, flatText, flatDirect};
 ghost use Rattle.meaning.specs.Direct.{over, checked, direct};
 ghost use Rattle.rules.specs.Answers.{conversionOf, checkOf};
 use crate::load::Load;
@@ -14,6 +14,9 @@ use crate::load::load_table;
 use crate::output::write_group;
 use crate::pattern::Choice;
 use crate::pattern::choose_at;
+use crate::layout::BLOCK;
+use crate::layout::BLOCKS;
+use crate::layout::DEFAULT_OUTPUTS;
 
 // The place where a conversion ended and the characters written, or the refusal.
 pub enum Conversion {
@@ -30,16 +33,16 @@ pub enum Verdict {
 
 // E: the greatest number of output characters of the first `rules` groups, and of group 32 where there is a default.
 pub fn expansion(blocks: &[u16], rules: usize, defaulted: bool) -> usize
-    requires { ⌜ (length (now blocks) ≡ 2475) × (rules ≤ 32) ⌝ }
+    requires { ⌜ (length (now blocks) ≡ blocksSize) × (rules ≤ 32) ⌝ }
     ensures { λ r. ⌜ r ≡ expansionAt (now (blocks .entry)) rules defaulted ⌝ }
 {
     let mut most: usize = 0;
     if defaulted {
-        most = blocks[2402] as usize;
+        most = blocks[DEFAULT_OUTPUTS] as usize;
     }
     let mut group = 0;
     while group < rules {
-        let count = blocks[75 * group + 2] as usize;
+        let count = blocks[BLOCK * group + 2] as usize;
         if most < count {
             most = count;
         }
@@ -60,8 +63,8 @@ pub fn convert_flat(
 ) -> Conversion
     requires { ⌜ Flat (now slots) (now ranges) (now blocks) ⌝ }
     requires { ⌜ rules ≤ 32 ⌝ }
-    requires { ⌜ ((g : ℕ) → g < rules → 1 ≤ at (now blocks) (75 * g)) ⌝ }
-    requires { ⌜ (defaulted ≡ true → at (now blocks) 2400 ≡ 1) ⌝ }
+    requires { ⌜ ((g : ℕ) → g < rules → 1 ≤ at (now blocks) (blockSize * g)) ⌝ }
+    requires { ⌜ (defaulted ≡ true → at (now blocks) (32 * blockSize) ≡ 1) ⌝ }
     requires { ⌜ length (flatText (now blocks) (flatConversion (now slots) (now ranges) (now blocks) rules defaulted (now input) .log)) ≤ length (now output) ⌝ }
     ensures answer { λ r. ⌜ (
         let whole = flatConversion (now (slots .entry)) (now (ranges .entry)) (now (blocks .entry)) rules defaulted (now (input .entry)) in
@@ -79,7 +82,7 @@ pub fn convert_flat(
             return Conversion::Stopped { place, count };
         };
         count = write_group(blocks, group, input, place, output, count);
-        place += blocks[75 * group] as usize;
+        place += blocks[BLOCK * group] as usize;
     }
     Conversion::Closed { place, count }
 }
@@ -96,8 +99,8 @@ fn convert_loaded(
 ) -> Conversion
     requires { ⌜ Flat (now slots) (now ranges) (now blocks) ⌝ }
     requires { ⌜ rules ≤ 32 ⌝ }
-    requires { ⌜ ((g : ℕ) → g < rules → 1 ≤ at (now blocks) (75 * g)) ⌝ }
-    requires { ⌜ (defaulted ≡ true → at (now blocks) 2400 ≡ 1) ⌝ }
+    requires { ⌜ ((g : ℕ) → g < rules → 1 ≤ at (now blocks) (blockSize * g)) ⌝ }
+    requires { ⌜ (defaulted ≡ true → at (now blocks) (32 * blockSize) ≡ 1) ⌝ }
     requires { ⌜ length (flatText (now blocks) (flatConversion (now slots) (now ranges) (now blocks) rules defaulted (now input) .log))
         ≤ expansionAt (now blocks) rules defaulted * length (now input) ⌝ }
     ensures answer { λ r. ⌜ conversionOf r
@@ -121,7 +124,7 @@ pub fn convert(table: &[u8], input: &[u16], output: &mut [u16]) -> Conversion
 {
     let mut slots = [0u16; 264];
     let mut ranges = [0u16; 2112];
-    let mut blocks = [0u16; 2475];
+    let mut blocks = [0u16; BLOCKS];
     let loaded = load_table(table, &mut slots, &mut ranges, &mut blocks);
     match loaded {
         Load::Refused(n) => Conversion::Refused(n),
@@ -137,7 +140,7 @@ pub fn check(table: &[u8]) -> Verdict
 {
     let mut slots = [0u16; 264];
     let mut ranges = [0u16; 2112];
-    let mut blocks = [0u16; 2475];
+    let mut blocks = [0u16; BLOCKS];
     let loaded = load_table(table, &mut slots, &mut ranges, &mut blocks);
     match loaded {
         Load::Refused(n) => Verdict::Refused(n),

@@ -1,5 +1,6 @@
 // Tables of rules: the table check and direct conversion.
 pub mod convert;
+pub mod layout;
 pub mod load;
 pub mod output;
 pub mod pattern;

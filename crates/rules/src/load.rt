@@ -6,9 +6,10 @@ ghost use Prim.Native.Nat.{_≤_, _/_, _%_};
 ghost use lib.ListN.{length};
 ghost use Rattle.lists.specs.Lists.{pad};
 ghost use Rattle.meaning.specs.Reader.{readTable};
-ghost use Rattle.rules.specs.Summary.{started, gap, takeRecords, Arrays};
-ghost use Rattle.meaning.specs.Flat.{Flat, safeAt};
-ghost use Rattle.rules.specs.Answers.{stepOf, endOf, LoadedBy};
+ghost use Rattle.rules.specs.bridge.Summary.{started, gap, takeRecords, Arrays};
+ghost use Rattle.meaning.specs.bridge.Flat.{Flat, safeAt};
+ghost use Rattle.rules.specs.bridge.Readings.{stepOf, endOf, LoadedBy};
+ghost use Rattle.meaning.specs.Block.{blocksSize};
 use crate::reader::Reader;
 use crate::reader::Step;
 use crate::reader::has_gap;
@@ -31,7 +32,7 @@ pub fn load_records(
     constants: &mut [u32],
 ) -> Step
     requires { ⌜ length (now table) % 8 ≡ 0 ⌝ }
-    requires { ⌜ (length (now slots) ≡ 264) × (length (now ranges) ≡ 2112) × (length (now blocks) ≡ 2475) × (length (now constants) ≡ 264) ⌝ }
+    requires { ⌜ (length (now slots) ≡ 264) × (length (now ranges) ≡ 2112) × (length (now blocks) ≡ blocksSize) × (length (now constants) ≡ 264) ⌝ }
     ensures answer { λ r. ⌜ (
         let taken = takeRecords (length (now (table .entry)) / 8) (now (table .entry)) started
         (record { slots = now (slots .entry); ranges = now (ranges .entry); blocks = now (blocks .entry); constants = now (constants .entry) }) in
@@ -83,7 +84,7 @@ fn finish_load(
 
 // The table check, refusals 1 to 7. Into arrays of zeros it loads the arrays of an accepted table.
 pub fn load_table(table: &[u8], slots: &mut [u16], ranges: &mut [u16], blocks: &mut [u16]) -> Load
-    requires { ⌜ (now slots ≡ pad 264 []) × (now ranges ≡ pad 2112 []) × (now blocks ≡ pad 2475 []) ⌝ }
+    requires { ⌜ (now slots ≡ pad 264 []) × (now ranges ≡ pad 2112 []) × (now blocks ≡ pad blocksSize []) ⌝ }
     ensures { λ r. ⌜ LoadedBy (readTable (now (table .entry))) r (now (slots .exit)) (now (ranges .exit)) (now (blocks .exit)) ⌝ }
 {
     if table.len() % 8 != 0 {

@@ -3,7 +3,9 @@ ghost use mathlib.Core.Path.{_≡_};
 ghost use mathlib.Core.List.{_++_};
 ghost use Prim.Native.Nat.{_+_, _*_, _%_, _≤_, _<_};
 ghost use lib.ListN.{length, take, drop};
-ghost use Rattle.meaning.specs.Block.{at, wordSum, blockOutput};
+ghost use Rattle.meaning.specs.Block.{at, wordSum, blockOutput, blockSize, blocksSize};
+use crate::layout::BLOCK;
+use crate::layout::ENTRY;
 
 // a * c, modulo 65536.
 pub fn wrapping_product(a: u16, c: u16) -> u16
@@ -39,22 +41,22 @@ pub fn write_group(
     output: &mut [u16],
     count: usize,
 ) -> usize
-    requires { ⌜ (group < 33) × (length (now blocks) ≡ 2475) ⌝ }
-    requires { ⌜ (at (now blocks) (75 * group) ≤ 8) × (at (now blocks) (75 * group + 2) ≤ 8) ⌝ }
-    requires { ⌜ place + at (now blocks) (75 * group) ≤ length (now input) ⌝ }
-    requires { ⌜ count + at (now blocks) (75 * group + 2) ≤ length (now output) ⌝ }
-    ensures { λ r. ⌜ r ≡ count + at (now (blocks .entry)) (75 * group + 2) ⌝ }
+    requires { ⌜ (group < 33) × (length (now blocks) ≡ blocksSize) ⌝ }
+    requires { ⌜ (at (now blocks) (blockSize * group) ≤ 8) × (at (now blocks) (blockSize * group + 2) ≤ 8) ⌝ }
+    requires { ⌜ place + at (now blocks) (blockSize * group) ≤ length (now input) ⌝ }
+    requires { ⌜ count + at (now blocks) (blockSize * group + 2) ≤ length (now output) ⌝ }
+    ensures { λ r. ⌜ r ≡ count + at (now (blocks .entry)) (blockSize * group + 2) ⌝ }
     ensures { λ _. ⌜ now (output .exit)
         ≡ take count (now (output .entry))
-        ++ blockOutput (drop (75 * group) (now (blocks .entry))) (take (at (now (blocks .entry)) (75 * group)) (drop place (now (input .entry))))
-        ++ drop (count + at (now (blocks .entry)) (75 * group + 2)) (now (output .entry)) ⌝ }
+        ++ blockOutput (drop (blockSize * group) (now (blocks .entry))) (take (at (now (blocks .entry)) (blockSize * group)) (drop place (now (input .entry))))
+        ++ drop (count + at (now (blocks .entry)) (blockSize * group + 2)) (now (output .entry)) ⌝ }
 {
-    let base = 75 * group;
+    let base = BLOCK * group;
     let size = blocks[base] as usize;
     let number = blocks[base + 2] as usize;
     let mut j = 0;
     while j < number {
-        output[count + j] = sum_at(blocks, base + 3 + 9 * j, size, input, place);
+        output[count + j] = sum_at(blocks, base + 3 + ENTRY * j, size, input, place);
         j += 1;
     }
     count + number

@@ -9,8 +9,9 @@ ghost use Rattle.meaning.specs.Table.{inRanges};
 ghost use Rattle.meaning.specs.Block.{at};
 ghost use Rattle.meaning.specs.Value.{fitsWord};
 ghost use Rattle.meaning.specs.Meaning.{fits, choose};
-ghost use Rattle.meaning.specs.Flat.{rangesAt, groupAt, tableAt, Flat};
-ghost use Rattle.rules.specs.Answers.{choiceOf};
+ghost use Rattle.meaning.specs.bridge.Flat.{rangesAt, groupAt, tableAt, Flat};
+ghost use Rattle.rules.specs.bridge.Readings.{choiceOf};
+use crate::layout::BLOCK;
 
 // The number of the group chosen, or nothing where no rule fits and there is no default.
 pub enum Choice {
@@ -81,12 +82,12 @@ pub fn fits_at(
     requires { ⌜ (group < 33) × (at ≤ length (now input)) ⌝ }
     ensures { λ r. ⌜ r ≡ fits (groupAt (now (slots .entry)) (now (ranges .entry)) (now (blocks .entry)) group) (drop at (now (input .entry))) ⌝ }
 {
-    let size = blocks[75 * group] as usize;
+    let size = blocks[BLOCK * group] as usize;
     let left = input.len() - at;
     if left < size {
         return false;
     }
-    if blocks[75 * group + 1] == 1 {
+    if blocks[BLOCK * group + 1] == 1 {
         if size < left {
             return false;
         }
@@ -113,7 +114,7 @@ pub fn choose_at(
     let mut least: usize = 9;
     let mut r: usize = 0;
     while r < rules {
-        let size = blocks[75 * r] as usize;
+        let size = blocks[BLOCK * r] as usize;
         if size < least {
             if fits_at(slots, ranges, blocks, r, input, at) {
                 best = r;

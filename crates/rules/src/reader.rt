@@ -6,10 +6,13 @@ ghost use lib.Dec.{eqb, leb, ltb};
 ghost use lib.ListN.{length, set};
 ghost use Rattle.meaning.specs.Table.{Range};
 ghost use Rattle.meaning.specs.Record.{rule, range, output, term, default};
-ghost use Rattle.meaning.specs.Block.{bit};
-ghost use Rattle.rules.specs.Answers.{recordOf, stepOf};
-ghost use Rattle.rules.specs.Summary.{Fitting, started, rangesRead, gap, groupNumber, slotNumber, admit, admitted, ifAdmitted, ifTaken, slotsBy, rangesBy, blocksBy, constantsBy};
+ghost use Rattle.meaning.specs.Block.{bit, blockSize, blocksSize, entrySize};
+ghost use Rattle.rules.specs.bridge.Readings.{recordOf, stepOf};
+ghost use Rattle.rules.specs.bridge.Summary.{Fitting, started, rangesRead, gap, groupNumber, slotNumber, admit, admitted, ifAdmitted, ifTaken, slotsBy, rangesBy, blocksBy, constantsBy};
 use crate::record::Record;
+use crate::layout::BLOCK;
+use crate::layout::DEFAULT_BLOCK;
+use crate::layout::ENTRY;
 
 // A summary of the table read so far: its last record's kind (0 for none), its rules, whether it has a default; and of its last group the
 // length, the positions that have a range, the last position's ranges and the highest character of the last of them, the output characters,
@@ -99,7 +102,7 @@ pub fn bit_of(flag: bool) -> u16
 // A rule: a new group, its length and whether it is anchored at the start of its block.
 fn on_rule(reader: Reader, size: u8, anchored: bool, blocks: &mut [u16]) -> Step
     requires { ⌜ Fitting reader ⌝ }
-    requires { ⌜ length (now blocks) ≡ 2475 ⌝ }
+    requires { ⌜ length (now blocks) ≡ blocksSize ⌝ }
     ensures { λ r. ⌜ stepOf r ≡ admit reader (rule size anchored) ⌝ }
     ensures { λ r. ⌜ now (blocks .exit) ≡ ifAdmitted (admit reader (rule size anchored)) (blocksBy reader (rule size anchored) (now (blocks .entry))) (now (blocks .entry)) ⌝ }
 {
@@ -113,7 +116,7 @@ fn on_rule(reader: Reader, size: u8, anchored: bool, blocks: &mut [u16]) -> Step
     if rules == 32 {
         return Step::Refused(6);
     }
-    let at = 75 * rules;
+    let at = BLOCK * rules;
     blocks[at] = size as u16;
     blocks[at + 1] = bit_of(anchored);
     Step::Onward(Reader {
@@ -244,20 +247,20 @@ fn on_range(
 // Output character `number` of a group, with its constant.
 fn put_output(group: usize, number: usize, constant: u32, blocks: &mut [u16], constants: &mut [u32])
     requires { ⌜ (group < 33) × (number < 8) ⌝ }
-    requires { ⌜ length (now blocks) ≡ 2475 ⌝ }
+    requires { ⌜ length (now blocks) ≡ blocksSize ⌝ }
     requires { ⌜ length (now constants) ≡ 264 ⌝ }
-    ensures { λ _. ⌜ now (blocks .exit) ≡ set (set (now (blocks .entry)) (75 * group + 2) (number + 1)) (75 * group + 3 + 9 * number) (constant % 65536) ⌝ }
+    ensures { λ _. ⌜ now (blocks .exit) ≡ set (set (now (blocks .entry)) (blockSize * group + 2) (number + 1)) (blockSize * group + 3 + entrySize * number) (constant % 65536) ⌝ }
     ensures { λ _. ⌜ now (constants .exit) ≡ set (now (constants .entry)) (8 * group + number) constant ⌝ }
 {
-    blocks[75 * group + 2] = (number + 1) as u16;
-    blocks[75 * group + 3 + 9 * number] = (constant % 65536) as u16;
+    blocks[BLOCK * group + 2] = (number + 1) as u16;
+    blocks[BLOCK * group + 3 + ENTRY * number] = (constant % 65536) as u16;
     constants[8 * group + number] = constant;
 }
 
 // An output character of the last group.
 fn on_output(reader: Reader, constant: u32, blocks: &mut [u16], constants: &mut [u32]) -> Step
     requires { ⌜ Fitting reader ⌝ }
-    requires { ⌜ length (now blocks) ≡ 2475 ⌝ }
+    requires { ⌜ length (now blocks) ≡ blocksSize ⌝ }
     requires { ⌜ length (now constants) ≡ 264 ⌝ }
     ensures { λ r. ⌜ stepOf r ≡ admit reader (output constant) ⌝ }
     ensures { λ r. ⌜ now (blocks .exit) ≡ ifAdmitted (admit reader (output constant)) (blocksBy reader (output constant) (now (blocks .entry))) (now (blocks .entry)) ⌝ }
@@ -303,16 +306,16 @@ fn term_misplaced(reader: Reader, position: usize) -> bool
 // A coefficient of output character `number` of a group.
 fn put_term(group: usize, number: usize, position: usize, coefficient: u16, blocks: &mut [u16])
     requires { ⌜ (group < 33) × (number < 8) × (position < 8) ⌝ }
-    requires { ⌜ length (now blocks) ≡ 2475 ⌝ }
-    ensures { λ _. ⌜ now (blocks .exit) ≡ set (now (blocks .entry)) (75 * group + 4 + 9 * number + position) coefficient ⌝ }
+    requires { ⌜ length (now blocks) ≡ blocksSize ⌝ }
+    ensures { λ _. ⌜ now (blocks .exit) ≡ set (now (blocks .entry)) (blockSize * group + 4 + entrySize * number + position) coefficient ⌝ }
 {
-    blocks[75 * group + 4 + 9 * number + position] = coefficient;
+    blocks[BLOCK * group + 4 + ENTRY * number + position] = coefficient;
 }
 
 // A coefficient of the last output character.
 fn on_term(reader: Reader, position: u8, coefficient: u16, blocks: &mut [u16]) -> Step
     requires { ⌜ Fitting reader ⌝ }
-    requires { ⌜ length (now blocks) ≡ 2475 ⌝ }
+    requires { ⌜ length (now blocks) ≡ blocksSize ⌝ }
     ensures { λ r. ⌜ stepOf r ≡ admit reader (term position coefficient) ⌝ }
     ensures { λ r. ⌜ now (blocks .exit) ≡ ifAdmitted (admit reader (term position coefficient)) (blocksBy reader (term position coefficient) (now (blocks .entry))) (now (blocks .entry)) ⌝ }
 {
@@ -345,7 +348,7 @@ fn on_term(reader: Reader, position: u8, coefficient: u16, blocks: &mut [u16]) -
 fn on_default(reader: Reader, slots: &mut [u16], ranges: &mut [u16], blocks: &mut [u16]) -> Step
     requires { ⌜ length (now slots) ≡ 264 ⌝ }
     requires { ⌜ length (now ranges) ≡ 2112 ⌝ }
-    requires { ⌜ length (now blocks) ≡ 2475 ⌝ }
+    requires { ⌜ length (now blocks) ≡ blocksSize ⌝ }
     ensures { λ r. ⌜ stepOf r ≡ admit reader default ⌝ }
     ensures { λ r. ⌜ now (slots .exit) ≡ ifAdmitted (admit reader default) (slotsBy reader default (now (slots .entry))) (now (slots .entry)) ⌝ }
     ensures { λ r. ⌜ now (ranges .exit) ≡ ifAdmitted (admit reader default) (rangesBy reader default (now (ranges .entry))) (now (ranges .entry)) ⌝ }
@@ -359,7 +362,7 @@ fn on_default(reader: Reader, slots: &mut [u16], ranges: &mut [u16], blocks: &mu
     }
     slots[256] = 1;
     ranges[2049] = 65535;
-    blocks[2400] = 1;
+    blocks[DEFAULT_BLOCK] = 1;
     Step::Onward(Reader {
         kind: 5,
         rules: reader.rules,
@@ -385,7 +388,7 @@ pub fn take_record(
     requires { ⌜ Fitting reader ⌝ }
     requires { ⌜ length (now slots) ≡ 264 ⌝ }
     requires { ⌜ length (now ranges) ≡ 2112 ⌝ }
-    requires { ⌜ length (now blocks) ≡ 2475 ⌝ }
+    requires { ⌜ length (now blocks) ≡ blocksSize ⌝ }
     requires { ⌜ length (now constants) ≡ 264 ⌝ }
     ensures { λ r. ⌜ stepOf r ≡ admitted reader (recordOf «record») ⌝ }
     ensures { λ r. ⌜ now (slots .exit) ≡ ifTaken reader (recordOf «record») slotsBy (now (slots .entry)) ⌝ }

@@ -4,7 +4,7 @@ ghost use mathlib.Core.List.{[], _∷_};
 ghost use Prim.Native.Nat.{_+_, _*_, _≤_};
 ghost use lib.ListN.{length, take, drop};
 ghost use Rattle.meaning.specs.Record.{zeros, decode};
-ghost use Rattle.rules.specs.Answers.{recordOf};
+ghost use Rattle.rules.specs.bridge.Readings.{recordOf};
 
 pub enum Record {
     Rule {

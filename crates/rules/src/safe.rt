@@ -6,10 +6,12 @@ ghost use lib.IntN.{pos, subℕ, _+ℤ_, _*ℤ_};
 ghost use lib.ListN.{length, take, drop};
 ghost use lib.Signed.{nonNeg};
 ghost use mathlib.Core.List.{map};
-ghost use Rattle.meaning.specs.Block.{at};
+ghost use Rattle.meaning.specs.Block.{at, blockSize, entrySize};
 ghost use Rattle.meaning.specs.Reader.{signed};
 ghost use Rattle.meaning.specs.Value.{dot, lowestOf, highestOf, extreme, safeOutput};
-ghost use Rattle.meaning.specs.Flat.{Flat, rangesAt, patternAt, outputAt, safeGroupAt, safeAt};
+ghost use Rattle.meaning.specs.bridge.Flat.{Flat, rangesAt, patternAt, outputAt, safeGroupAt, safeAt};
+use crate::layout::BLOCK;
+use crate::layout::ENTRY;
 
 // A number that may be negative: `plus` less `minus`.
 pub struct Difference {
@@ -129,16 +131,16 @@ fn extreme_sum(
     requires { ⌜ Flat (now slots) (now ranges) (now blocks) × (group < 33) × (number < 8) ⌝ }
     ensures sum { λ r.
         ⌜ subℕ (r .plus) (r .minus)
-        ≡ dot (map (signed 16) (take (at (now (blocks .entry)) (75 * group)) (drop (75 * group + 4 + 9 * number) (now (blocks .entry)))))
-        (extreme least (map (signed 16) (take (at (now (blocks .entry)) (75 * group)) (drop (75 * group + 4 + 9 * number) (now (blocks .entry)))))
-        (patternAt (now (slots .entry)) (now (ranges .entry)) group (at (now (blocks .entry)) (75 * group)))) ⌝ }
+        ≡ dot (map (signed 16) (take (at (now (blocks .entry)) (blockSize * group)) (drop (blockSize * group + 4 + entrySize * number) (now (blocks .entry)))))
+        (extreme least (map (signed 16) (take (at (now (blocks .entry)) (blockSize * group)) (drop (blockSize * group + 4 + entrySize * number) (now (blocks .entry)))))
+        (patternAt (now (slots .entry)) (now (ranges .entry)) group (at (now (blocks .entry)) (blockSize * group)))) ⌝ }
     ensures small { λ r. ⌜ (r .plus ≤ 2 ^ 35) × (r .minus ≤ 2 ^ 35) ⌝ }
 {
-    let mut p = blocks[75 * group] as usize;
+    let mut p = blocks[BLOCK * group] as usize;
     let mut d = Difference { plus: 0, minus: 0 };
     while p > 0 {
         p -= 1;
-        let coefficient = blocks[75 * group + 4 + 9 * number + p];
+        let coefficient = blocks[BLOCK * group + 4 + ENTRY * number + p];
         let character = end_of(slots, ranges, 8 * group + p, coefficient, least);
         d = with_product(d, coefficient, character);
     }
@@ -156,7 +158,7 @@ pub fn output_safe(
 ) -> bool
     requires { ⌜ Flat (now slots) (now ranges) (now blocks) × (length (now constants) ≡ 264) × (group < 33) × (number < 8) ⌝ }
     ensures { λ r.
-        ⌜ r ≡ safeOutput (patternAt (now (slots .entry)) (now (ranges .entry)) group (at (now (blocks .entry)) (75 * group)))
+        ⌜ r ≡ safeOutput (patternAt (now (slots .entry)) (now (ranges .entry)) group (at (now (blocks .entry)) (blockSize * group)))
         (outputAt (now (blocks .entry)) (now (constants .entry)) group number) ⌝ }
 {
     let constant = constants[8 * group + number];
@@ -184,7 +186,7 @@ pub fn group_safe(
     requires { ⌜ Flat (now slots) (now ranges) (now blocks) × (length (now constants) ≡ 264) × (group < 33) ⌝ }
     ensures { λ r. ⌜ r ≡ safeGroupAt (now (slots .entry)) (now (ranges .entry)) (now (blocks .entry)) (now (constants .entry)) group ⌝ }
 {
-    let outputs = blocks[75 * group + 2] as usize;
+    let outputs = blocks[BLOCK * group + 2] as usize;
     let mut number = 0;
     while number < outputs {
         if !output_safe(slots, ranges, blocks, constants, group, number) {

@@ -1,11 +1,7 @@
 -- The code's session as the definitions' session.
-use mathlib.Core.Option.{Option, none, some}
-use Prim.Native.Nat.{ℕ}
 use Rattle.session.specs.declared.kept.Status.{Status}
 use Rattle.session.specs.declared.kept.Status.the-variants as Kept
 use Rattle.session.specs.declared.kept.Session.{Session}
-use Rattle.session.specs.declared.kept.Path.{Path}
-use Rattle.session.specs.declared.kept.Path.the-variants.{To, Nowhere}
 
 abbrev pub statusOf : Status → Rattle.reckoning.specs.Machine.Status
 statusOf Kept.Open = Rattle.reckoning.specs.Machine.Open
@@ -23,7 +19,3 @@ sessionOf s =
       produced = s .produced;
       steps = s .steps;
     }
-
-abbrev pub pathOf : Path → Option ℕ
-pathOf (To q) = some (q .0)
-pathOf Nowhere = none

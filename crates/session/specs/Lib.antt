@@ -1,4 +1,4 @@
 pub mod Keeping
-pub mod Running
 pub mod Contracts
 pub mod Demand3
+pub mod bridge

@@ -21,7 +21,8 @@ ghost use Rattle.rules.specs.Answers.{checkOf};
 ghost use Rattle.automaton.specs.Automaton.{fromWords};
 ghost use Rattle.reckoning.specs.Calls.{admits, callBy, receivedBy};
 ghost use Rattle.session.specs.Keeping.{statusOf, sessionOf};
-ghost use Rattle.session.specs.Contracts.{outcomeOf, laterOf, Small, Feeds, Finishes};
+ghost use Rattle.session.specs.Contracts.{outcomeOf, Feeds, Finishes};
+ghost use Rattle.session.specs.bridge.Later.{laterOf, Small};
 
 // "Feed and finish write output from the buffer's start and answer its count and the status", or a refusal's number.
 pub enum Answer {

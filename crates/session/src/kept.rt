@@ -16,7 +16,8 @@ ghost use Rattle.meaning.specs.Direct.{limit};
 ghost use Rattle.automaton.specs.Sound.{stateCount, longestWord, sound};
 ghost use Rattle.automaton.specs.Automaton.{fromWords};
 ghost use Rattle.reckoning.specs.Session.{path, isAt, soundSession};
-ghost use Rattle.session.specs.Keeping.{sessionOf, pathOf};
+ghost use Rattle.session.specs.Keeping.{sessionOf};
+ghost use Rattle.session.specs.bridge.Later.{pathOf};
 
 pub enum Status {
     Open,

@@ -20,15 +20,16 @@ ghost use lib.ListN.{length, getD, take, drop};
 ghost use Rattle.meaning.specs.Block.{at, blockOutput};
 ghost use Rattle.meaning.specs.Meaning.{textOf};
 ghost use Rattle.meaning.specs.Direct.{over};
-ghost use Rattle.automaton.specs.Layout.{wordCount};
+ghost use Rattle.automaton.specs.Layout.{wordCount, classesFrom};
 ghost use Rattle.automaton.specs.Sound.{classCount, blockAt, expansionWord, sound};
 ghost use Rattle.automaton.specs.Automaton.{fromWords};
 ghost use Rattle.reckoning.specs.Machine.{start, run};
 ghost use Rattle.reckoning.specs.Session.{path, isAt};
 ghost use Rattle.session.specs.Keeping.{statusOf};
 ghost use Rattle.automaton.specs.Classes.{classOf};
-ghost use Rattle.machine.specs.Readings.{wordOf};
-ghost use Rattle.session.specs.Running.{firstOf, Classed, SomewherePlaced, ReadsOn, Passes, Moves, Emit, Back, Between, Halted, Waits, Stands, acceptNow, Fits, Placed, Finished, Onward, Beyond};
+ghost use Rattle.machine.specs.bridge.Readings.{wordOf};
+ghost use Rattle.session.specs.bridge.Running.{firstOf, Classed, SomewherePlaced, ReadsOn, Passes, Moves, Emit, Back, Between, Halted, Waits, Stands, acceptNow, Fits, Placed, Finished, Onward, Beyond};
+use rules::layout::ENTRY;
 
 // A run: the store is the text from `from` on and below `at`; whether it is done, and how.
 pub struct Ran {
@@ -104,7 +105,7 @@ fn fill_classes(words: &[u16], classes: &mut [u16])
 // The class of a character, looked up where it is one of the first.
 fn class_in(words: &[u16], classes: &[u16], c: u16) -> ClassNo
     requires { ⌜ T (sound (now words)) × Classed (now words) (now classes) ⌝ }
-    ensures { λ r. ⌜ r .0 ≡ classOf (take (classCount (now (words .entry))) (drop 6 (now (words .entry)))) c ⌝ }
+    ensures { λ r. ⌜ r .0 ≡ classOf (take (classCount (now (words .entry))) (drop classesFrom (now (words .entry)))) c ⌝ }
 {
     let place = c as usize;
     if place < classes.len() {
@@ -174,7 +175,7 @@ fn write_default(
     let number = words[19624] as usize;
     let mut j: usize = 0;
     while j < number {
-        output[count + j] = sum_at(words, 19625 + 9 * j, 1, text, place);
+        output[count + j] = sum_at(words, 19625 + ENTRY * j, 1, text, place);
         j += 1;
     }
     count + number

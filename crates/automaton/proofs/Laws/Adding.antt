@@ -17,7 +17,7 @@ use Rattle.lists.proofs.Laws.Each.{each-append, each-weaken, each-filter, each-
 use Rattle.lists.proofs.Laws.Sets.{filter-filter, filter-same, filter-none, filter-all}
 use Rattle.meaning.specs.Table.{Table, longest}
 use Rattle.automaton.specs.States.{State, successor, sameState, inhabited, distinct, nextLevel, levels}
-use Rattle.automaton.specs.Build.{numberIn, added, addedFrom}
+use Rattle.automaton.specs.bridge.Build.{numberIn, added, addedFrom}
 use Rattle.automaton.proofs.Laws.Levels.{same-state, state-same, each-distinct, Deepening, Level, last-level, onward, level-next}
 
 -- lists and searches

@@ -13,24 +13,24 @@ use Rattle.lists.specs.Lists.{flatMap, upTo, pad}
 use Rattle.lists.proofs.Laws.Parts.{length-pad, getD-pad, getD-rows}
 use Rattle.meaning.specs.Table.{Table}
 use Rattle.meaning.specs.Block.{at}
-use Rattle.meaning.specs.Flat.{tableAt, groupAt}
+use Rattle.meaning.specs.bridge.Flat.{tableAt, groupAt}
 use Rattle.meaning.proofs.Laws.Choosing.{length-tab}
 use Rattle.automaton.specs.Classes.{starts}
 use Rattle.automaton.specs.States.{State, initial, states, targetOf}
-use Rattle.automaton.specs.Layout.{stateWords, targetWords}
-use Rattle.automaton.specs.Build.{membersFrom}
-use Rattle.automaton.specs.Noted.{Noted, NotedAt, Kept, reachedAt}
+use Rattle.automaton.specs.Layout.{stateWords, targetWords, blocksFrom, classesFrom, statesFrom, statesSize, targetsFrom, targetsSize, wordCount}
+use Rattle.automaton.specs.bridge.Build.{membersFrom}
+use Rattle.automaton.specs.bridge.Noted.{Noted, NotedAt, Kept, reachedAt}
 use Rattle.automaton.proofs.Laws.Good.{stateAt}
 use Rattle.automaton.proofs.Laws.Exploring.{reached-start, reached-stop, reached-length}
 use Rattle.automaton.proofs.Laws.Noting.{noted-add}
 
 -- the start, with state 0
 module _ (t : Table) (n : ℕ) (w sets : List ℕ) (x : ℕ) where
-  pub noted-start : 19697 ≤ length w → length sets ≡ 256 → length (starts t) ≤ 64 → ((k : ℕ) → k < length (starts t) → at w (6 + k) ≡ getD (starts t) k 0) →
-      ((i : ℕ) → 70 ≤ i → i < 17222 → at w i ≡ 0) → length (t .rules) ≡ n → membersFrom 0 n x ≡ upTo n → x < 2 ^ n → NotedAt t n 0 0 0 (set w 70 0) (set sets 0 x) 1
+  pub noted-start : wordCount ≤ length w → length sets ≡ 256 → length (starts t) ≤ 64 → ((k : ℕ) → k < length (starts t) → at w (classesFrom + k) ≡ getD (starts t) k 0) →
+      ((i : ℕ) → statesFrom ≤ i → i < blocksFrom → at w i ≡ 0) → length (t .rules) ≡ n → membersFrom 0 n x ≡ upTo n → x < 2 ^ n → NotedAt t n 0 0 0 (set w statesFrom 0) (set sets 0 x) 1
   unfolding initial
   noted-start r p l c z e m b =
-      subst (λ qs. Noted t n qs 0 0 0 (set w 70 0) (set sets 0 x) 1)
+      subst (λ qs. Noted t n qs 0 0 0 (set w statesFrom 0) (set sets 0 x) 1)
       (ap (λ ms. record { depth = 0; members = ms } ∷ []) (m ∙ ap upTo (sym e)) ∙ sym (reached-start t))
       (noted-add none-noted 0 x (omega arith) (omega arith) b)
     where
@@ -46,10 +46,10 @@ module _ (t : Table) (n : ℕ) (w sets : List ℕ) (x : ℕ) where
             met = λ i h. absurd (omega arith);
             fit = λ i h. absurd (omega arith);
             shallow = λ i h. absurd (omega arith);
-            unmet = λ i h k. z (70 + 3 * i) (omega arith) (omega arith);
-            ends = record { within = omega arith; done = λ i h. absurd (omega arith); blank = λ i h k. z (71 + 3 * i) (omega arith) (omega arith) };
-            accepts = record { within = omega arith; done = λ i h. absurd (omega arith); blank = λ i h k. z (72 + 3 * i) (omega arith) (omega arith) };
-            targets = record { within = omega arith; done = λ i h. absurd (omega arith); blank = λ i h k. z (838 + i) (omega arith) (omega arith) };
+            unmet = λ i h k. z (statesFrom + 3 * i) (omega arith) (omega arith);
+            ends = record { within = omega arith; done = λ i h. absurd (omega arith); blank = λ i h k. z (statesFrom + 1 + 3 * i) (omega arith) (omega arith) };
+            accepts = record { within = omega arith; done = λ i h. absurd (omega arith); blank = λ i h k. z (statesFrom + 2 + 3 * i) (omega arith) (omega arith) };
+            targets = record { within = omega arith; done = λ i h. absurd (omega arith); blank = λ i h k. z (targetsFrom + i) (omega arith) (omega arith) };
           }
 
 pub rules-counted : (slots ranges blocks : List ℕ) (n : ℕ) (d : Bool) → length (tableAt slots ranges blocks n d .rules) ≡ n
@@ -83,34 +83,34 @@ module _ (t : Table) (n s : ℕ) (w sets : List ℕ) (count : ℕ) (N : NotedAt 
   pub noted-count : count ≡ length (states t)
   noted-count = sym (N .counted) ∙ ap length all-states
 
-  noted-state : (q : ℕ) → q < count → (r : ℕ) → r < 3 → at w (70 + (3 * q + r)) ≡ at (stateWords t (stateAt t q)) r
+  noted-state : (q : ℕ) → q < count → (r : ℕ) → r < 3 → at w (statesFrom + (3 * q + r)) ≡ at (stateWords t (stateAt t q)) r
   noted-state q b zero k =
       ap (at w) (omega arith) ∙ ap (λ (x : State). x .depth) (N .met q b ∙ ap (λ qs. getD qs q (initial t)) all-states)
   noted-state q b (suc zero) k = ap (at w) (omega arith) ∙ N .ends .done q (omega arith)
   noted-state q b (suc (suc zero)) k = ap (at w) (omega arith) ∙ N .accepts .done q (omega arith)
   noted-state q b (suc (suc (suc r))) k = absurd (omega arith)
 
-  no-state : (q : ℕ) → count ≤ q → q < 256 → (r : ℕ) → r < 3 → at w (70 + (3 * q + r)) ≡ 0
+  no-state : (q : ℕ) → count ≤ q → q < 256 → (r : ℕ) → r < 3 → at w (statesFrom + (3 * q + r)) ≡ 0
   no-state q b c zero k = ap (at w) (omega arith) ∙ N .unmet q b c
   no-state q b c (suc zero) k = let e : count ≡ length (states t) = noted-count in ap (at w) (omega arith) ∙ N .ends .blank q (omega arith) c
   no-state q b c (suc (suc zero)) k = let e : count ≡ length (states t) = noted-count in ap (at w) (omega arith) ∙ N .accepts .blank q (omega arith) c
   no-state q b c (suc (suc (suc r))) k = absurd (omega arith)
 
-  state-part : (i : ℕ) → i < 768 → at w (70 + i) ≡ at (flatMap (stateWords t) (states t)) i
+  state-part : (i : ℕ) → i < statesSize → at w (statesFrom + i) ≡ at (flatMap (stateWords t) (states t)) i
   state-part i b =
       let e : 3 * (i / 3) + i % 3 ≡ i = omega arith in
       let c : count ≡ length (states t) = noted-count in
       elim (decLt (i / 3) count) [
         | yes p ↦
-            ap (λ j. at w (70 + j)) (sym e) ∙ noted-state (i / 3) p (i % 3) (omega arith)
+            ap (λ j. at w (statesFrom + j)) (sym e) ∙ noted-state (i / 3) p (i % 3) (omega arith)
             ∙ sym (getD-rows (stateWords t) 3 (λ q. refl) (states t) (i / 3) (i % 3) (initial t) (omega arith) (omega arith))
             ∙ ap (at (flatMap (stateWords t) (states t))) e
         | no p ↦
-            ap (λ j. at w (70 + j)) (sym e) ∙ no-state (i / 3) (omega arith) (omega arith) (i % 3) (omega arith)
+            ap (λ j. at w (statesFrom + j)) (sym e) ∙ no-state (i / 3) (omega arith) (omega arith) (i % 3) (omega arith)
             ∙ sym (List·getD-eq-default (flatMap (stateWords t) (states t)) 0 (omega (arith, length-rows (stateWords t) 3 (λ q. refl) (states t))))
       ]
 
-  target-part : (i : ℕ) → i < 16384 → at w (838 + i) ≡ at (flatMap (targetWords t) (states t)) i
+  target-part : (i : ℕ) → i < targetsSize → at w (targetsFrom + i) ≡ at (flatMap (targetWords t) (states t)) i
   target-part i b =
       let c : count ≡ length (states t) = noted-count in
       elim (decLt i (64 * s + 0)) [
@@ -121,17 +121,17 @@ module _ (t : Table) (n s : ℕ) (w sets : List ℕ) (count : ℕ) (N : NotedAt 
             (omega (arith, length-rows (targetWords t) 64 (λ q. length-pad 64 (map (targetOf t (states t) q) (starts t))) (states t))))
       ]
 
-  noted-parts : w ≡ take 70 w ++ pad 768 (flatMap (stateWords t) (states t)) ++ pad 16384 (flatMap (targetWords t) (states t)) ++ drop 17222 w
+  noted-parts : w ≡ take statesFrom w ++ pad statesSize (flatMap (stateWords t) (states t)) ++ pad targetsSize (flatMap (targetWords t) (states t)) ++ drop blocksFrom w
   noted-parts =
-      let r : 19697 ≤ length w = N .room in
-      sym (take-append-drop 17222 w)
-      ∙ ap (λ v. v ++ drop 17222 w)
-      (take-add 838 16384 w
-      ∙ ap (λ v. v ++ take 16384 (drop 838 w)) (take-add 70 768 w ∙ ap (λ v. take 70 w ++ v) (part w (flatMap (stateWords t) (states t)) 70 768 (omega arith) state-part))
-      ∙ ap (λ v. take 70 w ++ pad 768 (flatMap (stateWords t) (states t)) ++ v) (part w (flatMap (targetWords t) (states t)) 838 16384 (omega arith) target-part))
+      let r : wordCount ≤ length w = N .room in
+      sym (take-append-drop blocksFrom w)
+      ∙ ap (λ v. v ++ drop blocksFrom w)
+      (take-add targetsFrom targetsSize w
+      ∙ ap (λ v. v ++ take targetsSize (drop targetsFrom w)) (take-add statesFrom statesSize w ∙ ap (λ v. take statesFrom w ++ v) (part w (flatMap (stateWords t) (states t)) statesFrom statesSize (omega arith) state-part))
+      ∙ ap (λ v. take statesFrom w ++ pad statesSize (flatMap (stateWords t) (states t)) ++ v) (part w (flatMap (targetWords t) (states t)) targetsFrom targetsSize (omega arith) target-part))
 
-  pub noted-words : {w₀ : List ℕ} → Kept w₀ w → w ≡ take 70 w₀ ++ pad 768 (flatMap (stateWords t) (states t)) ++ pad 16384 (flatMap (targetWords t) (states t)) ++ drop 17222 w₀
+  pub noted-words : {w₀ : List ℕ} → Kept w₀ w → w ≡ take statesFrom w₀ ++ pad statesSize (flatMap (stateWords t) (states t)) ++ pad targetsSize (flatMap (targetWords t) (states t)) ++ drop blocksFrom w₀
   noted-words {w₀} k =
       noted-parts
-      ∙ ap (λ v. v ++ pad 768 (flatMap (stateWords t) (states t)) ++ pad 16384 (flatMap (targetWords t) (states t)) ++ drop 17222 w) (k .front)
-      ∙ ap (λ v. take 70 w₀ ++ pad 768 (flatMap (stateWords t) (states t)) ++ pad 16384 (flatMap (targetWords t) (states t)) ++ v) (k .back)
+      ∙ ap (λ v. v ++ pad statesSize (flatMap (stateWords t) (states t)) ++ pad targetsSize (flatMap (targetWords t) (states t)) ++ drop blocksFrom w) (k .front)
+      ∙ ap (λ v. take statesFrom w₀ ++ pad statesSize (flatMap (stateWords t) (states t)) ++ pad targetsSize (flatMap (targetWords t) (states t)) ++ v) (k .back)

@@ -17,8 +17,8 @@ use Rattle.lists.proofs.Laws.Members.{mem-getD}
 use Rattle.meaning.specs.Table.{Table, longest}
 use Rattle.automaton.specs.Classes.{starts}
 use Rattle.automaton.specs.States.{State, initial, successor, sameState, inhabited, states, targetOf}
-use Rattle.automaton.specs.Build.{numberIn, added, addedFrom, explored}
-use Rattle.automaton.specs.Noted.{doneAt, reachedAt}
+use Rattle.automaton.specs.bridge.Build.{numberIn, added, addedFrom, explored}
+use Rattle.automaton.specs.bridge.Noted.{doneAt, reachedAt}
 use Rattle.automaton.proofs.Laws.Good.{stateAt}
 use Rattle.automaton.proofs.Laws.Levels.{level-initial, onward, states-closed, states-deepen, successor-depth, numbered}
 use Rattle.automaton.proofs.Laws.Adding.{each-member, front-length, some-any, inside, addedAll, newOf, all-new, all-append, each-new, mem-inside, from-all, each-onward, levels-added, deepening-from, number-added}

@@ -20,7 +20,8 @@ use Rattle.meaning.specs.Table.{Range, Group, Table}
 use Rattle.meaning.proofs.Laws.Choosing.{take-next}
 use Rattle.meaning.proofs.Laws.Bare.{bareGroup, bare}
 use Rattle.automaton.specs.Classes.{insert, edges, allEdges, starts}
-use Rattle.automaton.specs.Gathered.{placeIn, insertAll, Held, Gathers, Gathered}
+use Rattle.automaton.specs.bridge.Gathered.{placeIn, insertAll, Held, Gathers, Gathered}
+use Rattle.automaton.specs.Layout.{classesFrom, statesFrom}
 
 -- the three ways in which two numbers stand to each other
 three : {X : Type 0} (x y : ℕ) → (x < y → X) → (x ≡ y → X) → (y < x → X) → X
@@ -106,8 +107,8 @@ place-within x (y ∷ l) =
     let i : placeIn x l ≤ length l = place-within x l in
     of-cond (λ k. k ≤ suc (length l)) (ltb y x) (suc (placeIn x l)) 0 (λ _. omega arith) (λ _. omega arith)
 
-pub place-few : (w : List ℕ) (n x : ℕ) → placeIn x (take n (drop 6 w)) ≤ n
-place-few w n x = omega (arith, place-within x (take n (drop 6 w)), length-take n (drop 6 w))
+pub place-few : (w : List ℕ) (n x : ℕ) → placeIn x (take n (drop classesFrom w)) ≤ n
+place-few w n x = omega (arith, place-within x (take n (drop classesFrom w)), length-take n (drop classesFrom w))
 
 -- x is there, or goes there
 abbrev Placed : ℕ → List ℕ → ℕ → Type 0
@@ -131,33 +132,33 @@ placed x (y ∷ l) =
 -- the place found by a walk over the n words from word 6 on
 module _ (w : List ℕ) (n x : ℕ) where
   abbrev pub placeFrom : ℕ → ℕ
-  placeFrom p = placeIn x (take (n - p) (drop (6 + p) w))
+  placeFrom p = placeIn x (take (n - p) (drop (classesFrom + p) w))
 
-  pub place-start : placeIn x (take n (drop 6 w)) ≡ 0 + placeFrom 0
-  place-start = let e : n ≡ n - 0 = omega arith in ap (λ k. placeIn x (take k (drop 6 w))) e ∙ sym (zero-add (placeFrom 0))
+  pub place-start : placeIn x (take n (drop classesFrom w)) ≡ 0 + placeFrom 0
+  place-start = let e : n ≡ n - 0 = omega arith in ap (λ k. placeIn x (take k (drop classesFrom w))) e ∙ sym (zero-add (placeFrom 0))
 
   module _ (p : ℕ) (h : p < n) (room : 6 + n ≤ length w) where
     abbrev left : List ℕ
-    left = take (n - (p + 1)) (drop (6 + (p + 1)) w)
+    left = take (n - (p + 1)) (drop (classesFrom + (p + 1)) w)
 
-    there : take (n - p) (drop (6 + p) w) ≡ at w (6 + p) ∷ left
+    there : take (n - p) (drop (classesFrom + p) w) ≡ at w (classesFrom + p) ∷ left
     there =
         let i : 6 + p < length w = omega arith in
         let e : n - p ≡ suc (n - (p + 1)) = omega arith in
         let m : 6 + p + 1 ≡ 6 + (p + 1) = omega arith in
-        take-next w (6 + p) (n - p) (n - (p + 1)) i e ∙ ap (λ k. at w (6 + p) ∷ take (n - (p + 1)) (drop k w)) m
+        take-next w (classesFrom + p) (n - p) (n - (p + 1)) i e ∙ ap (λ k. at w (classesFrom + p) ∷ take (n - (p + 1)) (drop k w)) m
 
-    pub place-further : at w (6 + p) < x → p + placeFrom p ≡ p + 1 + placeFrom (p + 1)
+    pub place-further : at w (classesFrom + p) < x → p + placeFrom p ≡ p + 1 + placeFrom (p + 1)
     place-further v =
-        let e : placeFrom p ≡ suc (placeFrom (p + 1)) = ap (placeIn x) there ∙ place-on x (at w (6 + p)) left v in omega arith
+        let e : placeFrom p ≡ suc (placeFrom (p + 1)) = ap (placeIn x) there ∙ place-on x (at w (classesFrom + p)) left v in omega arith
 
-    pub place-found : x ≤ at w (6 + p) → p + placeFrom p ≡ p
-    place-found v = let e : placeFrom p ≡ 0 = ap (placeIn x) there ∙ place-here x (at w (6 + p)) left v in omega arith
+    pub place-found : x ≤ at w (classesFrom + p) → p + placeFrom p ≡ p
+    place-found v = let e : placeFrom p ≡ 0 = ap (placeIn x) there ∙ place-here x (at w (classesFrom + p)) left v in omega arith
 
   pub place-end : (p : ℕ) → n ≤ p → p + placeFrom p ≡ p
   place-end p h =
       let e : n - p ≡ 0 = omega arith in
-      let z : placeFrom p ≡ 0 = ap (λ k. placeIn x (take k (drop (6 + p) w))) e in
+      let z : placeFrom p ≡ 0 = ap (λ k. placeIn x (take k (drop (classesFrom + p) w))) e in
       omega arith
 
 -- words moved up by one from a place on, the first of them to come being x
@@ -265,10 +266,10 @@ module _ (ss w : List ℕ) (n : ℕ) (h : Held ss w n) (few : n ≤ 64) where
   held-length : length ss ≡ n
   held-length = omega (arith, h .number)
 
-  held-old : take n (drop 6 w) ≡ ss
+  held-old : take n (drop classesFrom w) ≡ ss
   held-old =
       let i : length ss ≤ 64 = omega (arith, held-length) in
-      sym (take-take n 64 (drop 6 w) few) ∙ ap (take n) (h .kept i) ∙ ap (λ k. take k (pad 64 ss)) (sym held-length) ∙ take-pad 64 ss i
+      sym (take-take n 64 (drop classesFrom w) few) ∙ ap (take n) (h .kept i) ∙ ap (λ k. take k (pad 64 ss)) (sym held-length) ∙ take-pad 64 ss i
 
 -- more and more starts
 
@@ -300,7 +301,7 @@ gathers-next g f k {w} {w′} {w″} {n} {n′} {n″} a b =
 
 module _ (w : List ℕ) (n x : ℕ) where
   abbrev old : List ℕ
-  old = take n (drop 6 w)
+  old = take n (drop classesFrom w)
 
   -- no more are kept
   pub gathers-full : 64 < n → Gathers (x ∷ []) w n w 65
@@ -313,7 +314,7 @@ module _ (w : List ℕ) (n x : ℕ) where
           record { number = omega arith; kept = λ k. absurd (omega arith) }
 
   -- it is there
-  gathers-there : n ≤ 64 → placeIn x old < n → at w (6 + placeIn x old) ≡ x → Gathers (x ∷ []) w n w n
+  gathers-there : n ≤ 64 → placeIn x old < n → at w (classesFrom + placeIn x old) ≡ x → Gathers (x ∷ []) w n w n
   gathers-there h i e = record {
     front = refl;
     back = refl;
@@ -325,14 +326,14 @@ module _ (w : List ℕ) (n x : ℕ) where
       same : (ss : List ℕ) → length ss ≡ n → old ≡ ss → ss ≡ insert x ss
       same ss l o =
           let p : ℕ = placeIn x old in
-          let v : getD old p 0 ≡ x = getD-take n (drop 6 w) p 0 i ∙ getD-drop 6 w p 0 ∙ e in
+          let v : getD old p 0 ≡ x = getD-take n (drop classesFrom w) p 0 i ∙ getD-drop classesFrom w p 0 ∙ e in
           let m : length old ≡ n = ap length o ∙ l in
           let j : p < length old = omega arith in
           sym (subst (λ k. insert x k ≡ k) o (placed x old .0 j v))
 
   -- it is not there
   abbrev Absent : Type 0
-  Absent = placeIn x old < n → at w (6 + placeIn x old) ≢ x
+  Absent = placeIn x old < n → at w (classesFrom + placeIn x old) ≢ x
 
   inserted : (ss : List ℕ) → length ss ≡ n → old ≡ ss → Absent → insert x ss ≡ take (placeIn x old) ss ++ x ∷ drop (placeIn x old) ss
   inserted ss l o d = subst (λ k. insert x k ≡ take (placeIn x old) k ++ x ∷ drop (placeIn x old) k) o (placed x old .1 absent)
@@ -342,7 +343,7 @@ module _ (w : List ℕ) (n x : ℕ) where
           let p : ℕ = placeIn x old in
           let m : length old ≡ n = ap length o ∙ l in
           let j : p < n = omega arith in
-          d j (sym (getD-take n (drop 6 w) p 0 j ∙ getD-drop 6 w p 0) ∙ e)
+          d j (sym (getD-take n (drop classesFrom w) p 0 j ∙ getD-drop classesFrom w p 0) ∙ e)
 
   inserted-length : (ss : List ℕ) → length ss ≡ n → old ≡ ss → Absent → length (insert x ss) ≡ suc n
   inserted-length ss l o d =
@@ -361,12 +362,12 @@ module _ (w : List ℕ) (n x : ℕ) where
           record { number = omega arith; kept = λ k. absurd (omega arith) }
 
   -- it is put in
-  gathers-new : (w′ : List ℕ) → 70 ≤ length w → n < 64 → Absent →
-      w′ ≡ take (6 + placeIn x old) w ++ (x ∷ take (6 + n - (6 + placeIn x old)) (drop (6 + placeIn x old) w)) ++ drop (6 + n + 1) w → Gathers (x ∷ []) w n w′ (n + 1)
+  gathers-new : (w′ : List ℕ) → statesFrom ≤ length w → n < 64 → Absent →
+      w′ ≡ take (classesFrom + placeIn x old) w ++ (x ∷ take (classesFrom + n - (classesFrom + placeIn x old)) (drop (classesFrom + placeIn x old) w)) ++ drop (classesFrom + n + 1) w → Gathers (x ∷ []) w n w′ (n + 1)
   gathers-new w′ room h d e = record {
-    front = ap (take 6) apart ∙ take-at (take 6 w) body 6 six;
+    front = ap (take classesFrom) apart ∙ take-at (take classesFrom w) body 6 six;
     back = sym (drop-drop 64 6 w′) ∙ ap (drop 64) behind ∙ far ∙ drop-drop 64 6 w;
-    size = ap length apart ∙ length-append (take 6 w) body ∙ omega (arith, six, body-length, length-drop 6 w);
+    size = ap length apart ∙ length-append (take classesFrom w) body ∙ omega (arith, six, body-length, length-drop classesFrom w);
     few = omega arith;
     held = more;
   }
@@ -375,7 +376,7 @@ module _ (w : List ℕ) (n x : ℕ) where
       p = placeIn x old
 
       v : List ℕ
-      v = drop 6 w
+      v = drop classesFrom w
 
       start : List ℕ
       start = take p v ++ (x ∷ take (n - p) (drop p v))
@@ -383,7 +384,7 @@ module _ (w : List ℕ) (n x : ℕ) where
       body : List ℕ
       body = start ++ drop (suc n) v
 
-      six : length (take 6 w) ≡ 6
+      six : length (take classesFrom w) ≡ 6
       six = length-take-le 6 w (omega arith)
 
       low : p ≤ n
@@ -392,23 +393,23 @@ module _ (w : List ℕ) (n x : ℕ) where
       start-length : length start ≡ suc n
       start-length =
           length-append (take p v) (x ∷ take (n - p) (drop p v))
-          ∙ omega (arith, low, length-take p v, length-take (n - p) (drop p v), length-drop p v, length-drop 6 w)
+          ∙ omega (arith, low, length-take p v, length-take (n - p) (drop p v), length-drop p v, length-drop classesFrom w)
 
       body-length : length body ≡ length v
-      body-length = length-append start (drop (suc n) v) ∙ omega (arith, start-length, length-drop (suc n) v, length-drop 6 w)
+      body-length = length-append start (drop (suc n) v) ∙ omega (arith, start-length, length-drop (suc n) v, length-drop classesFrom w)
 
-      apart : w′ ≡ take 6 w ++ body
+      apart : w′ ≡ take classesFrom w ++ body
       apart =
-          let i : 6 + n - (6 + p) ≡ n - p = omega arith in
+          let i : 6 + n - (classesFrom + p) ≡ n - p = omega arith in
           let j : 6 + n + 1 ≡ 6 + suc n = omega arith in
-          let moved : List ℕ = take (6 + n - (6 + p)) (drop (6 + p) w) in
-          let m : moved ≡ take (n - p) (drop p v) = ap (λ k. take k (drop (6 + p) w)) i ∙ ap (take (n - p)) (sym (drop-drop p 6 w)) in
-          let r : drop (6 + n + 1) w ≡ drop (suc n) v = ap (λ k. drop k w) j ∙ sym (drop-drop (suc n) 6 w) in
-          e ∙ ap₂ _++_ (ap₂ (λ a b. a ++ (x ∷ b)) (take-add 6 p w) m ∙ append-assoc (take 6 w) (take p v) (x ∷ take (n - p) (drop p v))) r
-          ∙ append-assoc (take 6 w) start (drop (suc n) v)
+          let moved : List ℕ = take (classesFrom + n - (classesFrom + p)) (drop (classesFrom + p) w) in
+          let m : moved ≡ take (n - p) (drop p v) = ap (λ k. take k (drop (classesFrom + p) w)) i ∙ ap (take (n - p)) (sym (drop-drop p 6 w)) in
+          let r : drop (classesFrom + n + 1) w ≡ drop (suc n) v = ap (λ k. drop k w) j ∙ sym (drop-drop (suc n) 6 w) in
+          e ∙ ap₂ _++_ (ap₂ (λ a b. a ++ (x ∷ b)) (take-add 6 p w) m ∙ append-assoc (take classesFrom w) (take p v) (x ∷ take (n - p) (drop p v))) r
+          ∙ append-assoc (take classesFrom w) start (drop (suc n) v)
 
-      behind : drop 6 w′ ≡ body
-      behind = ap (drop 6) apart ∙ drop-at (take 6 w) body 6 six
+      behind : drop classesFrom w′ ≡ body
+      behind = ap (drop classesFrom) apart ∙ drop-at (take classesFrom w) body 6 six
 
       far : drop 64 body ≡ drop 64 v
       far =
@@ -431,9 +432,9 @@ module _ (w : List ℕ) (n x : ℕ) where
           record { number = omega arith; kept = λ _. ap (take 64) behind ∙ put ∙ ap (pad 64) (sym (inserted ss l o d)) }
 
   -- the same by the place found and the test whether x stands there
-  module _ (p : ℕ) (same : p ≡ placeIn x old) (b : Bool) (s : b ≡ ltb (6 + p) (6 + n) && eqb (at w (6 + p)) x) where
+  module _ (p : ℕ) (same : p ≡ placeIn x old) (b : Bool) (s : b ≡ ltb (classesFrom + p) (classesFrom + n) && eqb (at w (classesFrom + p)) x) where
     abbrev test : ℕ → Bool
-    test q = ltb (6 + q) (6 + n) && eqb (at w (6 + q)) x
+    test q = ltb (classesFrom + q) (classesFrom + n) && eqb (at w (classesFrom + q)) x
 
     s′ : b ≡ test (placeIn x old)
     s′ = subst (λ q. b ≡ test q) same s
@@ -442,24 +443,24 @@ module _ (w : List ℕ) (n x : ℕ) where
     met-there h e =
         let q : ℕ = placeIn x old in
         let t : T (test q) = to-T (test q) (sym s′ ∙ e) in
-        let i : 6 + q < 6 + n = ltb→lt (6 + q) (6 + n) (and-left (ltb (6 + q) (6 + n)) (eqb (at w (6 + q)) x) t) in
-        gathers-there h (omega arith) (eqb→eq (at w (6 + q)) x (and-right (ltb (6 + q) (6 + n)) (eqb (at w (6 + q)) x) t))
+        let i : 6 + q < 6 + n = ltb→lt (classesFrom + q) (classesFrom + n) (and-left (ltb (classesFrom + q) (classesFrom + n)) (eqb (at w (classesFrom + q)) x) t) in
+        gathers-there h (omega arith) (eqb→eq (at w (classesFrom + q)) x (and-right (ltb (classesFrom + q) (classesFrom + n)) (eqb (at w (classesFrom + q)) x) t))
 
     absent : b ≡ false → Absent
     absent e i v =
         let q : ℕ = placeIn x old in
         let j : 6 + q < 6 + n = omega arith in
-        let t : T (test q) = both (ltb (6 + q) (6 + n)) (eqb (at w (6 + q)) x) (to-T (ltb (6 + q) (6 + n)) (lt-ltb (6 + q) (6 + n) j)) (eq→eqb (at w (6 + q)) x v) in
+        let t : T (test q) = both (ltb (classesFrom + q) (classesFrom + n)) (eqb (at w (classesFrom + q)) x) (to-T (ltb (classesFrom + q) (classesFrom + n)) (lt-ltb (classesFrom + q) (classesFrom + n) j)) (eq→eqb (at w (classesFrom + q)) x v) in
         subst T (sym s′ ∙ e) t
 
     pub met-over : n ≡ 64 → b ≡ false → Gathers (x ∷ []) w n w 65
     met-over h e = gathers-over h (absent e)
 
-    pub met-new : (w′ : List ℕ) → 70 ≤ length w → n < 64 → b ≡ false →
-        w′ ≡ take (6 + p) w ++ (x ∷ take (6 + n - (6 + p)) (drop (6 + p) w)) ++ drop (6 + n + 1) w → Gathers (x ∷ []) w n w′ (n + 1)
+    pub met-new : (w′ : List ℕ) → statesFrom ≤ length w → n < 64 → b ≡ false →
+        w′ ≡ take (classesFrom + p) w ++ (x ∷ take (classesFrom + n - (classesFrom + p)) (drop (classesFrom + p) w)) ++ drop (classesFrom + n + 1) w → Gathers (x ∷ []) w n w′ (n + 1)
     met-new w′ room h e v =
         gathers-new w′ room h (absent e)
-        (subst (λ q. w′ ≡ take (6 + q) w ++ (x ∷ take (6 + n - (6 + q)) (drop (6 + q) w)) ++ drop (6 + n + 1) w) same v)
+        (subst (λ q. w′ ≡ take (classesFrom + q) w ++ (x ∷ take (classesFrom + n - (classesFrom + q)) (drop (classesFrom + q) w)) ++ drop (classesFrom + n + 1) w) same v)
 
 -- the edges of a range
 
@@ -473,16 +474,16 @@ module _ (r : Range) {w w′ : List ℕ} {n n′ : ℕ} (low : Gathers (r .lowes
   gathers-low h = subst (λ b. Gathers (r .lowest ∷ cond b (suc (r .highest) ∷ []) []) w n w′ n′) (sym (le-ltb (r .highest) 65535 h)) low
 
 -- all starts
-pub gathered : (t : Table) (w w′ : List ℕ) (n : ℕ) → take 64 (drop 6 w) ≡ pad 64 [] → Gathers (allEdges t) w 1 w′ n → Gathered (starts t) w w′ n
+pub gathered : (t : Table) (w w′ : List ℕ) (n : ℕ) → take 64 (drop classesFrom w) ≡ pad 64 [] → Gathers (allEdges t) w 1 w′ n → Gathered (starts t) w w′ n
 unfolding pad
 gathered t w w′ n zeros g = record { number = last .number; filled = whole; front = g .front; back = g .back; size = g .size }
   where
     last : Held (starts t) w′ n
     last = subst (λ ss. Held ss w′ n) (sym (starts-in-turn t)) (g .held (0 ∷ []) (record { number = refl; kept = λ _. zeros }))
 
-    whole : length (starts t) ≤ 64 → w′ ≡ take 6 w ++ pad 64 (starts t) ++ drop 70 w
+    whole : length (starts t) ≤ 64 → w′ ≡ take classesFrom w ++ pad 64 (starts t) ++ drop statesFrom w
     whole h =
-        sym (take-append-drop 70 w′)
+        sym (take-append-drop statesFrom w′)
         ∙ ap₂ _++_ (take-add 6 64 w′ ∙ ap₂ _++_ (g .front) (last .kept h)) (g .back)
 
 -- output characters play no part in the starts

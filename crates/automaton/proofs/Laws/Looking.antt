@@ -18,7 +18,7 @@ use Rattle.meaning.specs.Block.{at}
 use Rattle.meaning.proofs.Laws.Choosing.{length-tab, tab-next, tab-end, tab-start}
 use Rattle.automaton.specs.States.{State, sameState}
 use Rattle.automaton.specs.Sound.{depthWord}
-use Rattle.automaton.specs.Build.{stateOf, numberIn, statesAt}
+use Rattle.automaton.specs.bridge.Build.{stateOf, numberIn, statesAt}
 use Rattle.automaton.proofs.Laws.Sets.{same-set}
 
 -- a state looked for among those that the words and the sets hold, from state 0 up

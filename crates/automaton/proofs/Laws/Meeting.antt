@@ -21,10 +21,10 @@ use Rattle.meaning.specs.Table.{Table}
 use Rattle.meaning.specs.Block.{at}
 use Rattle.automaton.specs.Classes.{starts}
 use Rattle.automaton.specs.States.{State, initial, states, successor, sameState, inhabited, longerRules, acceptOf, acceptAtEndOf, targetOf}
-use Rattle.automaton.specs.Layout.{targetWords}
+use Rattle.automaton.specs.Layout.{targetWords, classesFrom, statesFrom, targetsFrom, targetsSize}
 use Rattle.automaton.specs.Sound.{depthWord}
-use Rattle.automaton.specs.Build.{membersFrom, stateOf, numberIn, statesAt}
-use Rattle.automaton.specs.Noted.{Noted, NotedAt, reachedAt}
+use Rattle.automaton.specs.bridge.Build.{membersFrom, stateOf, numberIn, statesAt}
+use Rattle.automaton.specs.bridge.Noted.{Noted, NotedAt, reachedAt}
 use Rattle.automaton.proofs.Laws.Good.{stateAt}
 use Rattle.automaton.proofs.Laws.Levels.{states-deepen}
 use Rattle.automaton.proofs.Laws.Adding.{deepening-from}
@@ -56,10 +56,10 @@ module _ (t : Table) (s : ℕ) (h : s < length (states t)) where
 pub record Ways (t : Table) (n s k : ℕ) (w sets : List ℕ) (count x : ℕ) : Type 0 where
   pub nothing : x ≡ 0 → NotedAt t n (suc s) s (suc k) w sets count
   pub there : x ≢ 0 → (r : ℕ) → r ≡ numberIn (stateOf n (depthWord w s + 1) x) (statesAt w sets n count) → r ≢ count →
-      NotedAt t n (suc s) s (suc k) (set w (838 + 64 * s + k) r) sets count
+      NotedAt t n (suc s) s (suc k) (set w (targetsFrom + 64 * s + k) r) sets count
   pub over : x ≢ 0 → (r : ℕ) → r ≡ numberIn (stateOf n (depthWord w s + 1) x) (statesAt w sets n count) → r ≡ count → 256 ≤ count → 256 < length (states t)
   pub new : x ≢ 0 → (r : ℕ) → r ≡ numberIn (stateOf n (depthWord w s + 1) x) (statesAt w sets n count) → r ≡ count → count < 256 →
-      NotedAt t n (suc s) s (suc k) (set (set w (70 + 3 * count) (depthWord w s + 1)) (838 + 64 * s + k) count) (set sets count x) (count + 1)
+      NotedAt t n (suc s) s (suc k) (set (set w (statesFrom + 3 * count) (depthWord w s + 1)) (targetsFrom + 64 * s + k) count) (set sets count x) (count + 1)
 
 -- a class of state s
 
@@ -87,7 +87,7 @@ module _ (t : Table) (n s : ℕ) (h : s < length (states t)) where
         depth : (j : ℕ) → j < count → depthWord w j ≡ stateAt t j .depth
         depth j b = ap (λ (q : State). q .depth) (N .met j b ∙ reached-same t s h k j (initial t) (subst (λ c. j < c) (sym (N .counted)) b))
 
-    noted-place : 64 * s + k < 16384
+    noted-place : 64 * s + k < targetsSize
     noted-place =
         let l : s < count = noted-long in
         let few : count ≤ 256 = N .few in
@@ -110,7 +110,7 @@ module _ (t : Table) (n s : ℕ) (h : s < length (states t)) where
         next (noted-blank N (suc (64 * s + k)) (filled-skip (N .targets) noted-place (wanted ∙ m .1))) (m .0)
 
     -- the state met, by the set of its rules as a number
-    module _ (x : ℕ) (b : x < 2 ^ n) (e : membersFrom 0 n x ≡ longerRules t (stateOf n (depthWord w s) (at sets s)) (at w (6 + k)))
+    module _ (x : ℕ) (b : x < 2 ^ n) (e : membersFrom 0 n x ≡ longerRules t (stateOf n (depthWord w s) (at sets s)) (at w (classesFrom + k)))
         (z : acceptOf t (stateAt t s) ≡ 0) where
       abbrev here : State
       here = stateOf n (depthWord w s) (at sets s)
@@ -120,7 +120,7 @@ module _ (t : Table) (n s : ℕ) (h : s < length (states t)) where
       met-is =
           ap (λ q. successor t q (getD (starts t) k 0)) (sym (N .met s noted-long))
           ∙ ap (successor t here) (sym (N .class-starts k j))
-          ∙ ap (λ c. record { depth = suc (depthWord w s); members = cond (eqb c 0) (longerRules t here (at w (6 + k))) [] })
+          ∙ ap (λ c. record { depth = suc (depthWord w s); members = cond (eqb c 0) (longerRules t here (at w (classesFrom + k))) [] })
           (ap (acceptOf t) (N .met s noted-long ∙ reached-state t s h k) ∙ z)
           ∙ ap (λ l. record { depth = suc (depthWord w s); members = l }) (sym e)
           ∙ ap (λ d. stateOf n d x) (sym (add-one (depthWord w s)))
@@ -141,7 +141,7 @@ module _ (t : Table) (n s : ℕ) (h : s < length (states t)) where
 
       pub ways-on : Ways t n s k w sets count x
       ways-on =
-          let i : 838 + (64 * s + k) ≡ 838 + 64 * s + k = omega arith in
+          let i : targetsFrom + (64 * s + k) ≡ targetsFrom + 64 * s + k = omega arith in
           record {
             nothing = λ p.
                 no-class
@@ -155,9 +155,9 @@ module _ (t : Table) (n s : ℕ) (h : s < length (states t)) where
                 let m = met-new t s h k j (some-rule p) (missing r f g) in
                 let low : depthWord w s ≤ s = N .shallow s noted-long in
                 let long : s < count = noted-long in
-                let w' : List ℕ = set w (70 + 3 * count) (depthWord w s + 1) in
+                let w' : List ℕ = set w (statesFrom + 3 * count) (depthWord w s + 1) in
                 subst (λ y. NotedAt t n (suc s) s (suc k) (set w' y count) (set sets count x) (count + 1)) i
-                (subst (NotedAt t n (suc s) s (suc k) (set w' (838 + (64 * s + k)) count) (set sets count x)) (sym (add-one count))
+                (subst (NotedAt t n (suc s) s (suc k) (set w' (targetsFrom + (64 * s + k)) count) (set sets count x)) (sym (add-one count))
                 (next (noted-put (noted-add N (depthWord w s + 1) x l (omega arith) b) count noted-place (sym (wanted ∙ m .1 ∙ N .counted)))
                 (m .0 ∙ ap (λ q. reachedAt t s k ++ q ∷ []) met-is)));
           }
@@ -199,7 +199,7 @@ module _ (t : Table) (n s : ℕ) (h : s < length (states t)) (w sets : List ℕ)
   -- what it accepts
   pub accepts-noted : (end accept : ℕ) →
       end ≡ acceptAtEndOf t (stateOf n (depthWord w s) (at sets s)) → accept ≡ acceptOf t (stateOf n (depthWord w s) (at sets s)) →
-      NotedAt t n s s 0 w sets count → NotedAt t n (suc s) s 0 (set (set w (71 + 3 * s) end) (72 + 3 * s) accept) sets count × (accept ≡ acceptOf t (stateAt t s))
+      NotedAt t n s s 0 w sets count → NotedAt t n (suc s) s 0 (set (set w (statesFrom + 1 + 3 * s) end) (statesFrom + 2 + 3 * s) accept) sets count × (accept ≡ acceptOf t (stateAt t s))
   accepts-noted end accept p q N =
       let long : s < count = noted-here t n s h s 0 w sets count N in
       let few : count ≤ 256 = N .few in

@@ -14,10 +14,10 @@ use Rattle.meaning.specs.Block.{at}
 use Rattle.meaning.proofs.Laws.Choosing.{tab-is}
 use Rattle.automaton.specs.Classes.{starts}
 use Rattle.automaton.specs.States.{State, initial, states, acceptOf, acceptAtEndOf}
-use Rattle.automaton.specs.Layout.{targetWords}
+use Rattle.automaton.specs.Layout.{targetWords, blocksFrom, classesFrom, statesFrom, targetsFrom, targetsSize, wordCount}
 use Rattle.automaton.specs.Sound.{depthWord, acceptAtEndWord, acceptWord}
-use Rattle.automaton.specs.Build.{stateOf, statesAt}
-use Rattle.automaton.specs.Noted.{Filled, Noted, NotedAt, Kept, Onward}
+use Rattle.automaton.specs.bridge.Build.{stateOf, statesAt}
+use Rattle.automaton.specs.bridge.Noted.{Filled, Noted, NotedAt, Kept, Onward}
 use Rattle.automaton.proofs.Laws.Good.{stateAt}
 
 -- a column filled from the front
@@ -46,18 +46,18 @@ module _ {column wanted : ℕ → ℕ} {m most : ℕ} (f : Filled column wanted 
 pub kept-same : (w : List ℕ) → Kept w w
 kept-same w = record { size = refl; front = refl; back = refl }
 
-pub kept-set : (w : List ℕ) (p v : ℕ) → 70 ≤ p → p < 17222 → Kept w (set w p v)
-kept-set w p v h k = record { size = length-set w p v; front = take-set-le 70 w p v h; back = drop-set-lt 17222 w p v k }
+pub kept-set : (w : List ℕ) (p v : ℕ) → statesFrom ≤ p → p < blocksFrom → Kept w (set w p v)
+kept-set w p v h k = record { size = length-set w p v; front = take-set-le statesFrom w p v h; back = drop-set-lt blocksFrom w p v k }
 
 pub kept-on : {a b c : List ℕ} → Kept a b → Kept b c → Kept a c
 kept-on k l = record { size = l .size ∙ k .size; front = l .front ∙ k .front; back = l .back ∙ k .back }
 
 module _ {t : Table} {n : ℕ} {qs : List State} {e a m : ℕ} {w sets : List ℕ} {count : ℕ} (N : Noted t n qs e a m w sets count) where
   -- a store that leaves the states as they are, and what it makes of the three columns
-  noted-store : (p v e' a' m' : ℕ) → 70 ≤ p → ((i : ℕ) → i < 256 → 70 + 3 * i ≢ p) →
+  noted-store : (p v e' a' m' : ℕ) → statesFrom ≤ p → ((i : ℕ) → i < 256 → statesFrom + 3 * i ≢ p) →
       Filled (acceptAtEndWord (set w p v)) (λ i. acceptAtEndOf t (stateAt t i)) e' 256 →
       Filled (acceptWord (set w p v)) (λ i. acceptOf t (stateAt t i)) a' 256 →
-      Filled (λ i. at (set w p v) (838 + i)) (at (flatMap (targetWords t) (states t))) m' 16384 →
+      Filled (λ i. at (set w p v) (targetsFrom + i)) (at (flatMap (targetWords t) (states t))) m' targetsSize →
       Noted t n qs e' a' m' (set w p v) sets count
   noted-store p v e' a' m' h g fe fa ft =
       let few : count ≤ 256 = N .few in
@@ -66,7 +66,7 @@ module _ {t : Table} {n : ℕ} {qs : List State} {e a m : ℕ} {w sets : List �
         room = rw length-set (N .room);
         places = N .places;
         narrow = narrow;
-        class-starts = λ k l. getD-set-other w p (6 + k) v 0 (λ q. omega arith) ∙ N .class-starts k l;
+        class-starts = λ k l. getD-set-other w p (classesFrom + k) v 0 (λ q. omega arith) ∙ N .class-starts k l;
         counted = N .counted;
         few = few;
         met = λ i l. ap (λ d. stateOf n d (at sets i)) (depth i (omega arith)) ∙ N .met i l;
@@ -79,7 +79,7 @@ module _ {t : Table} {n : ℕ} {qs : List State} {e a m : ℕ} {w sets : List �
       }
     where
       depth : (i : ℕ) → i < 256 → depthWord (set w p v) i ≡ depthWord w i
-      depth i l = getD-set-other w p (70 + 3 * i) v 0 (g i l)
+      depth i l = getD-set-other w p (statesFrom + 3 * i) v 0 (g i l)
 
   -- a column that the store does not touch
   module _ (p v : ℕ) {wanted : ℕ → ℕ} {k most : ℕ} where
@@ -93,32 +93,32 @@ module _ {t : Table} {n : ℕ} {qs : List State} {e a m : ℕ} {w sets : List �
         filled-on f (λ i. at (set w p v) (place i)) l (ap (at (set w p v)) (sym q) ∙ getD-set-same w p v 0 s ∙ r)
         (λ i h d. getD-set-other w p (place i) v 0 (g i h d))
 
-  pub noted-end : (v : ℕ) → e < 256 → v ≡ acceptAtEndOf t (stateAt t e) → Noted t n qs (suc e) a m (set w (71 + 3 * e) v) sets count
+  pub noted-end : (v : ℕ) → e < 256 → v ≡ acceptAtEndOf t (stateAt t e) → Noted t n qs (suc e) a m (set w (statesFrom + 1 + 3 * e) v) sets count
   noted-end v h q =
-      let p : ℕ = 71 + 3 * e in
-      let r : 19697 ≤ length w = N .room in
+      let p : ℕ = statesFrom + 1 + 3 * e in
+      let r : wordCount ≤ length w = N .room in
       noted-store p v (suc e) a m (omega arith) (λ i l k. omega arith)
-      (filling p v (λ i. 71 + 3 * i) (N .ends) h refl (omega arith) q (λ i l k z. k (omega arith)))
-      (apart p v (λ i. 72 + 3 * i) (N .accepts) (λ i l k. omega arith))
-      (apart p v (λ i. 838 + i) (N .targets) (λ i l k. omega arith))
+      (filling p v (λ i. statesFrom + 1 + 3 * i) (N .ends) h refl (omega arith) q (λ i l k z. k (omega arith)))
+      (apart p v (λ i. statesFrom + 2 + 3 * i) (N .accepts) (λ i l k. omega arith))
+      (apart p v (λ i. targetsFrom + i) (N .targets) (λ i l k. omega arith))
 
-  pub noted-accept : (v : ℕ) → a < 256 → v ≡ acceptOf t (stateAt t a) → Noted t n qs e (suc a) m (set w (72 + 3 * a) v) sets count
+  pub noted-accept : (v : ℕ) → a < 256 → v ≡ acceptOf t (stateAt t a) → Noted t n qs e (suc a) m (set w (statesFrom + 2 + 3 * a) v) sets count
   noted-accept v h q =
-      let p : ℕ = 72 + 3 * a in
-      let r : 19697 ≤ length w = N .room in
+      let p : ℕ = statesFrom + 2 + 3 * a in
+      let r : wordCount ≤ length w = N .room in
       noted-store p v e (suc a) m (omega arith) (λ i l k. omega arith)
-      (apart p v (λ i. 71 + 3 * i) (N .ends) (λ i l k. omega arith))
-      (filling p v (λ i. 72 + 3 * i) (N .accepts) h refl (omega arith) q (λ i l k z. k (omega arith)))
-      (apart p v (λ i. 838 + i) (N .targets) (λ i l k. omega arith))
+      (apart p v (λ i. statesFrom + 1 + 3 * i) (N .ends) (λ i l k. omega arith))
+      (filling p v (λ i. statesFrom + 2 + 3 * i) (N .accepts) h refl (omega arith) q (λ i l k z. k (omega arith)))
+      (apart p v (λ i. targetsFrom + i) (N .targets) (λ i l k. omega arith))
 
-  pub noted-put : (v : ℕ) → m < 16384 → v ≡ at (flatMap (targetWords t) (states t)) m → Noted t n qs e a (suc m) (set w (838 + m) v) sets count
+  pub noted-put : (v : ℕ) → m < targetsSize → v ≡ at (flatMap (targetWords t) (states t)) m → Noted t n qs e a (suc m) (set w (targetsFrom + m) v) sets count
   noted-put v h q =
-      let p : ℕ = 838 + m in
-      let r : 19697 ≤ length w = N .room in
+      let p : ℕ = targetsFrom + m in
+      let r : wordCount ≤ length w = N .room in
       noted-store p v e a (suc m) (omega arith) (λ i l k. omega arith)
-      (apart p v (λ i. 71 + 3 * i) (N .ends) (λ i l k. omega arith))
-      (apart p v (λ i. 72 + 3 * i) (N .accepts) (λ i l k. omega arith))
-      (filling p v (λ i. 838 + i) (N .targets) h refl (omega arith) q (λ i l k z. k (omega arith)))
+      (apart p v (λ i. statesFrom + 1 + 3 * i) (N .ends) (λ i l k. omega arith))
+      (apart p v (λ i. statesFrom + 2 + 3 * i) (N .accepts) (λ i l k. omega arith))
+      (filling p v (λ i. targetsFrom + i) (N .targets) h refl (omega arith) q (λ i l k z. k (omega arith)))
 
   -- the states met, as a list
   pub noted-list : statesAt w sets n count ≡ qs
@@ -127,10 +127,10 @@ module _ {t : Table} {n : ℕ} {qs : List State} {e a m : ℕ} {w sets : List �
 
   -- one state more
   pub noted-add : (d x : ℕ) → count < 256 → d ≤ count → x < 2 ^ n →
-      Noted t n (qs ++ stateOf n d x ∷ []) e a m (set w (70 + 3 * count) d) (set sets count x) (suc count)
+      Noted t n (qs ++ stateOf n d x ∷ []) e a m (set w (statesFrom + 3 * count) d) (set sets count x) (suc count)
   noted-add d x h l b =
-      let p : ℕ = 70 + 3 * count in
-      let r : 19697 ≤ length w = N .room in
+      let p : ℕ = statesFrom + 3 * count in
+      let r : wordCount ≤ length w = N .room in
       let s : length sets ≡ 256 = N .places in
       let c : length qs ≡ count = N .counted in
       let narrow : length (starts t) ≤ 64 = N .narrow in
@@ -138,7 +138,7 @@ module _ {t : Table} {n : ℕ} {qs : List State} {e a m : ℕ} {w sets : List �
         room = rw length-set r;
         places = length-set sets count x ∙ s;
         narrow = narrow;
-        class-starts = λ k j. getD-set-other w p (6 + k) d 0 (λ q. omega arith) ∙ N .class-starts k j;
+        class-starts = λ k j. getD-set-other w p (classesFrom + k) d 0 (λ q. omega arith) ∙ N .class-starts k j;
         counted = length-append qs (stateOf n d x ∷ []) ∙ omega arith;
         few = omega arith;
         met = λ i j. elim (ℕ-discrete i count) [
@@ -154,25 +154,25 @@ module _ {t : Table} {n : ℕ} {qs : List State} {e a m : ℕ} {w sets : List �
           | no q ↦ subst (λ y. y ≤ i) (sym (depth i q)) (N .shallow i (omega arith))
         ];
         unmet = λ i j k. depth i (λ q. omega arith) ∙ N .unmet i (omega arith) k;
-        ends = apart p d (λ i. 71 + 3 * i) (N .ends) (λ i j k. omega arith);
-        accepts = apart p d (λ i. 72 + 3 * i) (N .accepts) (λ i j k. omega arith);
-        targets = apart p d (λ i. 838 + i) (N .targets) (λ i j k. omega arith);
+        ends = apart p d (λ i. statesFrom + 1 + 3 * i) (N .ends) (λ i j k. omega arith);
+        accepts = apart p d (λ i. statesFrom + 2 + 3 * i) (N .accepts) (λ i j k. omega arith);
+        targets = apart p d (λ i. targetsFrom + i) (N .targets) (λ i j k. omega arith);
       }
     where
-      here : depthWord (set w (70 + 3 * count) d) count ≡ d
-      here = let r : 19697 ≤ length w = N .room in getD-set-same w (70 + 3 * count) d 0 (omega arith)
+      here : depthWord (set w (statesFrom + 3 * count) d) count ≡ d
+      here = let r : wordCount ≤ length w = N .room in getD-set-same w (statesFrom + 3 * count) d 0 (omega arith)
 
       there : at (set sets count x) count ≡ x
       there = let s : length sets ≡ 256 = N .places in getD-set-same sets count x 0 (omega arith)
 
-      depth : (i : ℕ) → i ≢ count → depthWord (set w (70 + 3 * count) d) i ≡ depthWord w i
-      depth i q = getD-set-other w (70 + 3 * count) (70 + 3 * i) d 0 (λ z. q (omega arith))
+      depth : (i : ℕ) → i ≢ count → depthWord (set w (statesFrom + 3 * count) d) i ≡ depthWord w i
+      depth i q = getD-set-other w (statesFrom + 3 * count) (statesFrom + 3 * i) d 0 (λ z. q (omega arith))
 
       before : (i : ℕ) → i ≢ count → at (set sets count x) i ≡ at sets i
       before i q = getD-set-other sets count i x 0 q
 
   -- targets that are 0 stand there already
-  pub noted-blank : (m' : ℕ) → Filled (λ i. at w (838 + i)) (at (flatMap (targetWords t) (states t))) m' 16384 → Noted t n qs e a m' w sets count
+  pub noted-blank : (m' : ℕ) → Filled (λ i. at w (targetsFrom + i)) (at (flatMap (targetWords t) (states t))) m' targetsSize → Noted t n qs e a m' w sets count
   noted-blank m' f =
       record {
         room = N .room;

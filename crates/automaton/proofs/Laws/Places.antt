@@ -12,7 +12,7 @@ use Rattle.meaning.specs.Table.{Table, longest, expansion}
 use Rattle.meaning.specs.Block.{at, bit}
 use Rattle.automaton.specs.Classes.{starts}
 use Rattle.automaton.specs.States.{State, initial, states, acceptAtEndOf, acceptOf, targetOf}
-use Rattle.automaton.specs.Layout.{wordCount, stateWords, targetWords, parts, words}
+use Rattle.automaton.specs.Layout.{wordCount, stateWords, targetWords, parts, words, classesFrom, statesFrom, statesSize, targetsFrom, targetsSize}
 use Rattle.automaton.specs.Sound.{classCount, longestWord, expansionWord, ruleCount, stateCount, depthWord, acceptAtEndWord, acceptWord, targetWord}
 use Rattle.automaton.proofs.Laws.Good.{stateAt}
 
@@ -51,11 +51,11 @@ module _ (t : Table) (rest : List ℕ) where
   unfolding words parts
   layout-default = refl
 
-  pub layout-start : (k : ℕ) → k < 64 → at (words t ++ rest) (6 + k) ≡ getD (starts t) k 0
+  pub layout-start : (k : ℕ) → k < 64 → at (words t ++ rest) (classesFrom + k) ≡ getD (starts t) k 0
   unfolding parts
   layout-start k h = layout-part 1 6 (simp length-append) k (omega (arith, length-pad 64 (starts t))) ∙ getD-pad 64 (starts t) k h
 
-  pub layout-starts : length (starts t) ≤ 64 → take (classCount (words t ++ rest)) (drop 6 (words t ++ rest)) ≡ starts t
+  pub layout-starts : length (starts t) ≤ 64 → take (classCount (words t ++ rest)) (drop classesFrom (words t ++ rest)) ≡ starts t
   unfolding words parts
   layout-starts h =
       let n = length (starts t) in
@@ -65,12 +65,12 @@ module _ (t : Table) (rest : List ℕ) where
 
   -- word j of a state's three
   state-word : (s j : ℕ) → length (states t) ≤ 256 → s < length (states t) → j < 3 →
-      at (words t ++ rest) (70 + (3 * s + j)) ≡ at (stateWords t (stateAt t s)) j
+      at (words t ++ rest) (statesFrom + (3 * s + j)) ≡ at (stateWords t (stateAt t s)) j
   unfolding parts
   state-word s j few b h =
       let rows = flatMap (stateWords t) (states t) in
-      layout-part 2 70 (simp (length-append, length-pad)) (3 * s + j) (omega (arith, length-pad 768 rows))
-      ∙ getD-pad 768 rows (3 * s + j) (omega arith)
+      layout-part 2 statesFrom (simp (length-append, length-pad)) (3 * s + j) (omega (arith, length-pad statesSize rows))
+      ∙ getD-pad statesSize rows (3 * s + j) (omega arith)
       ∙ getD-rows (stateWords t) 3 (λ q. refl) (states t) s j (initial t) b h
 
   module _ (few : length (states t) ≤ 256) (s : ℕ) (b : s < length (states t)) where
@@ -91,8 +91,8 @@ module _ (t : Table) (rest : List ℕ) where
         let f : State → ℕ → ℕ = targetOf t (states t) in
         let q = stateAt t s in
         ap (at (words t ++ rest)) (omega arith)
-        ∙ layout-part 3 838 (simp (length-append, length-pad)) (64 * s + k) (omega (arith, length-pad 16384 rows))
-        ∙ getD-pad 16384 rows (64 * s + k) (omega arith)
+        ∙ layout-part 3 targetsFrom (simp (length-append, length-pad)) (64 * s + k) (omega (arith, length-pad targetsSize rows))
+        ∙ getD-pad targetsSize rows (64 * s + k) (omega arith)
         ∙ getD-rows (targetWords t) 64 (λ p. length-pad 64 (map (f p) (starts t))) (states t) s k (initial t) b (omega arith)
         ∙ getD-pad 64 (map (f q) (starts t)) k (omega arith)
         ∙ getD-there (map (f q) (starts t)) k 0 (f q 0) (omega (arith, length-map (starts t) (f q)))

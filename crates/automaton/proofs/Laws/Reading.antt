@@ -11,9 +11,9 @@ use lib.ListN.{length, take, drop, length-drop}
 use lib.Seq.{length-take-le, getD-take, getD-drop, take-nil, take-take, drop-drop}
 use Rattle.lists.specs.Lists.{count, tabFrom}
 use Rattle.lists.proofs.Laws.Tests.{holds, below}
-use Rattle.meaning.specs.Block.{at, wordSum, blockOutput}
+use Rattle.meaning.specs.Block.{at, wordSum, blockOutput, blockSize, blocksSize, entrySize}
 use Rattle.automaton.specs.Classes.{classOf}
-use Rattle.automaton.specs.Layout.{wordCount}
+use Rattle.automaton.specs.Layout.{wordCount, blocksFrom, classesFrom}
 use Rattle.automaton.specs.Sound.{classCount, blockAt, soundStarts, sound}
 use Rattle.automaton.proofs.Laws.Words.{sound-header}
 
@@ -38,25 +38,25 @@ module _ (w : List ℕ) (sure : T (sound w)) where
   unfolding sound soundStarts
   first-start = eqb→eq (at w 6) 0 (holds _ (holds _ sure .1 .1 .0) .0)
 
-  start-below : (k : ℕ) → suc k < classCount w → at w (6 + k) < at w (7 + k)
+  start-below : (k : ℕ) → suc k < classCount w → at w (classesFrom + k) < at w (classesFrom + 1 + k)
   unfolding sound soundStarts
-  start-below k h = ltb→lt (at w (6 + k)) (at w (7 + k)) (below (pred (classCount w)) _ (holds _ (holds _ sure .1 .1 .0) .1 .0) k (omega arith))
+  start-below k h = ltb→lt (at w (classesFrom + k)) (at w (classesFrom + 1 + k)) (below (pred (classCount w)) _ (holds _ (holds _ sure .1 .1 .0) .1 .0) k (omega arith))
 
-  starts-ordered : (i j : ℕ) → i ≤ j → j < classCount w → at w (6 + i) ≤ at w (6 + j)
+  starts-ordered : (i j : ℕ) → i ≤ j → j < classCount w → at w (classesFrom + i) ≤ at w (classesFrom + j)
   starts-ordered i j h b =
       let e : i + (j - i) ≡ j = omega arith in
-      rw e at (rise (λ k. at w (6 + k)) (classCount w) (λ k l. let d : 7 + k ≡ 6 + suc k = omega arith in rw d at (start-below k l)) i (j - i) (omega arith))
+      rw e at (rise (λ k. at w (classesFrom + k)) (classCount w) (λ k l. let d : classesFrom + 1 + k ≡ 6 + suc k = omega arith in rw d at (start-below k l)) i (j - i) (omega arith))
 
   -- the class whose start is not above the character, where the next one's is
-  pub class-found : (c n : ℕ) → n < classCount w → at w (6 + n) ≤ c → (n + 1 < classCount w → c < at w (6 + (n + 1))) →
-      classOf (take (classCount w) (drop 6 w)) c ≡ n
+  pub class-found : (c n : ℕ) → n < classCount w → at w (classesFrom + n) ≤ c → (n + 1 < classCount w → c < at w (classesFrom + (n + 1))) →
+      classOf (take (classCount w) (drop classesFrom w)) c ≡ n
   unfolding classOf
   class-found c n h low high =
-      let ss = take (classCount w) (drop 6 w) in
+      let ss = take (classCount w) (drop classesFrom w) in
       let long = sound-header w sure .long in
       let few = sound-header w sure .few-classes in
-      let size : length ss ≡ classCount w = length-take-le (classCount w) (drop 6 w) (omega (arith, length-drop 6 w)) in
-      let is : (k : ℕ) → k < classCount w → at ss k ≡ at w (6 + k) = λ k l. getD-take (classCount w) (drop 6 w) k 0 l ∙ getD-drop 6 w k 0 in
+      let size : length ss ≡ classCount w = length-take-le (classCount w) (drop classesFrom w) (omega (arith, length-drop classesFrom w)) in
+      let is : (k : ℕ) → k < classCount w → at ss k ≡ at w (classesFrom + k) = λ k l. getD-take (classCount w) (drop classesFrom w) k 0 l ∙ getD-drop classesFrom w k 0 in
       let all : count (λ s. leb s c) ss ≡ suc n =
       count-split c ss (suc n) (omega arith) (λ k l. omega (arith, is k (omega arith), starts-ordered k n (omega arith) h))
       (λ k l b. omega (arith, is k (omega arith), starts-ordered (n + 1) k (omega arith) (omega arith), high (omega arith))) in
@@ -75,49 +75,49 @@ tab-same f g i zero e = refl
 tab-same f g i (suc n) e = ap₂ _∷_ (e i (omega arith)) (tab-same f g (suc i) n (λ j h. e j (omega arith)))
 
 -- a block's output from its 75 words
-output-front : (b u : List ℕ) (n : ℕ) → 75 ≤ n → at b 0 ≤ 8 → at b 2 ≤ 8 → blockOutput (take n b) u ≡ blockOutput b u
+output-front : (b u : List ℕ) (n : ℕ) → blockSize ≤ n → at b 0 ≤ 8 → at b 2 ≤ 8 → blockOutput (take n b) u ≡ blockOutput b u
 unfolding blockOutput
 output-front b u n h size few =
     rw (getD-take n b 0 0 (omega arith), getD-take n b 2 0 (omega arith))
     (tab-same _ _ 0 (at b 2)
     (λ j l.
-    let m = 4 + 9 * j in
+    let m = 4 + entrySize * j in
     let k = at b 0 in
-    ap₂ (λ v ks. wordSum v ks u) (getD-take n b (3 + 9 * j) 0 (omega arith))
+    ap₂ (λ v ks. wordSum v ks u) (getD-take n b (3 + entrySize * j) 0 (omega arith))
     (ap (take k) (drop-take m (n - m) n b (omega arith)) ∙ take-take k (n - m) (drop m b) (omega arith))))
 
 -- the words of all blocks
 abbrev pub blocksOf : List ℕ → List ℕ
-blocksOf w = take 2475 (drop 17222 w)
+blocksOf w = take blocksSize (drop blocksFrom w)
 
-pub blocks-long : (w : List ℕ) → wordCount ≤ length w → length (blocksOf w) ≡ 2475
-blocks-long w h = length-take-le 2475 (drop 17222 w) (omega (arith, length-drop 17222 w))
+pub blocks-long : (w : List ℕ) → wordCount ≤ length w → length (blocksOf w) ≡ blocksSize
+blocks-long w h = length-take-le blocksSize (drop blocksFrom w) (omega (arith, length-drop blocksFrom w))
 
 -- a block among them
 module _ (w : List ℕ) (g : ℕ) (h : g < 33) where
-  blocks-block : drop (75 * g) (blocksOf w) ≡ take (2475 - 75 * g) (blockAt w g)
-  blocks-block = drop-take (75 * g) (2475 - 75 * g) 2475 (drop 17222 w) (omega arith) ∙ ap (take (2475 - 75 * g)) (drop-drop (75 * g) 17222 w)
+  blocks-block : drop (blockSize * g) (blocksOf w) ≡ take (blocksSize - blockSize * g) (blockAt w g)
+  blocks-block = drop-take (blockSize * g) (blocksSize - blockSize * g) blocksSize (drop blocksFrom w) (omega arith) ∙ ap (take (blocksSize - blockSize * g)) (drop-drop (blockSize * g) blocksFrom w)
 
   -- a word of the block, by its place p among the blocks' words
-  blocks-at : (i p : ℕ) → p ≡ 75 * g + i → i < 75 → at (blocksOf w) p ≡ at (blockAt w g) i
+  blocks-at : (i p : ℕ) → p ≡ blockSize * g + i → i < blockSize → at (blocksOf w) p ≡ at (blockAt w g) i
   blocks-at i p e l =
       ap (at (blocksOf w)) e
-      ∙ sym (getD-drop (75 * g) (blocksOf w) i 0)
+      ∙ sym (getD-drop (blockSize * g) (blocksOf w) i 0)
       ∙ ap (λ b. at b i) blocks-block
-      ∙ getD-take (2475 - 75 * g) (blockAt w g) i 0 (omega arith)
+      ∙ getD-take (blocksSize - blockSize * g) (blockAt w g) i 0 (omega arith)
 
-  pub blocks-size : at (blocksOf w) (75 * g) ≡ at (blockAt w g) 0
-  blocks-size = blocks-at 0 (75 * g) (omega arith) (omega arith)
+  pub blocks-size : at (blocksOf w) (blockSize * g) ≡ at (blockAt w g) 0
+  blocks-size = blocks-at 0 (blockSize * g) (omega arith) (omega arith)
 
-  pub blocks-count : at (blocksOf w) (75 * g + 2) ≡ at (blockAt w g) 2
-  blocks-count = blocks-at 2 (75 * g + 2) refl (omega arith)
+  pub blocks-count : at (blocksOf w) (blockSize * g + 2) ≡ at (blockAt w g) 2
+  blocks-count = blocks-at 2 (blockSize * g + 2) refl (omega arith)
 
   -- what the block writes, in the place of other words
   pub blocks-written : (store out : List ℕ) (n : ℕ) → at (blockAt w g) 0 ≤ 8 → at (blockAt w g) 2 ≤ 8 →
-      take n out ++ blockOutput (drop (75 * g) (blocksOf w)) (take (at (blocksOf w) (75 * g)) store) ++ drop (n + at (blocksOf w) (75 * g + 2)) out
+      take n out ++ blockOutput (drop (blockSize * g) (blocksOf w)) (take (at (blocksOf w) (blockSize * g)) store) ++ drop (n + at (blocksOf w) (blockSize * g + 2)) out
       ≡ take n out ++ blockOutput (blockAt w g) (take (at (blockAt w g) 0) store) ++ drop (n + at (blockAt w g) 2) out
   blocks-written store out n size few =
       let u = take (at (blockAt w g) 0) store in
-      let same : blockOutput (drop (75 * g) (blocksOf w)) u ≡ blockOutput (blockAt w g) u =
-      ap (λ b. blockOutput b u) blocks-block ∙ output-front (blockAt w g) u (2475 - 75 * g) (omega arith) size few in
+      let same : blockOutput (drop (blockSize * g) (blocksOf w)) u ≡ blockOutput (blockAt w g) u =
+      ap (λ b. blockOutput b u) blocks-block ∙ output-front (blockAt w g) u (blocksSize - blockSize * g) (omega arith) size few in
       rw (blocks-size, blocks-count, same) refl

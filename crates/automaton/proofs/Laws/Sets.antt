@@ -17,11 +17,11 @@ use Rattle.lists.proofs.Laws.Each.{each-weaken}
 use Rattle.lists.proofs.Laws.Members.{same-list, list-same}
 use Rattle.lists.proofs.Laws.Sets.{filter-same}
 use Rattle.meaning.specs.Table.{ruleAt, inRanges}
-use Rattle.meaning.specs.Block.{at}
-use Rattle.meaning.specs.Flat.{tableAt, groupAt, patternAt, rangesAt}
+use Rattle.meaning.specs.Block.{at, blockSize}
+use Rattle.meaning.specs.bridge.Flat.{tableAt, groupAt, patternAt, rangesAt}
 use Rattle.meaning.proofs.Laws.Choosing.{getD-tab, rule-at}
 use Rattle.automaton.specs.States.{sameState, inhabited, firstNumber, longerRules, acceptOf, acceptAtEndOf}
-use Rattle.automaton.specs.Build.{membersFrom, stateOf}
+use Rattle.automaton.specs.bridge.Build.{membersFrom, stateOf}
 
 -- powers of two
 
@@ -269,10 +269,10 @@ module _ (p : ℕ → Bool) (n set : ℕ) where
 -- rules of a flat table: their tests by its arrays
 
 abbrev pub goesOn : List ℕ → List ℕ → List ℕ → ℕ → ℕ → ℕ → Bool
-goesOn slots ranges blocks depth c r = ltb depth (at blocks (75 * r)) && inRanges (rangesAt slots ranges (8 * r + depth)) c
+goesOn slots ranges blocks depth c r = ltb depth (at blocks (blockSize * r)) && inRanges (rangesAt slots ranges (8 * r + depth)) c
 
 abbrev pub endsAt : List ℕ → ℕ → Bool → ℕ → Bool
-endsAt blocks depth free r = eqb (at blocks (75 * r)) depth && not (free && eqb (at blocks (75 * r + 1)) 1)
+endsAt blocks depth free r = eqb (at blocks (blockSize * r)) depth && not (free && eqb (at blocks (blockSize * r + 1)) 1)
 
 module _ (slots ranges blocks : List ℕ) (n : ℕ) (d : Bool) (set depth : ℕ) where
   -- two tests that agree below n keep the same members
@@ -287,14 +287,14 @@ module _ (slots ranges blocks : List ℕ) (n : ℕ) (d : Bool) (set depth : ℕ)
       by-rules
       (λ r. ltb depth (ruleAt (tableAt slots ranges blocks n d) r .size) && inRanges (getD (ruleAt (tableAt slots ranges blocks n d) r .ranges) depth []) c)
       (goesOn slots ranges blocks depth c)
-      (λ r h. ap (λ g. ltb depth (g .size) && inRanges (getD (g .ranges) depth []) c) (rule-at slots ranges blocks n d r h) ∙ place r (ltb depth (at blocks (75 * r))) refl)
+      (λ r h. ap (λ g. ltb depth (g .size) && inRanges (getD (g .ranges) depth []) c) (rule-at slots ranges blocks n d r h) ∙ place r (ltb depth (at blocks (blockSize * r))) refl)
     where
-      place : (r : ℕ) (b : Bool) → ltb depth (at blocks (75 * r)) ≡ b →
+      place : (r : ℕ) (b : Bool) → ltb depth (at blocks (blockSize * r)) ≡ b →
           ltb depth (groupAt slots ranges blocks r .size) && inRanges (getD (groupAt slots ranges blocks r .ranges) depth []) c
-          ≡ ltb depth (at blocks (75 * r)) && inRanges (rangesAt slots ranges (8 * r + depth)) c
+          ≡ ltb depth (at blocks (blockSize * r)) && inRanges (rangesAt slots ranges (8 * r + depth)) c
       place r true e =
-          ap (λ rs. ltb depth (at blocks (75 * r)) && inRanges rs c)
-          (getD-tab (λ p. rangesAt slots ranges (8 * r + p)) 0 (at blocks (75 * r)) depth [] (ltb-true depth (at blocks (75 * r)) e)
+          ap (λ rs. ltb depth (at blocks (blockSize * r)) && inRanges rs c)
+          (getD-tab (λ p. rangesAt slots ranges (8 * r + p)) 0 (at blocks (blockSize * r)) depth [] (ltb-true depth (at blocks (blockSize * r)) e)
           ∙ ap (λ p. rangesAt slots ranges (8 * r + p)) (zero-add depth))
       place r false e = rw e
 
@@ -316,4 +316,4 @@ module _ (slots ranges blocks : List ℕ) (n : ℕ) (d : Bool) (set depth : ℕ)
       (by-rules
       (λ r. eqb (ruleAt (tableAt slots ranges blocks n d) r .size) depth)
       (endsAt blocks depth false)
-      (λ r h. ap (λ g. eqb (g .size) depth) (rule-at slots ranges blocks n d r h) ∙ sym (and-true (eqb (at blocks (75 * r)) depth))))
+      (λ r h. ap (λ g. eqb (g .size) depth) (rule-at slots ranges blocks n d r h) ∙ sym (and-true (eqb (at blocks (blockSize * r)) depth))))

@@ -13,13 +13,13 @@ use Rattle.lists.specs.Lists.{Each, isSome}
 use Rattle.lists.specs.Decide.{implies}
 use Rattle.lists.proofs.Laws.Tests.{of-not, and-left, and-right, of-cond, to-implies, to-allOf, to-below, eq→eqb, neqb→ne, ne→neqb, to-between}
 use Rattle.meaning.specs.Table.{Group, Table, ruleAt, defaultNumber, longest, expansion}
-use Rattle.meaning.specs.Block.{at, bit, block}
+use Rattle.meaning.specs.Block.{at, bit, block, blockSize}
 use Rattle.meaning.proofs.Laws.Shape.{ShapedDefault, Shaped}
 use Rattle.meaning.proofs.Laws.Groups.{rule-shaped, default-each, group-rule, group-default, longest-le, longest-small, longest-positive, group-short, expansion-small}
 use Rattle.meaning.proofs.Laws.Exact.{block-size, block-anchored, block-count}
 use Rattle.automaton.specs.Classes.{starts}
 use Rattle.automaton.specs.States.{State, initial, acceptAtEndOf, acceptOf, states, targetOf}
-use Rattle.automaton.specs.Layout.{wordCount, words}
+use Rattle.automaton.specs.Layout.{wordCount, words, classesFrom}
 use Rattle.automaton.specs.Sound.{classCount, longestWord, ruleCount, stateCount, depthWord, targetWord, blockAt, between, used, soundHeader, soundStarts, soundBlock, soundBlocks, namesRule, soundTarget, soundState, sound}
 use Rattle.automaton.proofs.Laws.Good.{stateAt}
 use Rattle.automaton.proofs.Laws.First.{first-cases, first-none}
@@ -51,18 +51,18 @@ module _ (t : Table) (rest : List ℕ) (shaped : Shaped t) (narrow : length (sta
   starts-sound =
       to-allOf _ (
         eq→eqb (at w 6) 0 (layout-start t rest 0 (omega arith) ∙ classed t .first),
-        (to-below (pred (classCount w)) _ (λ k h. lt→ltb (at w (6 + k)) (at w (7 + k)) (rises k (rw (layout-classes t rest) at h))), tt),
+        (to-below (pred (classCount w)) _ (λ k h. lt→ltb (at w (classesFrom + k)) (at w (classesFrom + 1 + k)) (rises k (rw (layout-classes t rest) at h))), tt),
       )
     where
-      rises : (k : ℕ) → k < pred (length (starts t)) → at w (6 + k) < at w (7 + k)
+      rises : (k : ℕ) → k < pred (length (starts t)) → at w (classesFrom + k) < at w (classesFrom + 1 + k)
       rises k h =
           let this = layout-start t rest k (omega arith) in
-          let next : at w (7 + k) ≡ getD (starts t) (suc k) 0 = ap (at w) (omega arith) ∙ layout-start t rest (suc k) (omega arith) in
+          let next : at w (classesFrom + 1 + k) ≡ getD (starts t) (suc k) 0 = ap (at w) (omega arith) ∙ layout-start t rest (suc k) (omega arith) in
           let above = classed t .rising k (omega arith) in
           omega arith
 
   -- block number n holds the group g
-  group-sound : (n : ℕ) (g : Group) (most anchored : ℕ) → ((j : ℕ) → j < 75 → at (blockAt w n) j ≡ at (block g) j) →
+  group-sound : (n : ℕ) (g : Group) (most anchored : ℕ) → ((j : ℕ) → j < blockSize → at (blockAt w n) j ≡ at (block g) j) →
       1 ≤ g .size → g .size ≤ most → bit (g .anchored) ≤ anchored → length (g .outputs) ≤ expansion t → T (soundBlock w n most anchored)
   unfolding soundBlock
   group-sound n g most anchored is low high a outs =

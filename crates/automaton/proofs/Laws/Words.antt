@@ -16,7 +16,7 @@ use Rattle.lists.proofs.Laws.Sets.{length-tab}
 use Rattle.meaning.specs.Table.{defaultNumber}
 use Rattle.meaning.specs.Block.{at, blockOutput}
 use Rattle.automaton.specs.Classes.{classOf}
-use Rattle.automaton.specs.Layout.{wordCount}
+use Rattle.automaton.specs.Layout.{wordCount, classesFrom}
 use Rattle.automaton.specs.Sound.{classCount, longestWord, expansionWord, ruleCount, stateCount, depthWord, acceptAtEndWord, acceptWord, targetWord, blockAt, between, used, soundHeader, soundBlock, soundBlocks, namesRule, soundTarget, soundState, sound}
 use Rattle.automaton.specs.Automaton.{fromWords}
 use Rattle.automaton.proofs.Laws.Good.{Good, Short}
@@ -156,12 +156,12 @@ module _ (w : List ℕ) (sure : T (sound w)) where
   sound-state s b = state w s (below (stateCount w) _ (holds _ sure .1 .1 .1 .1 .0) s b)
 
   -- a character's class is below the class count
-  pub sound-class : (c : ℕ) → classOf (take (classCount w) (drop 6 w)) c < classCount w
+  pub sound-class : (c : ℕ) → classOf (take (classCount w) (drop classesFrom w)) c < classCount w
   sound-class c =
       let h = sound-header in
-      let room : classCount w ≤ length (drop 6 w) = omega (arith, length-drop 6 w) in
-      let whole = length-take-le (classCount w) (drop 6 w) room in
-      subst (λ n. classOf (take (classCount w) (drop 6 w)) c < n) whole (class-below (take (classCount w) (drop 6 w)) c (omega arith))
+      let room : classCount w ≤ length (drop classesFrom w) = omega (arith, length-drop classesFrom w) in
+      let whole = length-take-le (classCount w) (drop classesFrom w) room in
+      subst (λ n. classOf (take (classCount w) (drop classesFrom w)) c < n) whole (class-below (take (classCount w) (drop classesFrom w)) c (omega arith))
 
   -- a rule is named only where the depth is not 0
   named : (depth n : ℕ) → Names w depth n → n ≢ 0 → SoundBlock w (pred n) (longestWord w)
@@ -177,7 +177,7 @@ module _ (w : List ℕ) (sure : T (sound w)) where
   target-cases : (P : ℕ → Type 0) (q x : ℕ) → q < stateCount w → P 0 → ((k : ℕ) → Follows w q k → P k) → P (fromWords w .target q x)
   unfolding fromWords
   target-cases P q x b p f =
-      let k = classOf (take (classCount w) (drop 6 w)) x in
+      let k = classOf (take (classCount w) (drop classesFrom w)) x in
       elim (ℕ-discrete (targetWord w q k) 0) [
         | yes e ↦ subst P (sym e) p
         | no h ↦ f (targetWord w q k) (sound-state q b .target k (sound-class x) h)

@@ -16,7 +16,7 @@ use Rattle.session.specs.Contracts.{outcomeOf}
 use Rattle.session.specs.declared.kept.Session.{Session}
 use Rattle.session.specs.declared.call.Answer.{Answer}
 use Rattle.session.specs.declared.call.Answer.the-variants.{Accepted, Refused}
-use Rattle.convert.specs.Call.{Counted}
+use Rattle.convert.specs.bridge.Call.{Counted}
 
 call-counted : (o : Outcome (Unit {0})) (m : Automaton) (s : Spec.Session) (piece : List ℕ) (ended : Bool) (buffer : List ℕ)
     (a : Answer) (later : Session) (output : List ℕ) →

@@ -17,10 +17,10 @@ use Rattle.lists.proofs.Laws.Tests.{split}
 use Rattle.lists.proofs.Laws.Parts.{length-pad, getD-pad}
 use Rattle.meaning.specs.Refusal.{refused, accepted, andThen}
 use Rattle.meaning.specs.Table.{Group, Table, ruleAt, inRanges, longest}
-use Rattle.meaning.specs.Block.{at, bit, block}
+use Rattle.meaning.specs.Block.{at, bit, block, blockSize, blocksSize}
 use Rattle.meaning.specs.Reader.{readTable}
-use Rattle.meaning.specs.Flat.{rows, slotWords, rangeWords, blockWords, groupAt, tableAt, expansionAt, Flat}
-use Rattle.rules.specs.Answers.{LoadedBy}
+use Rattle.meaning.specs.bridge.Flat.{rows, slotWords, rangeWords, blockWords, groupAt, tableAt, expansionAt, Flat}
+use Rattle.rules.specs.bridge.Readings.{LoadedBy}
 use Rattle.meaning.proofs.Laws.Shape.{Shaped}
 use Rattle.meaning.proofs.Laws.Narrow.{Narrow}
 use Rattle.rules.proofs.Laws.Flattened.{flat-flat}
@@ -32,16 +32,16 @@ use Rattle.meaning.proofs.Laws.Direct.{table-refused}
 use Rattle.rules.proofs.Laws.Converting.{of-read, is-shaped, is-narrow, is-refused, expansion-flat}
 use Rattle.automaton.specs.Classes.{starts}
 use Rattle.automaton.specs.States.{State, firstNumber, initial, acceptAtEndOf, acceptOf, successor, sameState, inhabited, distinct, nextLevel, levels, states, targetOf}
-use Rattle.automaton.specs.Layout.{wordCount, stateWords, targetWords, parts, words}
-use Rattle.automaton.specs.Gathered.{Gathered}
+use Rattle.automaton.specs.Layout.{wordCount, stateWords, targetWords, parts, words, blocksFrom, classesFrom, statesFrom, statesSize, targetsSize}
+use Rattle.automaton.specs.bridge.Gathered.{Gathered}
 use Rattle.automaton.specs.Compile.{CompileOutcome, small, compilable, compileBy, compile}
-use Rattle.machine.specs.Compiled.{longestAt, headerAt, wordsAt, builtBy, built}
+use Rattle.machine.specs.bridge.Building.{longestAt, headerAt, wordsAt, builtBy, built}
 use Rattle.automaton.proofs.Laws.Gathering.{starts-bare}
 use Rattle.automaton.proofs.Laws.Compile.{compile-answers}
 
 -- six stores
 pub header-put : (w : List ℕ) (a b c d e f : ℕ) → 6 ≤ length w →
-    set (set (set (set (set (set w 0 a) 1 b) 2 c) 3 d) 4 e) 5 f ≡ (a ∷ b ∷ c ∷ d ∷ e ∷ f ∷ []) ++ drop 6 w
+    set (set (set (set (set (set w 0 a) 1 b) 2 c) 3 d) 4 e) 5 f ≡ (a ∷ b ∷ c ∷ d ∷ e ∷ f ∷ []) ++ drop classesFrom w
 header-put [] a b c d e f h = absurd (omega arith)
 header-put (x ∷ []) a b c d e f h = absurd (omega arith)
 header-put (x ∷ y ∷ []) a b c d e f h = absurd (omega arith)
@@ -117,29 +117,29 @@ module _ (t : Table) where
   targetWords-plain : flatMap (targetWords (plain t)) (states (plain t)) ≡ flatMap (targetWords t) (states t)
   targetWords-plain = λ i. flatMap (λ q. pad 64 (map (target-plain i (states-plain i) q) (starts-plain i))) (states-plain i)
 
-  blocks-plain : blockWords t ≡ pad 2400 (flatMap block (t .rules)) ++ pad 75 (flatMap block (optional (t .default)))
+  blocks-plain : blockWords t ≡ pad (32 * blockSize) (flatMap block (t .rules)) ++ pad blockSize (flatMap block (optional (t .default)))
   unfolding blockWords rows block
-  blocks-plain = λ i. pad 2400 (flatMap (λ g. whole g i) (t .rules)) ++ pad 75 (flatMap (λ g. whole g i) (optional (t .default)))
+  blocks-plain = λ i. pad (32 * blockSize) (flatMap (λ g. whole g i) (t .rules)) ++ pad blockSize (flatMap (λ g. whole g i) (optional (t .default)))
     where
-      whole : (g : Group) → pad 75 (block g) ≡ block g
-      whole g = pad-pad 75 (g .size ∷ _)
+      whole : (g : Group) → pad blockSize (block g) ≡ block g
+      whole g = pad-pad blockSize (g .size ∷ _)
 
 -- L by the arrays
 module _ (slots ranges blocks : List ℕ) where
   greatest-next : (i n : ℕ) → greatest (λ g. g .size) (tabFrom i (suc n) (groupAt slots ranges blocks))
-      ≡ max (greatest (λ g. g .size) (tabFrom i n (groupAt slots ranges blocks))) (at blocks (75 * (i + n)))
+      ≡ max (greatest (λ g. g .size) (tabFrom i n (groupAt slots ranges blocks))) (at blocks (blockSize * (i + n)))
   unfolding groupAt
-  greatest-next i zero = let e : at blocks (75 * (i + 0)) ≡ at blocks (75 * i) = ap (λ k. at blocks (75 * k)) (add-zero i) in omega arith
+  greatest-next i zero = let e : at blocks (blockSize * (i + 0)) ≡ at blocks (blockSize * i) = ap (λ k. at blocks (blockSize * k)) (add-zero i) in omega arith
   greatest-next i (suc n) =
-      let e : at blocks (75 * (suc i + n)) ≡ at blocks (75 * (i + suc n)) = ap (λ k. at blocks (75 * k)) (omega arith) in
+      let e : at blocks (blockSize * (suc i + n)) ≡ at blocks (blockSize * (i + suc n)) = ap (λ k. at blocks (blockSize * k)) (omega arith) in
       let h = greatest-next (suc i) n in omega arith
 
   longest-at : (n : ℕ) → longestAt blocks n ≡ longest (tableAt slots ranges blocks n false)
   unfolding longestAt longest tableAt
   longest-at zero = refl
   longest-at (suc n) =
-      ap (λ m. max m (at blocks (75 * n))) (longest-at n)
-      ∙ ap (λ k. max (greatest (λ g. g .size) (tabFrom 0 n (groupAt slots ranges blocks))) (at blocks (75 * k))) (sym (zero-add n))
+      ap (λ m. max m (at blocks (blockSize * n))) (longest-at n)
+      ∙ ap (λ k. max (greatest (λ g. g .size) (tabFrom 0 n (groupAt slots ranges blocks))) (at blocks (blockSize * k))) (sym (zero-add n))
       ∙ sym (greatest-next 0 n)
 
   pub longest-eight : Flat slots ranges blocks → (n : ℕ) → n ≤ 32 → longestAt blocks n ≤ 8
@@ -147,7 +147,7 @@ module _ (slots ranges blocks : List ℕ) where
   longest-eight f zero h = omega arith
   longest-eight f (suc n) h =
       let a : longestAt blocks n ≤ 8 = longest-eight f n (omega arith) in
-      let b : at blocks (75 * n) ≤ 8 = f .size n (omega arith) in omega arith
+      let b : at blocks (blockSize * n) ≤ 8 = f .size n (omega arith) in omega arith
 
 -- words that are 0, and class starts put into them
 
@@ -160,21 +160,21 @@ module _ (w : List ℕ) (zeros : w ≡ pad wordCount [] ++ drop wordCount w) whe
       ap (λ l. at l i) zeros ∙ List·getD-append (pad wordCount []) (drop wordCount w) 0 i (subst (λ n. i < n) (sym (length-pad wordCount [])) h)
       ∙ getD-pad wordCount [] i h
 
-  pub zero-starts : take 64 (drop 6 w) ≡ pad 64 []
+  pub zero-starts : take 64 (drop classesFrom w) ≡ pad 64 []
   zero-starts =
-      ap (λ l. take 64 (drop 6 l)) (zeros ∙ ap (λ l. l ++ drop wordCount w) (pad-none 6 19691) ∙ append-assoc (pad 6 []) (pad 19691 []) (drop wordCount w))
+      ap (λ l. take 64 (drop classesFrom l)) (zeros ∙ ap (λ l. l ++ drop wordCount w) (pad-none 6 19691) ∙ append-assoc (pad 6 []) (pad 19691 []) (drop wordCount w))
       ∙ ap (take 64) (drop-at (pad 6 []) (pad 19691 [] ++ drop wordCount w) 6 (length-pad 6 []))
-      ∙ ap (take 64) (ap (λ l. l ++ drop wordCount w) (pad-none 64 19627) ∙ append-assoc (pad 64 []) (pad 19627 []) (drop wordCount w))
-      ∙ take-at (pad 64 []) (pad 19627 [] ++ drop wordCount w) 64 (length-pad 64 [])
+      ∙ ap (take 64) (ap (λ l. l ++ drop wordCount w) (pad-none 64 (wordCount - statesFrom)) ∙ append-assoc (pad 64 []) (pad (wordCount - statesFrom) []) (drop wordCount w))
+      ∙ take-at (pad 64 []) (pad (wordCount - statesFrom) [] ++ drop wordCount w) 64 (length-pad 64 [])
 
   module _ (ss v : List ℕ) (n : ℕ) (g : Gathered ss w v n) where
     pub gathered-back : drop wordCount v ≡ drop wordCount w
-    gathered-back = drop-later 70 19627 v w (g .back)
+    gathered-back = drop-later statesFrom (wordCount - statesFrom) v w (g .back)
 
-    pub gathered-zero : (i : ℕ) → 70 ≤ i → i < 17222 → at v i ≡ 0
+    pub gathered-zero : (i : ℕ) → statesFrom ≤ i → i < blocksFrom → at v i ≡ 0
     gathered-zero i a b =
-        let e : i ≡ 70 + (i - 70) = omega arith in
-        ap (at v) e ∙ sym (getD-drop 70 v (i - 70) 0) ∙ ap (λ l. at l (i - 70)) (g .back) ∙ getD-drop 70 w (i - 70) 0 ∙ ap (at w) (sym e) ∙ zero-at i (omega arith)
+        let e : i ≡ statesFrom + (i - statesFrom) = omega arith in
+        ap (at v) e ∙ sym (getD-drop statesFrom v (i - statesFrom) 0) ∙ ap (λ l. at l (i - statesFrom)) (g .back) ∙ getD-drop statesFrom w (i - statesFrom) 0 ∙ ap (at w) (sym e) ∙ zero-at i (omega arith)
 
     pub gathered-number : n ≤ 64 → n ≡ length ss
     gathered-number h = omega (arith, g .number)
@@ -182,32 +182,32 @@ module _ (w : List ℕ) (zeros : w ≡ pad wordCount [] ++ drop wordCount w) whe
     pub gathered-over : 64 < n → 64 < length ss
     gathered-over h = omega (arith, g .number)
 
-    pub gathered-start : wordCount ≤ length w → n ≤ 64 → (k : ℕ) → k < length ss → at v (6 + k) ≡ getD ss k 0
+    pub gathered-start : wordCount ≤ length w → n ≤ 64 → (k : ℕ) → k < length ss → at v (classesFrom + k) ≡ getD ss k 0
     gathered-start room h k i =
         let few : length ss ≤ 64 = omega (arith, gathered-number h) in
-        let six : length (take 6 w) ≡ 6 = length-take-le 6 w (omega arith) in
-        let whole : length (take 6 w ++ pad 64 ss) ≡ 70 = length-append (take 6 w) (pad 64 ss) ∙ omega (arith, six, length-pad 64 ss) in
-        ap (λ l. at l (6 + k)) (g .filled few)
-        ∙ List·getD-append (take 6 w ++ pad 64 ss) (drop 70 w) 0 (6 + k) (omega arith)
-        ∙ ap (λ m. at (take 6 w ++ pad 64 ss) (m + k)) (sym six)
-        ∙ getD-append-add (take 6 w) (pad 64 ss) k 0
+        let six : length (take classesFrom w) ≡ 6 = length-take-le 6 w (omega arith) in
+        let whole : length (take classesFrom w ++ pad 64 ss) ≡ statesFrom = length-append (take classesFrom w) (pad 64 ss) ∙ omega (arith, six, length-pad 64 ss) in
+        ap (λ l. at l (classesFrom + k)) (g .filled few)
+        ∙ List·getD-append (take classesFrom w ++ pad 64 ss) (drop statesFrom w) 0 (classesFrom + k) (omega arith)
+        ∙ ap (λ m. at (take classesFrom w ++ pad 64 ss) (m + k)) (sym six)
+        ∙ getD-append-add (take classesFrom w) (pad 64 ss) k 0
         ∙ getD-pad 64 ss k (omega arith)
 
 -- the words put together
-pub assembled : (w w1 w2 w3 w4 h s a b blocks : List ℕ) → wordCount ≤ length w → length h ≡ 6 → length s ≡ 64 → length a ≡ 768 → length b ≡ 16384 →
-    w1 ≡ take 6 w ++ s ++ drop 70 w → w2 ≡ take 70 w1 ++ a ++ b ++ drop 17222 w1 → w3 ≡ h ++ drop 6 w2 → w4 ≡ take 17222 w3 ++ blocks ++ drop wordCount w3 →
+pub assembled : (w w1 w2 w3 w4 h s a b blocks : List ℕ) → wordCount ≤ length w → length h ≡ 6 → length s ≡ 64 → length a ≡ statesSize → length b ≡ targetsSize →
+    w1 ≡ take classesFrom w ++ s ++ drop statesFrom w → w2 ≡ take statesFrom w1 ++ a ++ b ++ drop blocksFrom w1 → w3 ≡ h ++ drop classesFrom w2 → w4 ≡ take blocksFrom w3 ++ blocks ++ drop wordCount w3 →
     w4 ≡ (h ++ (s ++ (a ++ (b ++ blocks)))) ++ drop wordCount w
 assembled w w1 w2 w3 w4 h s a b blocks room lh ls la lb e1 e2 e3 e4 =
     e4
-    ∙ ap₂ (λ x y. x ++ blocks ++ y) (ap (take 17222) third ∙ take-at front rest 17222 front-length) last
+    ∙ ap₂ (λ x y. x ++ blocks ++ y) (ap (take blocksFrom) third ∙ take-at front rest blocksFrom front-length) last
     ∙ ap (λ x. x ++ drop wordCount w)
     (append-assoc h (s ++ (a ++ b)) blocks ∙ ap (λ x. h ++ x) (append-assoc s (a ++ b) blocks ∙ ap (λ x. s ++ x) (append-assoc a b blocks)))
   where
     p : List ℕ
-    p = take 6 w
+    p = take classesFrom w
 
     rest : List ℕ
-    rest = drop 17222 w1
+    rest = drop blocksFrom w1
 
     front : List ℕ
     front = h ++ (s ++ (a ++ b))
@@ -215,43 +215,43 @@ assembled w w1 w2 w3 w4 h s a b blocks room lh ls la lb e1 e2 e3 e4 =
     six : length p ≡ 6
     six = length-take-le 6 w (omega arith)
 
-    seventy : length (p ++ s) ≡ 70
+    seventy : length (p ++ s) ≡ statesFrom
     seventy = length-append p s ∙ omega (arith, six)
 
-    front-length : length front ≡ 17222
+    front-length : length front ≡ blocksFrom
     front-length =
         length-append h (s ++ (a ++ b)) ∙ omega (arith, length-append s (a ++ b), length-append a b)
 
     second : w2 ≡ p ++ (s ++ (a ++ (b ++ rest)))
     second =
-        e2 ∙ ap (λ x. x ++ a ++ b ++ rest) (ap (take 70) e1 ∙ take-at (p ++ s) (drop 70 w) 70 seventy)
+        e2 ∙ ap (λ x. x ++ a ++ b ++ rest) (ap (take statesFrom) e1 ∙ take-at (p ++ s) (drop statesFrom w) statesFrom seventy)
         ∙ append-assoc (p ++ s ++ a) b rest ∙ append-assoc (p ++ s) a (b ++ rest) ∙ append-assoc p s (a ++ (b ++ rest))
 
     third : w3 ≡ front ++ rest
     third =
-        e3 ∙ ap (λ x. h ++ x) (ap (drop 6) second ∙ drop-at p (s ++ (a ++ (b ++ rest))) 6 six)
+        e3 ∙ ap (λ x. h ++ x) (ap (drop classesFrom) second ∙ drop-at p (s ++ (a ++ (b ++ rest))) 6 six)
         ∙ sym (append-assoc h (s ++ (a ++ b)) rest ∙ ap (λ x. h ++ x) (append-assoc s (a ++ b) rest ∙ ap (λ x. s ++ x) (append-assoc a b rest)))
 
-    behind : drop 70 w1 ≡ drop 70 w
-    behind = ap (drop 70) e1 ∙ drop-at (p ++ s) (drop 70 w) 70 seventy
+    behind : drop statesFrom w1 ≡ drop statesFrom w
+    behind = ap (drop statesFrom) e1 ∙ drop-at (p ++ s) (drop statesFrom w) statesFrom seventy
 
     last : drop wordCount w3 ≡ drop wordCount w
     last =
-        sym (drop-drop 2475 17222 w3) ∙ ap (drop 2475) (ap (drop 17222) third ∙ drop-at front rest 17222 front-length)
-        ∙ drop-drop 2475 17222 w1 ∙ drop-later 70 19627 w1 w behind
+        sym (drop-drop blocksSize blocksFrom w3) ∙ ap (drop blocksSize) (ap (drop blocksFrom) third ∙ drop-at front rest blocksFrom front-length)
+        ∙ drop-drop blocksSize blocksFrom w1 ∙ drop-later statesFrom (wordCount - statesFrom) w1 w behind
 
 -- the same with the six words as they were counted
 pub put-together : (t : Table) (n : ℕ) (d : Bool) (w w1 w2 w3 w4 blocks : List ℕ) (q c l e : ℕ) → wordCount ≤ length w →
     q ≡ length (states t) → c ≡ length (starts t) → l ≡ longestAt blocks n → e ≡ expansionAt blocks n d →
-    w1 ≡ take 6 w ++ pad 64 (starts t) ++ drop 70 w →
-    w2 ≡ take 70 w1 ++ pad 768 (flatMap (stateWords t) (states t)) ++ pad 16384 (flatMap (targetWords t) (states t)) ++ drop 17222 w1 →
-    w3 ≡ (q ∷ c ∷ l ∷ e ∷ n ∷ bit d ∷ []) ++ drop 6 w2 → w4 ≡ take 17222 w3 ++ blocks ++ drop wordCount w3 →
+    w1 ≡ take classesFrom w ++ pad 64 (starts t) ++ drop statesFrom w →
+    w2 ≡ take statesFrom w1 ++ pad statesSize (flatMap (stateWords t) (states t)) ++ pad targetsSize (flatMap (targetWords t) (states t)) ++ drop blocksFrom w1 →
+    w3 ≡ (q ∷ c ∷ l ∷ e ∷ n ∷ bit d ∷ []) ++ drop classesFrom w2 → w4 ≡ take blocksFrom w3 ++ blocks ++ drop wordCount w3 →
     w4 ≡ wordsAt t blocks n d ++ drop wordCount w
 unfolding wordsAt
 put-together t n d w w1 w2 w3 w4 blocks q c l e room eq ec el ee e1 e2 e3 e4 =
-    assembled w w1 w2 w3 w4 (headerAt t blocks n d) (pad 64 (starts t)) (pad 768 (flatMap (stateWords t) (states t)))
-    (pad 16384 (flatMap (targetWords t) (states t))) blocks room refl (length-pad 64 _) (length-pad 768 _) (length-pad 16384 _) e1 e2
-    (e3 ∙ (λ i. (eq i ∷ ec i ∷ el i ∷ ee i ∷ n ∷ bit d ∷ []) ++ drop 6 w2)) e4
+    assembled w w1 w2 w3 w4 (headerAt t blocks n d) (pad 64 (starts t)) (pad statesSize (flatMap (stateWords t) (states t)))
+    (pad targetsSize (flatMap (targetWords t) (states t))) blocks room refl (length-pad 64 _) (length-pad statesSize _) (length-pad targetsSize _) e1 e2
+    (e3 ∙ (λ i. (eq i ∷ ec i ∷ el i ∷ ee i ∷ n ∷ bit d ∷ []) ++ drop classesFrom w2)) e4
 
 -- the count of states as it is answered
 
@@ -303,13 +303,13 @@ module _ (t : Table) (s : Shaped t) (w : Narrow t) where
   unfolding wordsAt words parts
   words-flat =
       λ i. (length (states-plain t i) ∷ length (starts-plain t i) ∷ most i ∷ expansion-flat t s i ∷ n ∷ bit d ∷ [])
-      ++ (pad 64 (starts-plain t i) ++ (pad 768 (stateWords-plain t i) ++ (pad 16384 (targetWords-plain t i) ++ blocks i)))
+      ++ (pad 64 (starts-plain t i) ++ (pad statesSize (stateWords-plain t i) ++ (pad targetsSize (targetWords-plain t i) ++ blocks i)))
     where
       most : longestAt (blockWords t) n ≡ longest t
       most = longest-at (slotWords t) (rangeWords t) (blockWords t) n ∙ ap longest (table-plain t s w) ∙ longest-plain t
 
-      blocks : blockWords t ≡ pad 2400 (flatMap block (t .rules)) ++ (pad 75 (flatMap block (optional (t .default))) ++ [])
-      blocks = blocks-plain t ∙ ap (λ l. pad 2400 (flatMap block (t .rules)) ++ l) (sym (append-nil (pad 75 (flatMap block (optional (t .default))))))
+      blocks : blockWords t ≡ pad (32 * blockSize) (flatMap block (t .rules)) ++ (pad blockSize (flatMap block (optional (t .default))) ++ [])
+      blocks = blocks-plain t ∙ ap (λ l. pad (32 * blockSize) (flatMap block (t .rules)) ++ l) (sym (append-nil (pad blockSize (flatMap block (optional (t .default))))))
 
   built-flat : (buffer found : List ℕ) → drop wordCount buffer ≡ drop wordCount found →
       built (slotWords t) (rangeWords t) (blockWords t) n d buffer ≡ compileBy (small t) found

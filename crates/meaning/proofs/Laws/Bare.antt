@@ -13,9 +13,9 @@ use Rattle.lists.specs.Lists.{Each, flatMap, tabFrom, pad, isSome, orElse, opti
 use Rattle.lists.proofs.Laws.Each.{each-front, each-back, each-getD}
 use Rattle.lists.proofs.Laws.Parts.{length-pad, getD-pad, getD-rows}
 use Rattle.meaning.specs.Table.{Range, Group, Table, everyCharacter, ruleAt, group, defaultNumber}
-use Rattle.meaning.specs.Block.{at, bit, block}
+use Rattle.meaning.specs.Block.{at, bit, block, blockSize}
 use Rattle.meaning.specs.Meaning.{fits, better, best, orDefault, choose, chosen, convertBy, convertFrom, convert}
-use Rattle.meaning.specs.Flat.{rows, slotWords, rangeWords, blockWords, rangesAt, patternAt, groupAt, tableAt, flatConversion}
+use Rattle.meaning.specs.bridge.Flat.{rows, slotWords, rangeWords, blockWords, rangesAt, patternAt, groupAt, tableAt, flatConversion}
 use Rattle.meaning.proofs.Laws.Shape.{ShapedGroup, ShapedDefault, Shaped}
 use Rattle.meaning.proofs.Laws.Exact.{block-size, block-anchored}
 use Rattle.meaning.proofs.Laws.Narrow.{NarrowGroup, Narrow}
@@ -101,13 +101,13 @@ abbrev pub Row : Table → ℕ → Group → Type 0
 Row t k g = (n : ℕ) (f : Group → List ℕ) (j : ℕ) → j < n → at (rows n f t) (n * k + j) ≡ at (f g) j
 
 module _ (t : Table) (k : ℕ) (g : Group) (row : Row t k g) where
-  pub size-flat : at (blockWords t) (75 * k) ≡ g .size
+  pub size-flat : at (blockWords t) (blockSize * k) ≡ g .size
   unfolding blockWords
-  size-flat = ap (at (blockWords t)) (sym (add-zero (75 * k))) ∙ row 75 block 0 (lit< tt) ∙ block-size g
+  size-flat = ap (at (blockWords t)) (sym (add-zero (blockSize * k))) ∙ row blockSize block 0 (lit< tt) ∙ block-size g
 
-  anchored-flat : eqb (at (blockWords t) (75 * k + 1)) 1 ≡ g .anchored
+  anchored-flat : eqb (at (blockWords t) (blockSize * k + 1)) 1 ≡ g .anchored
   unfolding blockWords
-  anchored-flat = ap (λ w. eqb w 1) (row 75 block 1 (lit< tt) ∙ block-anchored g) ∙ of (g .anchored)
+  anchored-flat = ap (λ w. eqb w 1) (row blockSize block 1 (lit< tt) ∙ block-anchored g) ∙ of (g .anchored)
     where
       of : (a : Bool) → eqb (bit a) 1 ≡ a
       of true = refl

@@ -15,10 +15,10 @@ use lib.Seq.{drop-cons, ext-getD}
 use Rattle.lists.specs.Lists.{tabFrom}
 use Rattle.lists.proofs.Laws.Tests.{and-true}
 use Rattle.meaning.specs.Table.{Range, Group, Table, within, inRanges, everyCharacter, ruleAt, defaultNumber}
-use Rattle.meaning.specs.Block.{at}
+use Rattle.meaning.specs.Block.{at, blockSize}
 use Rattle.meaning.specs.Value.{fitsWord}
 use Rattle.meaning.specs.Meaning.{fits, better, best, orDefault, choose}
-use Rattle.meaning.specs.Flat.{rangesAt, patternAt, groupAt, tableAt}
+use Rattle.meaning.specs.bridge.Flat.{rangesAt, patternAt, groupAt, tableAt}
 use Rattle.meaning.proofs.Laws.Prefix.{fitsWord-length}
 
 -- lists made by number
@@ -140,7 +140,7 @@ module _ (g : Group) (rest : List ℕ) where
 -- the same of a group read back, on the input from place a on
 module _ (slots ranges blocks : List ℕ) (g : ℕ) (u : List ℕ) (a : ℕ) where
   abbrev size : ℕ
-  size = at blocks (75 * g)
+  size = at blocks (blockSize * g)
 
   abbrev fitting : Bool
   fitting = fits (groupAt slots ranges blocks g) (drop a u)
@@ -150,15 +150,15 @@ module _ (slots ranges blocks : List ℕ) (g : ℕ) (u : List ℕ) (a : ℕ) whe
   flat-short h =
       fits-short (groupAt slots ranges blocks g) (drop a u) (length-tab (λ p. rangesAt slots ranges (8 * g + p)) 0 size) (rw length-drop h)
 
-  pub flat-early : at blocks (75 * g + 1) ≡ 1 → size < length u - a → fitting ≡ false
+  pub flat-early : at blocks (blockSize * g + 1) ≡ 1 → size < length u - a → fitting ≡ false
   unfolding groupAt
-  flat-early e h = fits-early (groupAt slots ranges blocks g) (drop a u) (eq-eqb (at blocks (75 * g + 1)) 1 e) (rw length-drop h)
+  flat-early e h = fits-early (groupAt slots ranges blocks g) (drop a u) (eq-eqb (at blocks (blockSize * g + 1)) 1 e) (rw length-drop h)
 
-  pub flat-word : (b : Bool) → (at blocks (75 * g + 1) ≡ 1 → length u - a ≡ size) →
+  pub flat-word : (b : Bool) → (at blocks (blockSize * g + 1) ≡ 1 → length u - a ≡ size) →
       b ≡ fitsWord (tabFrom 0 size (λ p. rangesAt slots ranges (8 * g + p))) (take size (drop a u)) → b ≡ fitting
   unfolding groupAt patternAt
   flat-word b f e =
-      e ∙ sym (fits-word (groupAt slots ranges blocks g) (drop a u) (λ e. length-drop a u ∙ f (eqb-true (at blocks (75 * g + 1)) 1 e)))
+      e ∙ sym (fits-word (groupAt slots ranges blocks g) (drop a u) (λ e. length-drop a u ∙ f (eqb-true (at blocks (blockSize * g + 1)) 1 e)))
 
 -- the choice among the first rules, kept as two numbers: the rule and its length, or n and 9 for none
 module _ (slots ranges blocks : List ℕ) (n : ℕ) (d : Bool) (u : List ℕ) where
@@ -167,13 +167,13 @@ module _ (slots ranges blocks : List ℕ) (n : ℕ) (d : Bool) (u : List ℕ) wh
 
   abbrev pub Kept : Option ℕ → ℕ → ℕ → Type 0
   Kept none b l = (b ≡ n) × (l ≡ 9)
-  Kept (some x) b l = (b ≡ x) × (x < n) × (l ≡ at blocks (75 * x))
+  Kept (some x) b l = (b ≡ x) × (x < n) × (l ≡ at blocks (blockSize * x))
 
   -- among the rules below r
   abbrev pub KeptOf : ℕ → ℕ → ℕ → Type 0
   KeptOf r b l = Kept (best table r u) b l
 
-  rule-size : (r : ℕ) → r < n → ruleAt table r .size ≡ at blocks (75 * r)
+  rule-size : (r : ℕ) → r < n → ruleAt table r .size ≡ at blocks (blockSize * r)
   unfolding groupAt
   rule-size r h = ap (λ g. g .size) (rule-at slots ranges blocks n d r h)
 
@@ -190,7 +190,7 @@ module _ (slots ranges blocks : List ℕ) (n : ℕ) (d : Bool) (u : List ℕ) wh
     pub kept-skip : (f : Bool) → f ≡ fits (groupAt slots ranges blocks r) u → f ≡ false → KeptOf r b l → KeptOf (r + 1) b l
     kept-skip f p e k = by-rule (λ o. Kept o b l) (rw (← p, e) k)
 
-    pub kept-longer : l ≤ at blocks (75 * r) → at blocks (75 * r) ≤ 8 → KeptOf r b l → KeptOf (r + 1) b l
+    pub kept-longer : l ≤ at blocks (blockSize * r) → at blocks (blockSize * r) ≤ 8 → KeptOf r b l → KeptOf (r + 1) b l
     kept-longer m s k = by-rule (λ o. Kept o b l) (go (best table r u) (fits (groupAt slots ranges blocks r) u) k)
       where
         go : (o : Option ℕ) (f : Bool) → Kept o b l → Kept (better table o r f) b l
@@ -198,16 +198,16 @@ module _ (slots ranges blocks : List ℕ) (n : ℕ) (d : Bool) (u : List ℕ) wh
         go (some x) false k = k
         go none true k = absurd (omega arith)
         go (some x) true k =
-            rw (rule-size r h, rule-size x (k .1), le-ltb (at blocks (75 * r)) (at blocks (75 * x)) (omega arith)) k
+            rw (rule-size r h, rule-size x (k .1), le-ltb (at blocks (blockSize * r)) (at blocks (blockSize * x)) (omega arith)) k
 
     -- rule r fits and is shorter
-    pub kept-shorter : (f : Bool) → at blocks (75 * r) < l → f ≡ fits (groupAt slots ranges blocks r) u → f ≡ true → KeptOf r b l → KeptOf (r + 1) r (at blocks (75 * r))
-    kept-shorter f m p e k = by-rule (λ o. Kept o r (at blocks (75 * r))) (rw (← p, e) (go (best table r u) k))
+    pub kept-shorter : (f : Bool) → at blocks (blockSize * r) < l → f ≡ fits (groupAt slots ranges blocks r) u → f ≡ true → KeptOf r b l → KeptOf (r + 1) r (at blocks (blockSize * r))
+    kept-shorter f m p e k = by-rule (λ o. Kept o r (at blocks (blockSize * r))) (rw (← p, e) (go (best table r u) k))
       where
-        go : (o : Option ℕ) → Kept o b l → Kept (better table o r true) r (at blocks (75 * r))
+        go : (o : Option ℕ) → Kept o b l → Kept (better table o r true) r (at blocks (blockSize * r))
         go none k = (refl, h, refl)
         go (some x) k =
-            rw (rule-size r h, rule-size x (k .1), lt-ltb (at blocks (75 * r)) (at blocks (75 * x)) (omega arith)) (refl, h, refl)
+            rw (rule-size r h, rule-size x (k .1), lt-ltb (at blocks (blockSize * r)) (at blocks (blockSize * x)) (omega arith)) (refl, h, refl)
 
   pub kept-choose : (b l : ℕ) → KeptOf n b l → choose table u ≡ cond (ltb b n) (some b) (cond d (some defaultNumber) none)
   unfolding choose tableAt

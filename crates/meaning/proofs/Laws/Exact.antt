@@ -17,7 +17,7 @@ use Rattle.lists.proofs.Laws.Sets.{tab-map}
 use Rattle.meaning.specs.Table.{Output, sum, Group}
 use Rattle.meaning.specs.Value.{dot, value, IsCharacter}
 use Rattle.meaning.specs.Meaning.{written}
-use Rattle.meaning.specs.Block.{word, bit, entry, block, at, wordSum, blockOutput}
+use Rattle.meaning.specs.Block.{word, bit, entry, block, at, wordSum, blockOutput, blockSize, entrySize}
 use Rattle.meaning.proofs.Laws.Seven.{sum-swap}
 
 -- z and n differ by a multiple of 65536
@@ -124,32 +124,32 @@ pub length-entry : (o : Output) → length (entry o) ≡ 9
 unfolding entry
 length-entry (sum c ks) = ap suc (length-pad 8 (map word ks))
 
-pub length-block : (g : Group) → length (block g) ≡ 75
+pub length-block : (g : Group) → length (block g) ≡ blockSize
 unfolding block
-length-block g = length-pad 75 _
+length-block g = length-pad blockSize _
 
 pub block-size : (g : Group) → at (block g) 0 ≡ g .size
 unfolding block
-block-size g = getD-pad 75 _ 0 (omega arith)
+block-size g = getD-pad blockSize _ 0 (omega arith)
 
 pub block-anchored : (g : Group) → at (block g) 1 ≡ bit (g .anchored)
 unfolding block
-block-anchored g = getD-pad 75 _ 1 (omega arith)
+block-anchored g = getD-pad blockSize _ 1 (omega arith)
 
 pub block-count : (g : Group) → at (block g) 2 ≡ length (g .outputs)
 unfolding block
-block-count g = getD-pad 75 _ 2 (omega arith)
+block-count g = getD-pad blockSize _ 2 (omega arith)
 
 -- word j of the entry of output i
 pub block-entry : (g : Group) (i j : ℕ) (d : Output) → length (g .outputs) ≤ 8 → i < length (g .outputs) → j < 9 →
-    at (block g) (3 + 9 * i + j) ≡ at (entry (getD (g .outputs) i d)) j
+    at (block g) (3 + entrySize * i + j) ≡ at (entry (getD (g .outputs) i d)) j
 unfolding block
 block-entry g i j d few h k =
     let head = g .size ∷ bit (g .anchored) ∷ length (g .outputs) ∷ [] in
-    let place : 3 + 9 * i + j ≡ 3 + (9 * i + j) = omega arith in
+    let place : 3 + entrySize * i + j ≡ 3 + (entrySize * i + j) = omega arith in
     ap (at (block g)) place
-    ∙ getD-pad 75 _ (3 + (9 * i + j)) (omega arith)
-    ∙ getD-append-add head (flatMap entry (g .outputs)) (9 * i + j) 0
+    ∙ getD-pad blockSize _ (3 + (entrySize * i + j)) (omega arith)
+    ∙ getD-append-add head (flatMap entry (g .outputs)) (entrySize * i + j) 0
     ∙ getD-rows entry 9 length-entry (g .outputs) i j d h k
 
 -- what is written by words that agree, from place n on, with an entry's
@@ -170,15 +170,15 @@ entry-writes (sum c ks) b w n m next few h e =
     ∙ exact c ks w h
 
 pub block-writes : (g : Group) (w b : List ℕ) → g .size ≤ 8 → length (g .outputs) ≤ 8 → length w ≡ g .size →
-    Each (λ o. IsCharacter (value o w)) (g .outputs) → ((j : ℕ) → j < 75 → at b j ≡ at (block g) j) → blockOutput b w ≡ written g w
+    Each (λ o. IsCharacter (value o w)) (g .outputs) → ((j : ℕ) → j < blockSize → at b j ≡ at (block g) j) → blockOutput b w ≡ written g w
 unfolding blockOutput written
 block-writes g w b small few size safe e =
-    let f : ℕ → ℕ → ℕ = λ k i. wordSum (at b (3 + 9 * i)) (take k (drop (4 + 9 * i) b)) w in
+    let f : ℕ → ℕ → ℕ = λ k i. wordSum (at b (3 + entrySize * i)) (take k (drop (4 + entrySize * i) b)) w in
     let d = sum (pos 0) [] in
     ap₂ (λ k n. tabFrom 0 n (f k)) (e 0 (omega arith) ∙ block-size g ∙ sym size) (e 2 (omega arith) ∙ block-count g)
     ∙ tab-map (f (length w)) (λ o. natAbs (value o w)) 0 (g .outputs) d
     (λ i h.
     rw zero-add
-    (entry-writes (getD (g .outputs) i d) b w (3 + 9 * i) (4 + 9 * i) (omega arith) (omega arith)
+    (entry-writes (getD (g .outputs) i d) b w (3 + entrySize * i) (4 + entrySize * i) (omega arith) (omega arith)
     (each-getD (λ o. IsCharacter (value o w)) (g .outputs) i d safe h)
-    (λ j k. e (3 + 9 * i + j) (omega arith) ∙ block-entry g i j d few h k)))
+    (λ j k. e (3 + entrySize * i + j) (omega arith) ∙ block-entry g i j d few h k)))

@@ -17,10 +17,10 @@ use Rattle.lists.specs.Lists.{tabFrom}
 use Rattle.lists.specs.Decide.{forBelow}
 use Rattle.lists.proofs.Laws.Tests.{test-eq, of-cond, below}
 use Rattle.meaning.specs.Table.{Range, sum}
-use Rattle.meaning.specs.Block.{at}
+use Rattle.meaning.specs.Block.{at, blockSize, entrySize}
 use Rattle.meaning.specs.Reader.{signed}
 use Rattle.meaning.specs.Value.{dot, lowestOf, highestOf, extreme, value, safeOutput}
-use Rattle.meaning.specs.Flat.{rangesAt, patternAt}
+use Rattle.meaning.specs.bridge.Flat.{rangesAt, patternAt}
 
 -- range k of a place
 abbrev pub rangeAt : List ℕ → ℕ → ℕ → Range
@@ -160,27 +160,27 @@ at-most p n =
 -- The sum over the positions from k on of output character j of group g: over none, with one before, and over all.
 
 abbrev pub coefficientsFrom : List ℕ → ℕ → ℕ → ℕ → List ℤ
-coefficientsFrom blocks g j k = map (signed 16) (take (at blocks (75 * g) - k) (drop (75 * g + 4 + 9 * j + k) blocks))
+coefficientsFrom blocks g j k = map (signed 16) (take (at blocks (blockSize * g) - k) (drop (blockSize * g + 4 + entrySize * j + k) blocks))
 
 abbrev pub sumFrom : Bool → List ℕ → List ℕ → List ℕ → ℕ → ℕ → ℕ → ℤ
 sumFrom sign slots ranges blocks g j k =
     dot (coefficientsFrom blocks g j k)
-    (extreme sign (coefficientsFrom blocks g j k) (tabFrom k (at blocks (75 * g) - k) (λ p. rangesAt slots ranges (8 * g + p))))
+    (extreme sign (coefficientsFrom blocks g j k) (tabFrom k (at blocks (blockSize * g) - k) (λ p. rangesAt slots ranges (8 * g + p))))
 
 module _ (sign : Bool) (slots ranges blocks : List ℕ) (g j : ℕ) where
-  pub sum-last : sumFrom sign slots ranges blocks g j (at blocks (75 * g)) ≡ pos 0
+  pub sum-last : sumFrom sign slots ranges blocks g j (at blocks (blockSize * g)) ≡ pos 0
   unfolding dot
-  sum-last = let e : at blocks (75 * g) - at blocks (75 * g) ≡ 0 = omega arith in rw e refl
+  sum-last = let e : at blocks (blockSize * g) - at blocks (blockSize * g) ≡ 0 = omega arith in rw e refl
 
-  pub sum-before : (k : ℕ) → 0 < k → k ≤ at blocks (75 * g) → 75 * g + 4 + 9 * j + at blocks (75 * g) ≤ length blocks →
-      let a = signed 16 (at blocks (75 * g + 4 + 9 * j + (k - 1))) in
+  pub sum-before : (k : ℕ) → 0 < k → k ≤ at blocks (blockSize * g) → blockSize * g + 4 + entrySize * j + at blocks (blockSize * g) ≤ length blocks →
+      let a = signed 16 (at blocks (blockSize * g + 4 + entrySize * j + (k - 1))) in
       let rs = rangesAt slots ranges (8 * g + (k - 1)) in
       sumFrom sign slots ranges blocks g j (k - 1)
       ≡ a *ℤ pos (cond (Bool·beq (nonNeg a) sign) (lowestOf rs) (highestOf rs)) +ℤ sumFrom sign slots ranges blocks g j k
   unfolding dot extreme
   sum-before k h l fit =
-      let base = 75 * g + 4 + 9 * j in
-      let n = at blocks (75 * g) in
+      let base = blockSize * g + 4 + entrySize * j in
+      let n = at blocks (blockSize * g) in
       let e : n - (k - 1) ≡ suc (n - k) = omega arith in
       let d : suc (base + (k - 1)) ≡ base + k = omega arith in
       let i : base + (k - 1) < length blocks = omega arith in
@@ -189,14 +189,14 @@ module _ (sign : Bool) (slots ranges blocks : List ℕ) (g j : ℕ) where
       rw (row, tab-before (λ p. rangesAt slots ranges (8 * g + p)) k n h l) refl
 
   pub sum-whole : (k : ℕ) → k ≤ 0 →
-      let ks = map (signed 16) (take (at blocks (75 * g)) (drop (75 * g + 4 + 9 * j) blocks)) in
-      sumFrom sign slots ranges blocks g j k ≡ dot ks (extreme sign ks (patternAt slots ranges g (at blocks (75 * g))))
+      let ks = map (signed 16) (take (at blocks (blockSize * g)) (drop (blockSize * g + 4 + entrySize * j) blocks)) in
+      sumFrom sign slots ranges blocks g j k ≡ dot ks (extreme sign ks (patternAt slots ranges g (at blocks (blockSize * g))))
   unfolding patternAt
   sum-whole k h =
-      let n = at blocks (75 * g) in
+      let n = at blocks (blockSize * g) in
       let e : n - k ≡ n = omega arith in
-      let d : 75 * g + 4 + 9 * j + k ≡ 75 * g + 4 + 9 * j = omega arith in
-      let ks : coefficientsFrom blocks g j k ≡ map (signed 16) (take n (drop (75 * g + 4 + 9 * j) blocks)) = rw (e, d) refl in
+      let d : blockSize * g + 4 + entrySize * j + k ≡ blockSize * g + 4 + entrySize * j = omega arith in
+      let ks : coefficientsFrom blocks g j k ≡ map (signed 16) (take n (drop (blockSize * g + 4 + entrySize * j) blocks)) = rw (e, d) refl in
       rw (ks, tab-whole (λ p. rangesAt slots ranges (8 * g + p)) k n h) refl
 
 -- refusal 7's test of an output character by the two differences

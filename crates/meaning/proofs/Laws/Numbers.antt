@@ -9,7 +9,7 @@ use lib.IntN.{ℤ, pos, negsuc, subℕ}
 use Rattle.lists.proofs.Laws.Tests.{of-cond}
 use Rattle.meaning.specs.Block.{word}
 use Rattle.meaning.specs.Reader.{signed}
-use Rattle.meaning.specs.Flat.{bits}
+use Rattle.meaning.specs.bridge.Flat.{bits}
 
 -- a number below 2 ^ n is itself, or less by 2 ^ n
 signed-cases : (P : ℤ → Type 0) (n x : ℕ) → x < 2 ^ n → P (pos x) → P (negsuc (2 ^ n - suc x)) → P (signed n x)

@@ -15,7 +15,7 @@ use Rattle.lists.proofs.Laws.Each.{each-append, each-front, each-back}
 use Rattle.lists.proofs.Laws.Parts.{length-pad, getD-pad, getD-rows}
 use Rattle.meaning.specs.Table.{Group, Table, everyCharacter, groups}
 use Rattle.meaning.specs.Reader.{changeLatest}
-use Rattle.meaning.specs.Flat.{rows}
+use Rattle.meaning.specs.bridge.Flat.{rows}
 use Rattle.meaning.proofs.Laws.Reading.{top}
 
 -- the list cut, or filled up with d, to n

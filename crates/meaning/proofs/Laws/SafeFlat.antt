@@ -17,9 +17,9 @@ use Rattle.lists.proofs.Laws.Each.{each-front, each-back, each-getD, all-each, 
 use Rattle.lists.proofs.Laws.Parts.{getD-pad, getD-rows}
 use Rattle.meaning.specs.Table.{Range, Output, sum, Group, Table, everyCharacter, ruleAt}
 use Rattle.meaning.specs.Reader.{reach, signed}
-use Rattle.meaning.specs.Block.{at, word, bit, entry, block}
+use Rattle.meaning.specs.Block.{at, word, bit, entry, block, blockSize, blocksSize, entrySize}
 use Rattle.meaning.specs.Value.{dot, value, extreme, safeOutput, safe}
-use Rattle.meaning.specs.Flat.{slotWords, rangeWords, blockWords, constantOf, constantWords, patternAt, groupAt, tableAt, outputAt, safeGroupAt, safeAt}
+use Rattle.meaning.specs.bridge.Flat.{slotWords, rangeWords, blockWords, constantOf, constantWords, patternAt, groupAt, tableAt, outputAt, safeGroupAt, safeAt}
 use Rattle.meaning.proofs.Laws.Shape.{ShapedGroup, ShapedDefault, Shaped}
 use Rattle.meaning.proofs.Laws.Exact.{length-entry}
 use Rattle.meaning.proofs.Laws.Narrow.{Bits, NarrowOutput, NarrowGroup, Narrow}
@@ -112,9 +112,9 @@ entry-word : (o : Output) (i : ℕ) → i < 8 → at (entry o) (suc i) ≡ at (w
 unfolding entry
 entry-word (sum c ks) i h = getD-pad 8 (map word ks) i h
 
-length-blocks : (t : Table) → length (blockWords t) ≡ 2475
+length-blocks : (t : Table) → length (blockWords t) ≡ blocksSize
 unfolding blockWords
-length-blocks t = length-rows 75 block t
+length-blocks t = length-rows blockSize block t
 
 abbrev testOf : Group → Bool
 testOf g = all (safeOutput (g .ranges)) (g .outputs)
@@ -126,11 +126,11 @@ module _ (t : Table) (k : ℕ) (in-arrays : k < 33) (g : Group) (row : Row t k g
   abbrev head : List ℕ
   head = g .size ∷ bit (g .anchored) ∷ length (g .outputs) ∷ flatMap entry (g .outputs)
 
-  in-block : (i : ℕ) → i < 75 → at (blockWords t) (75 * k + i) ≡ at head i
+  in-block : (i : ℕ) → i < blockSize → at (blockWords t) (blockSize * k + i) ≡ at head i
   unfolding blockWords block
-  in-block i h = row 75 block i h ∙ getD-pad 75 head i h
+  in-block i h = row blockSize block i h ∙ getD-pad blockSize head i h
 
-  pattern-same : patternAt (slotWords t) (rangeWords t) k (at (blockWords t) (75 * k)) ≡ g .ranges
+  pattern-same : patternAt (slotWords t) (rangeWords t) k (at (blockWords t) (blockSize * k)) ≡ g .ranges
   unfolding groupAt
   pattern-same = ap (λ x. x .ranges) same
 
@@ -142,12 +142,12 @@ module _ (t : Table) (k : ℕ) (in-arrays : k < 33) (g : Group) (row : Row t k g
     unfolding constantWords
     constant-same = row 8 (λ g. map constantOf (g .outputs)) j (omega arith) ∙ List·getD-map constantOf (g .outputs) j noOutput
 
-    word-same : (i : ℕ) → i < 8 → at (blockWords t) (75 * k + 4 + 9 * j + i) ≡ at (wordsOf here) i
+    word-same : (i : ℕ) → i < 8 → at (blockWords t) (blockSize * k + 4 + entrySize * j + i) ≡ at (wordsOf here) i
     word-same i h =
-        let a : 75 * k + 4 + 9 * j + i ≡ 75 * k + (4 + 9 * j + i) = omega arith in
-        let b : 4 + 9 * j + i ≡ suc (suc (suc (9 * j + suc i))) = omega arith in
+        let a : blockSize * k + 4 + entrySize * j + i ≡ blockSize * k + (4 + entrySize * j + i) = omega arith in
+        let b : 4 + entrySize * j + i ≡ suc (suc (suc (entrySize * j + suc i))) = omega arith in
         ap (at (blockWords t)) a
-        ∙ in-block (4 + 9 * j + i) (omega arith)
+        ∙ in-block (4 + entrySize * j + i) (omega arith)
         ∙ ap (at head) b
         ∙ getD-rows entry 9 length-entry (g .outputs) j (suc i) noOutput inside (omega arith)
         ∙ entry-word here i h
@@ -155,9 +155,9 @@ module _ (t : Table) (k : ℕ) (in-arrays : k < 33) (g : Group) (row : Row t k g
     output-same : outputAt (blockWords t) (constantWords t) k j ≡ widen (g .size) here
     unfolding outputAt
     output-same =
-        let fit : 75 * k + 4 + 9 * j + g .size ≤ length (blockWords t) = omega (arith, length-blocks t) in
+        let fit : blockSize * k + 4 + entrySize * j + g .size ≤ length (blockWords t) = omega (arith, length-blocks t) in
         rw (size-flat t k g row)
-        (read-output (g .size) (75 * k + 4 + 9 * j) (at (constantWords t) (8 * k + j)) (blockWords t) here
+        (read-output (g .size) (blockSize * k + 4 + entrySize * j) (at (constantWords t) (8 * k + j)) (blockWords t) here
         (each-getD NarrowOutput (g .outputs) j noOutput narrow inside) constant-same (λ i h. word-same i (omega arith)) fit)
 
   group-safe : safeGroupAt (slotWords t) (rangeWords t) (blockWords t) (constantWords t) k ≡ testOf g

@@ -15,8 +15,8 @@ use Rattle.lists.specs.Lists.{flatMap, pad, atLast, lastD}
 use Rattle.lists.proofs.Laws.Tests.{either}
 use Rattle.meaning.specs.Table.{Range, Output, sum, Group}
 use Rattle.meaning.specs.Reader.{reach, addRange, addTerm, changeRanges, changeOutputs}
-use Rattle.meaning.specs.Block.{word, bit, entry, block}
-use Rattle.meaning.specs.Flat.{constantOf}
+use Rattle.meaning.specs.Block.{word, bit, entry, block, blockSize, entrySize}
+use Rattle.meaning.specs.bridge.Flat.{constantOf}
 use Rattle.meaning.proofs.Laws.Reading.{atLast-length}
 use Rattle.meaning.proofs.Laws.Rows.{fill, pad-fill, length-fill, fill-snoc, fill-after, fill-atLast, fill-last, map-append, length-map, set-past, joined, joined-set, pad-rows, pad-pad, flatMap-append}
 
@@ -146,32 +146,32 @@ entries-pad [] = refl
 entries-pad (o ∷ os) = ap₂ _++_ (entry-pad o) (entries-pad os)
 
 -- a block: three numbers, then the output characters
-block-parts : (g : Group) → pad 75 (block g) ≡ g .size ∷ bit (g .anchored) ∷ length (g .outputs) ∷ joined 9 (fill [] 8 (map entryRow (g .outputs)))
+block-parts : (g : Group) → pad blockSize (block g) ≡ g .size ∷ bit (g .anchored) ∷ length (g .outputs) ∷ joined entrySize (fill [] 8 (map entryRow (g .outputs)))
 unfolding block pad
 block-parts g =
-    pad-pad 75 (g .size ∷ bit (g .anchored) ∷ length (g .outputs) ∷ flatMap entry (g .outputs))
-    ∙ ap (λ l. g .size ∷ bit (g .anchored) ∷ length (g .outputs) ∷ l) (ap (pad 72) (entries-pad (g .outputs)) ∙ pad-rows entryRow 9 8 (g .outputs))
+    pad-pad blockSize (g .size ∷ bit (g .anchored) ∷ length (g .outputs) ∷ flatMap entry (g .outputs))
+    ∙ ap (λ l. g .size ∷ bit (g .anchored) ∷ length (g .outputs) ∷ l) (ap (pad 72) (entries-pad (g .outputs)) ∙ pad-rows entryRow entrySize 8 (g .outputs))
 
 entry-single : (z : ℤ) → pad 9 (entryRow (sum z [])) ≡ set (pad 9 []) 0 (word z)
 unfolding pad
 entry-single z = refl
 
 pub block-output : (z : ℤ) (g : Group) → length (g .outputs) < 8 →
-    pad 75 (block (changeOutputs (λ os. os ++ (sum z [] ∷ [])) g))
-    ≡ set (set (pad 75 (block g)) 2 (length (g .outputs) + 1)) (3 + 9 * length (g .outputs)) (word z)
+    pad blockSize (block (changeOutputs (λ os. os ++ (sum z [] ∷ [])) g))
+    ≡ set (set (pad blockSize (block g)) 2 (length (g .outputs) + 1)) (3 + entrySize * length (g .outputs)) (word z)
 block-output z g h =
     let os = g .outputs in
     let o = length os in
-    let rest = joined 9 (fill [] 8 (map entryRow os)) in
+    let rest = joined entrySize (fill [] 8 (map entryRow os)) in
     block-parts (changeOutputs (λ os. os ++ (sum z [] ∷ [])) g)
     ∙ ap₂ (λ n l. g .size ∷ bit (g .anchored) ∷ n ∷ l) (length-append os (sum z [] ∷ []))
-    (ap (λ l. joined 9 (fill [] 8 l)) (map-append entryRow os (sum z [] ∷ []))
-    ∙ ap (joined 9) (fill-snoc [] 8 (map entryRow os) (entryRow (sum z [])) (rw length-map h) ∙ ap (λ k. set (fill [] 8 (map entryRow os)) k (entryRow (sum z []))) (length-map entryRow os))
+    (ap (λ l. joined entrySize (fill [] 8 l)) (map-append entryRow os (sum z [] ∷ []))
+    ∙ ap (joined entrySize) (fill-snoc [] 8 (map entryRow os) (entryRow (sum z [])) (rw length-map h) ∙ ap (λ k. set (fill [] 8 (map entryRow os)) k (entryRow (sum z []))) (length-map entryRow os))
     ∙ joined-set 9 (fill [] 8 (map entryRow os)) o (entryRow (sum z [])) ((0, word z) ∷ []) (rw length-fill h) (omega arith, tt)
     (entry-single z ∙ ap (λ l. set (pad 9 l) 0 (word z)) (sym (ap (λ k. getD (fill [] 8 (map entryRow os)) k []) (sym (length-map entryRow os)) ∙ fill-after [] 8 (map entryRow os))))
-    ∙ ap (λ k. set rest k (word z)) (add-zero (9 * o)))
-    ∙ sym (set-past (g .size ∷ bit (g .anchored) ∷ (o + 1) ∷ []) rest (9 * o) (word z))
-    ∙ ap (λ l. set (set l 2 (o + 1)) (3 + 9 * o) (word z)) (sym (block-parts g))
+    ∙ ap (λ k. set rest k (word z)) (add-zero (entrySize * o)))
+    ∙ sym (set-past (g .size ∷ bit (g .anchored) ∷ (o + 1) ∷ []) rest (entrySize * o) (word z))
+    ∙ ap (λ l. set (set l 2 (o + 1)) (3 + entrySize * o) (word z)) (sym (block-parts g))
 
 -- a term's coefficient, behind zeros for the positions between
 pad-place : (n : ℕ) (ks : List ℤ) (p : ℕ) (z : ℤ) → length ks ≤ p → p < n → pad n (map word (ks ++ replicate (p - length ks) (pos 0) ++ (z ∷ []))) ≡ set (pad n (map word ks)) p (word z)
@@ -189,21 +189,21 @@ unfolding pad
 entry-term p z (sum c ks) h k = ap (λ l. word c ∷ l) (pad-place 8 ks p z k h)
 
 pub block-term : (p : ℕ) (z : ℤ) (g : Group) → p < 8 → 1 ≤ length (g .outputs) → length (g .outputs) ≤ 8 → reach (lastD (sum (pos 0) []) (g .outputs)) ≤ p →
-    pad 75 (block (changeOutputs (atLast (addTerm p z)) g)) ≡ set (pad 75 (block g)) (4 + 9 * pred (length (g .outputs)) + p) (word z)
+    pad blockSize (block (changeOutputs (atLast (addTerm p z)) g)) ≡ set (pad blockSize (block g)) (4 + entrySize * pred (length (g .outputs)) + p) (word z)
 block-term p z g h k l m =
     let os = g .outputs in
     let o = length os in
     let last = lastD (sum (pos 0) []) os in
-    let rest = joined 9 (fill [] 8 (map entryRow os)) in
+    let rest = joined entrySize (fill [] 8 (map entryRow os)) in
     block-parts (changeOutputs (atLast (addTerm p z)) g)
     ∙ ap₂ (λ n l. g .size ∷ bit (g .anchored) ∷ n ∷ l) (atLast-length (addTerm p z) os)
-    (ap (joined 9) (fill-atLast [] entryRow (addTerm p z) (sum (pos 0) []) 8 os k l)
+    (ap (joined entrySize) (fill-atLast [] entryRow (addTerm p z) (sum (pos 0) []) 8 os k l)
     ∙ joined-set 9 (fill [] 8 (map entryRow os)) (pred o) (entryRow (addTerm p z last)) ((suc p, word z) ∷ []) (rw length-fill (omega arith)) (omega arith, tt)
     (entry-term p z last h m ∙ ap (λ l. set (pad 9 l) (suc p) (word z)) (sym (fill-last [] entryRow (sum (pos 0) []) 8 os k l))))
-    ∙ sym (set-past (g .size ∷ bit (g .anchored) ∷ o ∷ []) rest (9 * pred o + suc p) (word z))
+    ∙ sym (set-past (g .size ∷ bit (g .anchored) ∷ o ∷ []) rest (entrySize * pred o + suc p) (word z))
     ∙ ap₂ (λ l i. set l i (word z)) (sym (block-parts g)) same
   where
-    same : 3 + (9 * pred (length (g .outputs)) + suc p) ≡ 4 + 9 * pred (length (g .outputs)) + p
+    same : 3 + (entrySize * pred (length (g .outputs)) + suc p) ≡ 4 + entrySize * pred (length (g .outputs)) + p
     same = omega arith
 
 pub constantRow-output : (z : ℤ) (g : Group) → length (g .outputs) < 8 →

@@ -14,9 +14,9 @@ use lib.Seq.{length-take-le, take-all, take-append-seam, drop-append-add, drop-c
 use Rattle.lists.specs.Lists.{tabFrom, orElse}
 use Rattle.lists.proofs.Laws.Tests.{of-cond}
 use Rattle.meaning.specs.Table.{Table, everyCharacter, ruleAt, defaultNumber, group}
-use Rattle.meaning.specs.Block.{at, wordSum, blockOutput}
+use Rattle.meaning.specs.Block.{at, wordSum, blockOutput, blockSize, entrySize}
 use Rattle.meaning.specs.Meaning.{best, orDefault, choose, Emission, textOf, covered, chosen, convertBy, convertFrom, convert}
-use Rattle.meaning.specs.Flat.{rangesAt, patternAt, groupAt, tableAt, flatText}
+use Rattle.meaning.specs.bridge.Flat.{rangesAt, patternAt, groupAt, tableAt, flatText}
 use Rattle.meaning.specs.Refusal.{Outcome, accepted}
 use Rattle.meaning.specs.Direct.{Converted, over}
 use Rattle.meaning.proofs.Laws.Prefix.{fitsWord-length}
@@ -54,26 +54,26 @@ module _ (blocks : List ℕ) (entry size : ℕ) (input : List ℕ) (place : ℕ)
 
 -- what group g writes for a word, and its character j by the places of the block in the array
 abbrev pub groupText : List ℕ → ℕ → List ℕ → List ℕ
-groupText blocks g w = blockOutput (drop (75 * g) blocks) w
+groupText blocks g w = blockOutput (drop (blockSize * g) blocks) w
 
 abbrev pub groupSum : List ℕ → ℕ → List ℕ → ℕ → ℕ
-groupSum blocks g w j = wordSum (at blocks (75 * g + 3 + 9 * j)) (take (at blocks (75 * g)) (drop (75 * g + 3 + 9 * j + 1) blocks)) w
+groupSum blocks g w j = wordSum (at blocks (blockSize * g + 3 + entrySize * j)) (take (at blocks (blockSize * g)) (drop (blockSize * g + 3 + entrySize * j + 1) blocks)) w
 
 module _ (blocks : List ℕ) (g : ℕ) (w : List ℕ) where
-  pub output-length : length (groupText blocks g w) ≡ at blocks (75 * g + 2)
+  pub output-length : length (groupText blocks g w) ≡ at blocks (blockSize * g + 2)
   unfolding blockOutput
-  output-length = length-tab _ 0 _ ∙ getD-drop (75 * g) blocks 2 0
+  output-length = length-tab _ 0 _ ∙ getD-drop (blockSize * g) blocks 2 0
 
-  pub output-at : (j : ℕ) → j < at blocks (75 * g + 2) → getD (groupText blocks g w) j 0 ≡ groupSum blocks g w j
+  pub output-at : (j : ℕ) → j < at blocks (blockSize * g + 2) → getD (groupText blocks g w) j 0 ≡ groupSum blocks g w j
   unfolding blockOutput
   output-at j h =
-      let c : 75 * g + (3 + 9 * j) ≡ 75 * g + 3 + 9 * j = omega arith in
-      let a : 75 * g + (4 + 9 * j) ≡ 75 * g + 3 + 9 * j + 1 = omega arith in
-      getD-tab _ 0 (at (drop (75 * g) blocks) 2) j 0 (omega (arith, getD-drop (75 * g) blocks 2 0))
-      ∙ rw (zero-add j, getD-drop (75 * g) blocks (3 + 9 * j) 0, c, getD-drop (75 * g) blocks 0 0, add-zero (75 * g), drop-drop (4 + 9 * j) (75 * g) blocks, a)
+      let c : blockSize * g + (3 + entrySize * j) ≡ blockSize * g + 3 + entrySize * j = omega arith in
+      let a : blockSize * g + (4 + entrySize * j) ≡ blockSize * g + 3 + entrySize * j + 1 = omega arith in
+      getD-tab _ 0 (at (drop (blockSize * g) blocks) 2) j 0 (omega (arith, getD-drop (blockSize * g) blocks 2 0))
+      ∙ rw (zero-add j, getD-drop (blockSize * g) blocks (3 + entrySize * j) 0, c, getD-drop (blockSize * g) blocks 0 0, add-zero (blockSize * g), drop-drop (4 + entrySize * j) (blockSize * g) blocks, a)
 
   -- one more character
-  pub written-more : (d : List ℕ) (count j : ℕ) → j < at blocks (75 * g + 2) → count + j < length d →
+  pub written-more : (d : List ℕ) (count j : ℕ) → j < at blocks (blockSize * g + 2) → count + j < length d →
       set (paste d count (groupText blocks g w) j) (count + j) (groupSum blocks g w j) ≡ paste d count (groupText blocks g w) (j + 1)
   written-more d count j h k =
       let text = groupText blocks g w in
@@ -82,9 +82,9 @@ module _ (blocks : List ℕ) (g : ℕ) (w : List ℕ) where
       ∙ ap (paste d count text) (sym (add-one j))
 
   pub written-all : (d : List ℕ) (count : ℕ) →
-      paste d count (groupText blocks g w) (at blocks (75 * g + 2)) ≡ take count d ++ groupText blocks g w ++ drop (count + at blocks (75 * g + 2)) d
+      paste d count (groupText blocks g w) (at blocks (blockSize * g + 2)) ≡ take count d ++ groupText blocks g w ++ drop (count + at blocks (blockSize * g + 2)) d
   written-all d count =
-      let n = at blocks (75 * g + 2) in
+      let n = at blocks (blockSize * g + 2) in
       ap (λ u. take count d ++ u ++ drop (count + n) d) (take-all n (groupText blocks g w) (omega (arith, output-length)))
 
 -- what a log in two parts writes and covers
@@ -130,18 +130,18 @@ convert-end t (c ∷ rest) h = absurd (omega arith)
 pub record Taken (t : Table) (blocks input : List ℕ) (place g : ℕ) : Type 0 where
   pub choice : choose t (drop place input) ≡ some g
   pub below : g < 33
-  pub size : group t g .size ≡ at blocks (75 * g)
-  pub positive : 1 ≤ at blocks (75 * g)
-  pub room : place + at blocks (75 * g) ≤ length input
+  pub size : group t g .size ≡ at blocks (blockSize * g)
+  pub positive : 1 ≤ at blocks (blockSize * g)
+  pub room : place + at blocks (blockSize * g) ≤ length input
 
 -- a rule of the table that fits has its block's size, and the rest is that long
 rule-size : (slots ranges blocks : List ℕ) (rules : ℕ) (d : Bool) (r : ℕ) (rest : List ℕ) → rules ≤ 32 → r < rules →
     Fits (tableAt slots ranges blocks rules d) r rest →
-    (group (tableAt slots ranges blocks rules d) r .size ≡ at blocks (75 * r)) × (at blocks (75 * r) ≤ length rest)
+    (group (tableAt slots ranges blocks rules d) r .size ≡ at blocks (blockSize * r)) × (at blocks (blockSize * r) ≤ length rest)
 unfolding group groupAt patternAt
 rule-size slots ranges blocks rules d r rest few h f =
     let t = tableAt slots ranges blocks rules d in
-    let size = at blocks (75 * r) in
+    let size = at blocks (blockSize * r) in
     let e : ruleAt t r ≡ groupAt slots ranges blocks r = rule-at slots ranges blocks rules d r h in
     let fit : length (ruleAt t r .ranges) ≡ length (take (ruleAt t r .size) rest) =
     fitsWord-length (ruleAt t r .ranges) (take (ruleAt t r .size) rest) (f .match) in
@@ -154,17 +154,17 @@ rule-size slots ranges blocks rules d r rest few h f =
     )
 
 default-size : (slots ranges blocks : List ℕ) (rules : ℕ) (d : Bool) (g : ℕ) → orDefault (tableAt slots ranges blocks rules d) none ≡ some g →
-    (g ≡ 32) × (d ≡ true) × (group (tableAt slots ranges blocks rules d) g .size ≡ at blocks (75 * g))
+    (g ≡ 32) × (d ≡ true) × (group (tableAt slots ranges blocks rules d) g .size ≡ at blocks (blockSize * g))
 unfolding group tableAt groupAt
 default-size slots ranges blocks rules false g p = let z : _≡_ {A = ℕ} 0 1 = cc in absurd (omega arith)
 default-size slots ranges blocks rules true g p =
     let t = tableAt slots ranges blocks rules true in
     let e : 32 ≡ g = cc in
-    (sym e, refl, subst (λ k. group t k .size ≡ at blocks (75 * k)) e refl)
+    (sym e, refl, subst (λ k. group t k .size ≡ at blocks (blockSize * k)) e refl)
 
 -- the choice is a rule that fits, or the default
 pub choice-taken : (slots ranges blocks : List ℕ) (rules : ℕ) (d : Bool) (input : List ℕ) (place g : ℕ) → rules ≤ 32 →
-    ((r : ℕ) → r < rules → 1 ≤ at blocks (75 * r)) → (d ≡ true → at blocks 2400 ≡ 1) → place < length input →
+    ((r : ℕ) → r < rules → 1 ≤ at blocks (blockSize * r)) → (d ≡ true → at blocks (32 * blockSize) ≡ 1) → place < length input →
     choose (tableAt slots ranges blocks rules d) (drop place input) ≡ some g → Taken (tableAt slots ranges blocks rules d) blocks input place g
 unfolding choose tableAt
 choice-taken slots ranges blocks rules d input place g few positive one h p =
@@ -175,15 +175,15 @@ choice-taken slots ranges blocks rules d input place g few positive one h p =
     from : (b : Option ℕ) → Chosen (tableAt slots ranges blocks rules d) (length (tableAt slots ranges blocks rules d .rules)) (drop place input) b →
         orDefault (tableAt slots ranges blocks rules d) b ≡ some g → Taken (tableAt slots ranges blocks rules d) blocks input place g
     from none c q =
-        let s : (g ≡ 32) × (d ≡ true) × (group (tableAt slots ranges blocks rules d) g .size ≡ at blocks (75 * g)) =
+        let s : (g ≡ 32) × (d ≡ true) × (group (tableAt slots ranges blocks rules d) g .size ≡ at blocks (blockSize * g)) =
         default-size slots ranges blocks rules d g q in
-        let k : at blocks (75 * g) ≡ 1 = ap (λ m. at blocks (75 * m)) (s .0) ∙ one (s .1) in
+        let k : at blocks (blockSize * g) ≡ 1 = ap (λ m. at blocks (blockSize * m)) (s .0) ∙ one (s .1) in
         record { choice = p; below = omega (arith, s .0); size = s .2; positive = omega arith; room = omega arith }
     from (some r) c q =
         let e : r ≡ g = cc in
         let l : r < length (tabFrom 0 rules (groupAt slots ranges blocks)) = c .0 in
         let b : r < rules = omega (arith, length-tab (groupAt slots ranges blocks) 0 rules) in
-        let s : (group (tableAt slots ranges blocks rules d) r .size ≡ at blocks (75 * r)) × (at blocks (75 * r) ≤ length (drop place input)) =
+        let s : (group (tableAt slots ranges blocks rules d) r .size ≡ at blocks (blockSize * r)) × (at blocks (blockSize * r) ≤ length (drop place input)) =
         rule-size slots ranges blocks rules d r (drop place input) few b (c .1) in
         subst (Taken (tableAt slots ranges blocks rules d) blocks input place) e
         (record { choice = p ∙ ap some (sym e); below = omega arith; size = s .0; positive = positive r b; room = omega (arith, s .1, length-drop place input) })
@@ -235,19 +235,19 @@ module _ {t : Table} {blocks input buffer output : List ℕ} {place count : ℕ}
   -- one more group
   module _ {g : ℕ} (k : Taken t blocks input place g) where
     abbrev emission : Emission
-    emission = record { group = g; word = take (at blocks (75 * g)) (drop place input) }
+    emission = record { group = g; word = take (at blocks (blockSize * g)) (drop place input) }
 
     abbrev more : List ℕ
     more = groupText blocks g (emission .word)
 
     abbrev left : List ℕ
-    left = drop (place + at blocks (75 * g)) input
+    left = drop (place + at blocks (blockSize * g)) input
 
     after : convertFrom t 0 (drop place input) ≡ chosen emission (convertFrom t 0 left)
     after =
         convert-step t (drop place input) g (omega (arith, k .room, k .positive, length-drop place input)) (omega (arith, k .size, k .positive)) (k .choice)
         ∙ ap (λ n. chosen (record { group = g; word = take n (drop place input) }) (convertFrom t 0 (drop n (drop place input)))) (k .size)
-        ∙ ap (λ u. chosen emission (convertFrom t 0 u)) (drop-drop (at blocks (75 * g)) place input)
+        ∙ ap (λ u. chosen emission (convertFrom t 0 u)) (drop-drop (at blocks (blockSize * g)) place input)
 
     whole-after : convert t input .log ≡ (r .log ++ emission ∷ []) ++ convertFrom t 0 left .log
     whole-after = r .whole ∙ ap (λ c. r .log ++ c .log) after ∙ sym (append-assoc (r .log) (emission ∷ []) _)
@@ -256,13 +256,13 @@ module _ {t : Table} {blocks input buffer output : List ℕ} {place count : ℕ}
     unfolding textOf
     text-after = text-append (groupText blocks) (r .log) (emission ∷ []) ∙ ap (λ u. flatText blocks (r .log) ++ u) (append-nil more)
 
-    more-length : length more ≡ at blocks (75 * g + 2)
+    more-length : length more ≡ at blocks (blockSize * g + 2)
     more-length = output-length blocks g (emission .word)
 
-    count-after : length (flatText blocks (r .log ++ emission ∷ [])) ≡ count + at blocks (75 * g + 2)
+    count-after : length (flatText blocks (r .log ++ emission ∷ [])) ≡ count + at blocks (blockSize * g + 2)
     count-after = ap length text-after ∙ length-append (flatText blocks (r .log)) more ∙ ap₂ (λ a b. a + b) (r .counted) more-length
 
-    pub reached-room : length (flatText blocks (convert t input .log)) ≤ length buffer → count + at blocks (75 * g + 2) ≤ length output
+    pub reached-room : length (flatText blocks (convert t input .log)) ≤ length buffer → count + at blocks (blockSize * g + 2) ≤ length output
     reached-room l =
         let front = flatText blocks (r .log ++ emission ∷ []) in
         let back = flatText blocks (convertFrom t 0 left .log) in
@@ -272,14 +272,14 @@ module _ {t : Table} {blocks input buffer output : List ℕ} {place count : ℕ}
         let fits : length (flatText blocks (r .log)) ≤ length buffer = omega (arith, whole, count-after, r .counted, l) in
         omega (arith, whole, count-after, l, ap length (r .written) ∙ over-whole (flatText blocks (r .log)) buffer fits)
 
-    pub reached-step : (output′ : List ℕ) (count′ : ℕ) → count′ ≡ count + at blocks (75 * g + 2) →
-        output′ ≡ take count output ++ more ++ drop (count + at blocks (75 * g + 2)) output →
-        Reached t blocks input buffer output′ (place + at blocks (75 * g)) count′
+    pub reached-step : (output′ : List ℕ) (count′ : ℕ) → count′ ≡ count + at blocks (blockSize * g + 2) →
+        output′ ≡ take count output ++ more ++ drop (count + at blocks (blockSize * g + 2)) output →
+        Reached t blocks input buffer output′ (place + at blocks (blockSize * g)) count′
     unfolding covered
     reached-step output′ count′ q e =
         let text = flatText blocks (r .log) in
-        let word : length (emission .word) ≡ at blocks (75 * g) =
-        length-take-le (at blocks (75 * g)) (drop place input) (omega (arith, k .room, length-drop place input)) in
+        let word : length (emission .word) ≡ at blocks (blockSize * g) =
+        length-take-le (at blocks (blockSize * g)) (drop place input) (omega (arith, k .room, length-drop place input)) in
         record {
           log = r .log ++ emission ∷ [];
           whole = whole-after;
@@ -288,7 +288,7 @@ module _ {t : Table} {blocks input buffer output : List ℕ} {place count : ℕ}
           placed = omega (arith, covered-append (r .log) (emission ∷ []), r .placed, word);
           counted = count-after ∙ sym q;
           written =
-              e ∙ ap (λ o. take count o ++ more ++ drop (count + at blocks (75 * g + 2)) o) (r .written)
+              e ∙ ap (λ o. take count o ++ more ++ drop (count + at blocks (blockSize * g + 2)) o) (r .written)
               ∙ ap₂ (λ c m. take c (over text buffer) ++ more ++ drop (c + m) (over text buffer)) (sym (r .counted)) (sym more-length)
               ∙ over-more text more buffer ∙ ap (λ u. over u buffer) (sym text-after);
         }

@@ -14,7 +14,7 @@ use Rattle.meaning.specs.Refusal.{Outcome, refused, accepted}
 use Rattle.meaning.specs.Table.{Range}
 use Rattle.meaning.specs.Record.{Record, rule, range, output, term, default}
 use Rattle.meaning.specs.Reader.{Reading, latest, latestReach, ranging, unfilled, misplaced, skipping, tooMany, taken, readOne}
-use Rattle.rules.specs.Summary.{rangesRead, admit, arraysBy}
+use Rattle.rules.specs.bridge.Summary.{rangesRead, admit, arraysBy}
 use Rattle.rules.specs.declared.reader.Reader.{Reader}
 use Rattle.meaning.proofs.Laws.Seven.{FilledPosition}
 use Rattle.rules.proofs.Laws.Represents.{latestOf, summary, flat, Read, each-last, latest-begun}

@@ -21,11 +21,11 @@ use Rattle.meaning.specs.Refusal.{Outcome, refused, accepted, andThen}
 use Rattle.meaning.specs.Table.{Characters, Group, Table, everyCharacter, groups, ruleAt, group, defaultNumber, expansion}
 use Rattle.meaning.specs.Value.{fitsWord, SafeTable}
 use Rattle.meaning.specs.Reader.{readTable}
-use Rattle.meaning.specs.Block.{at, block, blockOutput}
+use Rattle.meaning.specs.Block.{at, block, blockOutput, blockSize}
 use Rattle.meaning.specs.Meaning.{best, orDefault, choose, written, textOf, Conversion, convertBy, convertFrom, convert, meaningText, covered}
 use Rattle.meaning.specs.Direct.{limit, DirectOutcome, over, admitted, directBy, checked, direct}
-use Rattle.meaning.specs.Flat.{slotWords, rangeWords, blockWords, expansionFrom, expansionAt, flatConversion, flatText, flatDirect, Flat}
-use Rattle.rules.specs.Answers.{LoadedBy}
+use Rattle.meaning.specs.bridge.Flat.{slotWords, rangeWords, blockWords, expansionFrom, expansionAt, flatConversion, flatText, flatDirect, Flat}
+use Rattle.rules.specs.bridge.Readings.{LoadedBy}
 use Rattle.rules.specs.declared.load.Load.{Load}
 use Rattle.rules.specs.declared.load.Load.the-variants as Load
 use Rattle.meaning.proofs.Laws.Shape.{ShapedDefault, Shaped}
@@ -49,22 +49,22 @@ module _ (blocks : List ℕ) where
   from-most zero most = omega arith
   from-most (suc n) most = let h = from-most n most in omega arith
 
-  from-above : (n most k : ℕ) → k < n → at blocks (75 * k + 2) ≤ expansionFrom blocks n most
+  from-above : (n most k : ℕ) → k < n → at blocks (blockSize * k + 2) ≤ expansionFrom blocks n most
   unfolding expansionFrom
   from-above zero most k h = absurd (omega arith)
   from-above (suc n) most k h =
       elim (ℕ-discrete k n) [ yes e ↦ rw e (omega arith) | no d ↦ let i = from-above n most k (omega arith) in omega arith ]
 
-  from-below : (n most limit : ℕ) → most ≤ limit → ((k : ℕ) → k < n → at blocks (75 * k + 2) ≤ limit) → expansionFrom blocks n most ≤ limit
+  from-below : (n most limit : ℕ) → most ≤ limit → ((k : ℕ) → k < n → at blocks (blockSize * k + 2) ≤ limit) → expansionFrom blocks n most ≤ limit
   unfolding expansionFrom
   from-below zero most limit h f = h
   from-below (suc n) most limit h f =
       let a = from-below n most limit h (λ k i. f k (omega arith)) in let b = f n (omega arith) in omega arith
 
 pub expansion-eight : (slots ranges blocks : List ℕ) (n : ℕ) (d : Bool) → Flat slots ranges blocks → n ≤ 32 → expansionAt blocks n d ≤ 8
-expansion-eight slots ranges blocks n d f h = from-below blocks n (cond d (at blocks 2402) 0) 8 (first d) (λ k i. f .outputs k (omega arith))
+expansion-eight slots ranges blocks n d f h = from-below blocks n (cond d (at blocks (32 * blockSize + 2)) 0) 8 (first d) (λ k i. f .outputs k (omega arith))
   where
-    first : (d : Bool) → cond d (at blocks 2402) 0 ≤ 8
+    first : (d : Bool) → cond d (at blocks (32 * blockSize + 2)) 0 ≤ 8
     first true = f .outputs 32 (lit< tt)
     first false = omega arith
 
@@ -114,22 +114,22 @@ every-fits g x s h = rw (s .ranges, or-false, and-true) (to-between 0 65535 x (o
 module _ (t : Table) (s : Shaped t) where
   -- the block of a rule, and of the default
 
-  block-rule : (r : ℕ) → r < length (t .rules) → (j : ℕ) → j < 75 → at (blockWords t) (75 * r + j) ≡ at (block (ruleAt t r)) j
+  block-rule : (r : ℕ) → r < length (t .rules) → (j : ℕ) → j < blockSize → at (blockWords t) (blockSize * r + j) ≡ at (block (ruleAt t r)) j
   unfolding blockWords
   block-rule r h j i =
       let few : length (t .rules) ≤ 32 = s .few-rules in
-      rows-at 75 block t r j (omega arith) i ∙ ap (λ l. at l j) (rowsOf-rule block (t .rules) (t .default) r (everyCharacter []) few h)
+      rows-at blockSize block t r j (omega arith) i ∙ ap (λ l. at l j) (rowsOf-rule block (t .rules) (t .default) r (everyCharacter []) few h)
 
-  block-default : (g : Group) → t .default ≡ some g → (j : ℕ) → j < 75 → at (blockWords t) (75 * 32 + j) ≡ at (block g) j
+  block-default : (g : Group) → t .default ≡ some g → (j : ℕ) → j < blockSize → at (blockWords t) (blockSize * 32 + j) ≡ at (block g) j
   unfolding blockWords
   block-default g e j i =
-      rows-at 75 block t 32 j (lit< tt) i ∙ ap (λ d. at (getD (rowsOf block (t .rules) d) 32 []) j) e ∙ ap (λ l. at l j) (rowsOf-default block (t .rules) g)
+      rows-at blockSize block t 32 j (lit< tt) i ∙ ap (λ d. at (getD (rowsOf block (t .rules) d) 32 []) j) e ∙ ap (λ l. at l j) (rowsOf-default block (t .rules) g)
 
-  rule-size : (r : ℕ) → r < length (t .rules) → 1 ≤ at (blockWords t) (75 * r)
+  rule-size : (r : ℕ) → r < length (t .rules) → 1 ≤ at (blockWords t) (blockSize * r)
   rule-size r h =
-      subst (λ i. 1 ≤ at (blockWords t) i) (add-zero (75 * r)) (subst (λ x. 1 ≤ x) (sym (block-rule r h 0 (lit< tt) ∙ block-size (ruleAt t r))) (rule-shaped t s r h .positive))
+      subst (λ i. 1 ≤ at (blockWords t) i) (add-zero (blockSize * r)) (subst (λ x. 1 ≤ x) (sym (block-rule r h 0 (lit< tt) ∙ block-size (ruleAt t r))) (rule-shaped t s r h .positive))
 
-  default-one : isSome (t .default) ≡ true → at (blockWords t) 2400 ≡ 1
+  default-one : isSome (t .default) ≡ true → at (blockWords t) (32 * blockSize) ≡ 1
   default-one e =
       let d = some-default (t .default) e in
       block-default (d .0) (d .1) 0 (lit< tt) ∙ block-size (d .0) ∙ default-each ShapedDefault t (d .0) (d .1) (s .default) .size
@@ -152,32 +152,32 @@ module _ (t : Table) (s : Shaped t) where
       (first-above F (t .default) refl (from-most (blockWords t) (length (t .rules)) _))) in
       omega arith
     where
-      count-rule : (k : ℕ) → k < length (t .rules) → at (blockWords t) (75 * k + 2) ≡ length (ruleAt t k .outputs)
+      count-rule : (k : ℕ) → k < length (t .rules) → at (blockWords t) (blockSize * k + 2) ≡ length (ruleAt t k .outputs)
       count-rule k h = block-rule k h 2 (lit< tt) ∙ block-count (ruleAt t k)
 
-      count-default : (g : Group) → t .default ≡ some g → at (blockWords t) 2402 ≡ length (g .outputs)
+      count-default : (g : Group) → t .default ≡ some g → at (blockWords t) (32 * blockSize + 2) ≡ length (g .outputs)
       count-default g e = block-default g e 2 (lit< tt) ∙ block-count g
 
-      first-below : (E : ℕ) (o : Option Group) → t .default ≡ o → Each (λ g. length (g .outputs) ≤ E) (optional o) → cond (isSome o) (at (blockWords t) 2402) 0 ≤ E
+      first-below : (E : ℕ) (o : Option Group) → t .default ≡ o → Each (λ g. length (g .outputs) ≤ E) (optional o) → cond (isSome o) (at (blockWords t) (32 * blockSize + 2)) 0 ≤ E
       first-below E none e a = omega arith
       first-below E (some g) e a = subst (λ x. x ≤ E) (sym (count-default g e)) (a .0)
 
-      first-above : (F : ℕ) (o : Option Group) → t .default ≡ o → cond (isSome o) (at (blockWords t) 2402) 0 ≤ F → Each (λ g. length (g .outputs) ≤ F) (optional o)
+      first-above : (F : ℕ) (o : Option Group) → t .default ≡ o → cond (isSome o) (at (blockWords t) (32 * blockSize + 2)) 0 ≤ F → Each (λ g. length (g .outputs) ≤ F) (optional o)
       first-above F none e a = tt
       first-above F (some g) e a = (subst (λ x. x ≤ F) (count-default g e) a, tt)
 
   -- what is written
 
   module _ (safe : SafeTable t) where
-    group-writes : (g : Group) (n : ℕ) (w : List ℕ) → group t n ≡ g → ((j : ℕ) → j < 75 → at (blockWords t) (75 * n + j) ≡ at (block g) j) →
+    group-writes : (g : Group) (n : ℕ) (w : List ℕ) → group t n ≡ g → ((j : ℕ) → j < blockSize → at (blockWords t) (blockSize * n + j) ≡ at (block g) j) →
         g .size ≤ 8 → length (g .outputs) ≤ 8 → length w ≡ g .size → T (fitsWord (g .ranges) w) → SafeGroup g →
-        blockOutput (drop (75 * n) (blockWords t)) w ≡ writes t n w
+        blockOutput (drop (blockSize * n) (blockWords t)) w ≡ writes t n w
     group-writes g n w named row small few size takes safe =
-        block-writes g w (drop (75 * n) (blockWords t)) small few size (safe-group g w takes safe) (λ j h. getD-drop (75 * n) (blockWords t) j 0 ∙ row j h)
+        block-writes g w (drop (blockSize * n) (blockWords t)) small few size (safe-group g w takes safe) (λ j h. getD-drop (blockSize * n) (blockWords t) j 0 ∙ row j h)
         ∙ ap (λ a. written a w) (sym named)
 
     chosen-writes : (n : ℕ) (c : ℕ) (rest : List ℕ) → c < 65536 → choose t (c ∷ rest) ≡ some n →
-        let w = take (group t n .size) (c ∷ rest) in blockOutput (drop (75 * n) (blockWords t)) w ≡ writes t n w
+        let w = take (group t n .size) (c ∷ rest) in blockOutput (drop (blockSize * n) (blockWords t)) w ≡ writes t n w
     unfolding SafeTable
     chosen-writes n c rest small e =
         choose-cases t (c ∷ rest) n e
@@ -186,7 +186,7 @@ module _ (t : Table) (s : Shaped t) where
         let shape = rule-shaped t s n h in
         let named : group t n ≡ g = group-rule t n s h in
         let w = take (g .size) (c ∷ rest) in
-        subst (λ k. let w = take k (c ∷ rest) in blockOutput (drop (75 * n) (blockWords t)) w ≡ writes t n w) (sym (ap (λ a. a .size) named))
+        subst (λ k. let w = take k (c ∷ rest) in blockOutput (drop (blockSize * n) (blockWords t)) w ≡ writes t n w) (sym (ap (λ a. a .size) named))
         (group-writes g n w named (block-rule n h) (shape .small) (shape .outputs) (length-take-le (g .size) (c ∷ rest) (fits-room t n (c ∷ rest) s h f)) (f .match)
         (each-getD SafeGroup (t .rules) n (everyCharacter []) (each-front SafeGroup (t .rules) (optional (t .default)) safe) h)))
         (λ z d.
@@ -195,8 +195,8 @@ module _ (t : Table) (s : Shaped t) where
         let shape = default-each ShapedDefault t g (o .1) (s .default) in
         let one : g .size ≡ 1 = shape .size in
         let named : group t defaultNumber ≡ g = group-default t g (o .1) in
-        subst (λ m. let w = take (group t m .size) (c ∷ rest) in blockOutput (drop (75 * m) (blockWords t)) w ≡ writes t m w) (sym z)
-        (subst (λ k. let w = take k (c ∷ rest) in blockOutput (drop (75 * 32) (blockWords t)) w ≡ writes t 32 w) (sym (ap (λ a. a .size) named ∙ one))
+        subst (λ m. let w = take (group t m .size) (c ∷ rest) in blockOutput (drop (blockSize * m) (blockWords t)) w ≡ writes t m w) (sym z)
+        (subst (λ k. let w = take k (c ∷ rest) in blockOutput (drop (blockSize * 32) (blockWords t)) w ≡ writes t 32 w) (sym (ap (λ a. a .size) named ∙ one))
         (group-writes g 32 (c ∷ []) named (block-default g (o .1)) (omega arith) (shape .outputs) (sym one) (every-fits g c shape small)
         (default-each SafeGroup t g (o .1) (each-back SafeGroup (t .rules) (optional (t .default)) safe)))))
 
@@ -266,8 +266,8 @@ of-loaded P (accepted t) n d slots ranges blocks e f = rw (e .1, e .2, e .3, ap 
 pub record Ready (slots ranges blocks : List ℕ) (n : ℕ) (d : Bool) (input : List ℕ) : Type 0 where
   pub flat : Flat slots ranges blocks
   pub few : n ≤ 32
-  pub positive : (g : ℕ) → g < n → 1 ≤ at blocks (75 * g)
-  pub default : d ≡ true → at blocks 2400 ≡ 1
+  pub positive : (g : ℕ) → g < n → 1 ≤ at blocks (blockSize * g)
+  pub default : d ≡ true → at blocks (32 * blockSize) ≡ 1
   pub room : length (flatText blocks (flatConversion slots ranges blocks n d input .log)) ≤ expansionAt blocks n d * length input
 
 module _ (b : List ℕ) where

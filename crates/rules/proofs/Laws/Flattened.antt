@@ -16,9 +16,9 @@ use Rattle.meaning.specs.Refusal.{Outcome, refused, accepted, andThen}
 use Rattle.meaning.specs.Table.{Group, Table, groups}
 use Rattle.meaning.specs.Record.{Record, decode}
 use Rattle.meaning.specs.Reader.{Reading, unread, latest, unfilled, readOne, readRecords, readEnd, readRules}
-use Rattle.meaning.specs.Block.{at, block}
-use Rattle.rules.specs.Summary.{started, gap, admit, Arrays, arraysBy, Taken, takeOn, takeBy, takeRecords}
-use Rattle.meaning.specs.Flat.{rows, slotWords, rangeWords, blockWords, constantWords, Flat}
+use Rattle.meaning.specs.Block.{at, block, blockSize, blocksSize}
+use Rattle.rules.specs.bridge.Summary.{started, gap, admit, Arrays, arraysBy, Taken, takeOn, takeBy, takeRecords}
+use Rattle.meaning.specs.bridge.Flat.{rows, slotWords, rangeWords, blockWords, constantWords, Flat}
 use Rattle.rules.specs.declared.reader.Reader.{Reader}
 use Rattle.meaning.proofs.Laws.Refusal.{by-then}
 use Rattle.meaning.proofs.Laws.Shape.{ShapedGroup, ShapedDefault, Shaped}
@@ -62,14 +62,14 @@ records-right (suc n) b s e h =
 
 -- the arrays of the empty table
 abbrev pub emptied : Arrays
-emptied = record { slots = pad 264 []; ranges = pad 2112 []; blocks = pad 2475 []; constants = pad 264 [] }
+emptied = record { slots = pad 264 []; ranges = pad 2112 []; blocks = pad blocksSize []; constants = pad 264 [] }
 
 pub unread-emptied : flat (unread .table) ≡ emptied
 unfolding unread rows slotWords rangeWords blockWords constantWords
 unread-emptied =
     let a = sym (pad-none 256 8) in
     let b = sym (pad-none 2048 64) in
-    let c = sym (pad-none 2400 75) in
+    let c = sym (pad-none (32 * blockSize) blockSize) in
     λ i. record { slots = a i; ranges = b i; blocks = c i; constants = a i }
 
 pub pad-zeros : (n : ℕ) → pad n [] ≡ replicate n 0
@@ -126,10 +126,10 @@ unfolding block pad
 block-outputs g = refl
 
 -- number j of each block is within a limit where it is so of each group
-block-number : (t : Table) (j most : ℕ) → j < 75 → Each (λ g. getD (block g) j 0 ≤ most) (groups t) → (g : ℕ) → g < 33 → at (blockWords t) (75 * g + j) ≤ most
+block-number : (t : Table) (j most : ℕ) → j < blockSize → Each (λ g. getD (block g) j 0 ≤ most) (groups t) → (g : ℕ) → g < 33 → at (blockWords t) (blockSize * g + j) ≤ most
 unfolding blockWords
 block-number t j most k a g h =
-    subst (λ x. x ≤ most) (sym (rows-at 75 block t g j h k))
+    subst (λ x. x ≤ most) (sym (rows-at blockSize block t g j h k))
     (each-getD (λ l. getD l j 0 ≤ most) (rowsOf block (t .rules) (t .default)) g [] (each-rowsOf (λ l. getD l j 0 ≤ most) block t (omega arith) a) (subst (λ m. g < m) (sym (length-rowsOf block (t .rules) (t .default))) h))
 
 shaped-each : (P : Group → Type 0) (t : Table) → Shaped t → ((g : Group) → ShapedGroup g → P g) → ((g : Group) → ShapedDefault g → P g) → Each P (groups t)
@@ -141,9 +141,9 @@ flat-flat t s n =
     record {
       slots-length = length-rows 8 slotRow t;
       ranges-length = length-rows 64 rangeRow t;
-      blocks-length = length-rows 75 block t;
+      blocks-length = length-rows blockSize block t;
       few = λ p h. each-getD (λ x. x ≤ 4) (slotWords t) p 0 (each-rows (λ x. x ≤ 4) 8 slotRow t (omega arith) (each-weaken NarrowGroup (λ g. Each (λ x. x ≤ 4) (slotRow g)) (groups t) (λ g w. lengths (g .ranges) (w .few)) n)) (rw length-rows h);
-      size = λ g h. subst (λ i. at (blockWords t) i ≤ 8) (add-zero (75 * g)) (block-number t 0 8 (omega arith) (shaped-each (λ g. getD (block g) 0 0 ≤ 8) t s (λ g k. rw block-size (k .small)) (λ g k. rw (block-size, k .size) (omega arith))) g h);
+      size = λ g h. subst (λ i. at (blockWords t) i ≤ 8) (add-zero (blockSize * g)) (block-number t 0 8 (omega arith) (shaped-each (λ g. getD (block g) 0 0 ≤ 8) t s (λ g k. rw block-size (k .small)) (λ g k. rw (block-size, k .size) (omega arith))) g h);
       outputs = block-number t 2 8 (omega arith) (shaped-each (λ g. getD (block g) 2 0 ≤ 8) t s (λ g k. rw block-outputs (k .outputs)) (λ g k. rw block-outputs (k .outputs)));
     }
   where

@@ -15,15 +15,15 @@ use Rattle.lists.specs.Decide.{select}
 use Rattle.lists.proofs.Laws.Each.{each-front, each-back}
 use Rattle.meaning.specs.Refusal.{Outcome, refused, accepted, andThen}
 use Rattle.meaning.specs.Record.{Record, rule, range, output, term, default, decode}
-use Rattle.rules.specs.Summary.{started, gap, admit, admitted, Arrays, slotsBy, rangesBy, blocksBy, constantsBy, ifAdmitted, ifTaken, arraysBy, Taken, takeOn, takeBy, takeRecords, Fitting}
+use Rattle.rules.specs.bridge.Summary.{started, gap, admit, admitted, Arrays, slotsBy, rangesBy, blocksBy, constantsBy, ifAdmitted, ifTaken, arraysBy, Taken, takeOn, takeBy, takeRecords, Fitting}
 use Rattle.rules.specs.declared.reader.Reader.{Reader}
 use Rattle.rules.specs.declared.load.Load.{Load}
 use Rattle.rules.specs.declared.load.Load.the-variants as Load
 use Rattle.meaning.specs.Table.{Table}
 use Rattle.meaning.specs.Value.{safe}
 use Rattle.meaning.specs.Reader.{Reading, unread, readRecords, readEnd, readRules, readTable}
-use Rattle.meaning.specs.Flat.{slotWords, rangeWords, blockWords, constantWords, safeAt, Flat}
-use Rattle.rules.specs.Answers.{endOf, LoadedBy}
+use Rattle.meaning.specs.bridge.Flat.{slotWords, rangeWords, blockWords, constantWords, safeAt, Flat}
+use Rattle.rules.specs.bridge.Readings.{endOf, LoadedBy}
 use Rattle.meaning.proofs.Laws.Refusal.{accepted-not, accepted-same, refused-same}
 use Rattle.meaning.proofs.Laws.Shape.{Shaped}
 use Rattle.meaning.proofs.Laws.Reading.{read-shaped}
@@ -33,6 +33,7 @@ use Rattle.rules.proofs.Laws.Flattened.{TakenRight, emptied, take-right
 use Rattle.meaning.proofs.Laws.SafeFlat.{each-numbers, safe-flat}
 use Rattle.meaning.proofs.Laws.Decoding.{FittingRecord, decode-fits}
 use Rattle.rules.proofs.Laws.Stepping.{SmallRecord, started-fitting, admit-fitting, slotsBy-length, rangesBy-length, blocksBy-length, constantsBy-length, ifTaken-length}
+use Rattle.meaning.specs.Block.{blocksSize}
 
 -- what is known of a slice's elements by number
 pub each-known : (most : ℕ) (b : List ℕ) → ((i : ℕ) → getD b i 0 < most) → Each (λ x. x < most) b
@@ -74,7 +75,7 @@ take-on r (some x) m f = go (admit r x)
 pub record Sized (m : Arrays) : Type 0 where
   pub slots : length (m .slots) ≡ 264
   pub ranges : length (m .ranges) ≡ 2112
-  pub blocks : length (m .blocks) ≡ 2475
+  pub blocks : length (m .blocks) ≡ blocksSize
   pub constants : length (m .constants) ≡ 264
 
 sized-on : (r : Reader) (x : Option Record) (m : Arrays) → Sized m → Sized (arraysIf r x m)

@@ -14,8 +14,8 @@ use Rattle.lists.proofs.Laws.Tests.{of-T, of-not, or-cases}
 use Rattle.lists.proofs.Laws.Each.{each-append, each-front, each-back, each-weaken}
 use Rattle.meaning.specs.Table.{sum, Group, Table, everyCharacter}
 use Rattle.meaning.specs.Reader.{Reading, unread, reach, ranging, changeLatest}
-use Rattle.rules.specs.Summary.{Arrays, started, Fitting}
-use Rattle.meaning.specs.Flat.{slotWords, rangeWords, blockWords, constantWords}
+use Rattle.rules.specs.bridge.Summary.{Arrays, started, Fitting}
+use Rattle.meaning.specs.bridge.Flat.{slotWords, rangeWords, blockWords, constantWords}
 use Rattle.rules.specs.declared.reader.Reader.{Reader}
 use Rattle.meaning.proofs.Laws.Reading.{Begun, Plain, Ended, KeptReading, top, atLast-length, last-each, unread-kept}
 use Rattle.meaning.proofs.Laws.Narrow.{NarrowGroup, Narrow}

@@ -13,7 +13,7 @@ use lib.ListN.{length, length-set}
 use Rattle.lists.proofs.Laws.Tests.{of-not, not-not, or-none, or-cases, of-cond, by-cases, neqb→ne}
 use Rattle.meaning.specs.Refusal.{Outcome, refused, accepted}
 use Rattle.meaning.specs.Record.{Record, rule, range, output, term, default}
-use Rattle.rules.specs.Summary.{started, rangesRead, admit, groupNumber, slotNumber, slotsBy, rangesBy, blocksBy, constantsBy, ifAdmitted, ifTaken, Fitting}
+use Rattle.rules.specs.bridge.Summary.{started, rangesRead, admit, groupNumber, slotNumber, slotsBy, rangesBy, blocksBy, constantsBy, ifAdmitted, ifTaken, Fitting}
 use Rattle.rules.specs.declared.reader.Reader.{Reader}
 
 pub fails : (b : Bool) → b ≡ false → T (not b)

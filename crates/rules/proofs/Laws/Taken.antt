@@ -6,7 +6,7 @@ use Prim.Native.Nat.{ℕ, _+_}
 use lib.Dec.{eqb}
 use Rattle.meaning.specs.Record.{Record, rule, range, output, term, default}
 use Rattle.meaning.specs.Reader.{Reading, reach, taken}
-use Rattle.rules.specs.Summary.{arraysBy}
+use Rattle.rules.specs.bridge.Summary.{arraysBy}
 use Rattle.rules.specs.declared.reader.Reader.{Reader}
 use Rattle.rules.proofs.Laws.Represents.{summary, flat, Read}
 

@@ -16,9 +16,9 @@ use Rattle.lists.proofs.Laws.Each.{each-append, each-front}
 use Rattle.meaning.specs.Table.{Group, everyCharacter}
 use Rattle.meaning.specs.Record.{rule, default}
 use Rattle.meaning.specs.Reader.{Reading, misplaced, skipping, tooMany, taken}
-use Rattle.meaning.specs.Block.{bit, block}
-use Rattle.rules.specs.Summary.{arraysBy}
-use Rattle.meaning.specs.Flat.{slotWords, rangeWords, blockWords, constantWords}
+use Rattle.meaning.specs.Block.{bit, block, blockSize}
+use Rattle.rules.specs.bridge.Summary.{arraysBy}
+use Rattle.meaning.specs.bridge.Flat.{slotWords, rangeWords, blockWords, constantWords}
 use Rattle.meaning.proofs.Laws.Reading.{top, taken-kept}
 use Rattle.meaning.proofs.Laws.Narrow.{NarrowGroup}
 use Rattle.meaning.proofs.Laws.Rows.{rows-more, rows-default}
@@ -36,8 +36,8 @@ rule-arrays s k a rs none t h =
     arrays-same
     (sym (rows-more 8 slotRow [] tt rs none g h refl))
     (sym (rows-more 64 rangeRow [] tt rs none g h refl))
-    (ap (λ i. set (set (blockWords (record { rules = rs; default = none })) i k) (75 * length rs + 1) (bit a)) (sym (add-zero (75 * length rs)))
-    ∙ sym (rows-more 75 block ((0, k) ∷ (1, bit a) ∷ []) (omega arith, (omega arith, tt)) rs none g h refl))
+    (ap (λ i. set (set (blockWords (record { rules = rs; default = none })) i k) (blockSize * length rs + 1) (bit a)) (sym (add-zero (blockSize * length rs)))
+    ∙ sym (rows-more blockSize block ((0, k) ∷ (1, bit a) ∷ []) (omega arith, (omega arith, tt)) rs none g h refl))
     (sym (rows-more 8 constantRow [] tt rs none g h refl))
 rule-arrays s k a rs (some x) t h = absurd t
 
@@ -69,7 +69,7 @@ default-arrays s rs d t =
     arrays-same
     (sym (rows-default 8 slotRow ((0, 1) ∷ []) (omega arith, tt) rs d g t refl))
     (sym (rows-default 64 rangeRow ((1, 65535) ∷ []) (omega arith, tt) rs d g t refl))
-    (sym (rows-default 75 block ((0, 1) ∷ []) (omega arith, tt) rs d g t refl))
+    (sym (rows-default blockSize block ((0, 1) ∷ []) (omega arith, tt) rs d g t refl))
     (sym (rows-default 8 constantRow [] tt rs d g t refl))
 
 pub default-taken : (s : Reading) → Read s → T (not (misplaced s default)) → T (not (skipping s default)) → T (not (tooMany s default)) → Taken s default

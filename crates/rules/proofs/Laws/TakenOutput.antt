@@ -16,9 +16,9 @@ use Rattle.lists.proofs.Laws.Each.{each-append}
 use Rattle.meaning.specs.Table.{sum}
 use Rattle.meaning.specs.Record.{output}
 use Rattle.meaning.specs.Reader.{signed, Reading, latest, reach, misplaced, skipping, tooMany, changeOutputs, taken}
-use Rattle.meaning.specs.Block.{word, block}
-use Rattle.rules.specs.Summary.{arraysBy}
-use Rattle.meaning.specs.Flat.{slotWords, rangeWords, blockWords, constantWords, constantOf}
+use Rattle.meaning.specs.Block.{word, block, blockSize, entrySize}
+use Rattle.rules.specs.bridge.Summary.{arraysBy}
+use Rattle.meaning.specs.bridge.Flat.{slotWords, rangeWords, blockWords, constantWords, constantOf}
 use Rattle.meaning.proofs.Laws.Reading.{taken-kept}
 use Rattle.meaning.proofs.Laws.Narrow.{Bits, NarrowOutput}
 use Rattle.meaning.proofs.Laws.Numbers.{word-constant, bits-signed}
@@ -52,12 +52,12 @@ module _ (s : Reading) (c : ℕ) (h : Read s) where
       let F = changeOutputs (λ os. os ++ (sum z [] ∷ [])) in
       let o = length (g .outputs) in
       let number = numberOf rs d in
-      let place : 75 * number + 3 + 9 * o ≡ 75 * number + (3 + 9 * o) = add-assoc (75 * number) 3 (9 * o) in
+      let place : blockSize * number + 3 + entrySize * o ≡ blockSize * number + (3 + entrySize * o) = add-assoc (blockSize * number) 3 (entrySize * o) in
       arrays-same
       (sym (rows-latest 8 slotRow [] tt rs d F (h .kept .few) grouped refl))
       (sym (rows-latest 64 rangeRow [] tt rs d F (h .kept .few) grouped refl))
-      (ap₂ (λ i v. set (set (blockWords (s .table)) (75 * number + 2) (o + 1)) i v) place (sym (word-constant c fits))
-      ∙ sym (rows-latest 75 block ((2, o + 1) ∷ (3 + 9 * o, word z) ∷ []) (omega arith, (omega arith, tt)) rs d F (h .kept .few) grouped (block-output z g less)))
+      (ap₂ (λ i v. set (set (blockWords (s .table)) (blockSize * number + 2) (o + 1)) i v) place (sym (word-constant c fits))
+      ∙ sym (rows-latest blockSize block ((2, o + 1) ∷ (3 + entrySize * o, word z) ∷ []) (omega arith, (omega arith, tt)) rs d F (h .kept .few) grouped (block-output z g less)))
       (ap (λ v. set (constantWords (s .table)) (8 * number + o) v) (sym (bits-signed c fits))
       ∙ sym (rows-latest 8 constantRow ((o, constantOf (sum z [])) ∷ []) (less, tt) rs d F (h .kept .few) grouped (constantRow-output z g less)))
 

@@ -15,9 +15,9 @@ use Rattle.lists.proofs.Laws.Each.{each-append}
 use Rattle.meaning.specs.Table.{Range, sum, Group}
 use Rattle.meaning.specs.Record.{range}
 use Rattle.meaning.specs.Reader.{Reading, latest, reach, ranging, misplaced, skipping, tooMany, addRange, changeRanges, taken}
-use Rattle.meaning.specs.Block.{block}
-use Rattle.rules.specs.Summary.{arraysBy}
-use Rattle.meaning.specs.Flat.{slotWords, rangeWords, blockWords, constantWords}
+use Rattle.meaning.specs.Block.{block, blockSize}
+use Rattle.rules.specs.bridge.Summary.{arraysBy}
+use Rattle.meaning.specs.bridge.Flat.{slotWords, rangeWords, blockWords, constantWords}
 use Rattle.meaning.proofs.Laws.Reading.{taken-kept, last-each}
 use Rattle.meaning.proofs.Laws.Narrow.{NarrowGroup}
 use Rattle.meaning.proofs.Laws.Rows.{Grouped, numberOf, rows-latest}
@@ -107,7 +107,7 @@ module _ (s : Reading) (p : ℕ) (r : Range) (h : Read s) where
       ∙ ap₂ (λ i j. set (set (rangeWords (s .table)) i (r .lowest)) j (r .highest)) first second
       ∙ sym (rows-latest 64 rangeRow ((8 * p + 2 * e, r .lowest) ∷ (8 * p + (2 * e + 1), r .highest) ∷ []) (omega arith, (omega arith, tt)) rs d F (h .kept .few) grouped
       (rangeRow-range p r g low high inside less)))
-      (sym (rows-latest 75 block [] tt rs d F (h .kept .few) grouped refl))
+      (sym (rows-latest blockSize block [] tt rs d F (h .kept .few) grouped refl))
       (sym (rows-latest 8 constantRow [] tt rs d F (h .kept .few) grouped refl))
 
   pub range-taken : FittingRecord (range p r) → T (not (misplaced s (range p r))) → T (not (skipping s (range p r))) → T (not (tooMany s (range p r))) → Taken s (range p r)

@@ -14,9 +14,9 @@ use Rattle.lists.proofs.Laws.Each.{each-append, each-atLast}
 use Rattle.meaning.specs.Table.{Output, sum}
 use Rattle.meaning.specs.Record.{term}
 use Rattle.meaning.specs.Reader.{signed, Reading, latest, reach, latestReach, misplaced, skipping, tooMany, addTerm, changeOutputs, taken}
-use Rattle.meaning.specs.Block.{word, block}
-use Rattle.rules.specs.Summary.{arraysBy}
-use Rattle.meaning.specs.Flat.{slotWords, rangeWords, blockWords, constantWords}
+use Rattle.meaning.specs.Block.{word, block, blockSize, entrySize}
+use Rattle.rules.specs.bridge.Summary.{arraysBy}
+use Rattle.meaning.specs.bridge.Flat.{slotWords, rangeWords, blockWords, constantWords}
 use Rattle.meaning.proofs.Laws.Reading.{taken-kept, atLast-length}
 use Rattle.meaning.proofs.Laws.Narrow.{Bits, NarrowOutput}
 use Rattle.meaning.proofs.Laws.Numbers.{word-signed}
@@ -84,12 +84,12 @@ module _ (s : Reading) (p a : ℕ) (h : Read s) where
       let F = changeOutputs (atLast (addTerm p z)) in
       let o = length (g .outputs) in
       let number = numberOf rs d in
-      let place : 75 * number + 4 + 9 * pred o + p ≡ 75 * number + (4 + 9 * pred o + p) = omega arith in
+      let place : blockSize * number + 4 + entrySize * pred o + p ≡ blockSize * number + (4 + entrySize * pred o + p) = omega arith in
       arrays-same
       (sym (rows-latest 8 slotRow [] tt rs d F (h .kept .few) grouped refl))
       (sym (rows-latest 64 rangeRow [] tt rs d F (h .kept .few) grouped refl))
       (ap₂ (λ i v. set (blockWords (s .table)) i v) place (sym (word-signed a fits))
-      ∙ sym (rows-latest 75 block ((4 + 9 * pred o + p, word z) ∷ []) (omega arith, tt) rs d F (h .kept .few) grouped (block-term p z g inside some-output most before)))
+      ∙ sym (rows-latest blockSize block ((4 + entrySize * pred o + p, word z) ∷ []) (omega arith, tt) rs d F (h .kept .few) grouped (block-term p z g inside some-output most before)))
       (sym (rows-latest 8 constantRow [] tt rs d F (h .kept .few) grouped (ap (pad 8) (constantRow-term p z (g .outputs)))))
 
   pub term-taken : FittingRecord (term p a) → T (not (misplaced s (term p a))) → T (not (skipping s (term p a))) → T (not (tooMany s (term p a))) → Taken s (term p a)

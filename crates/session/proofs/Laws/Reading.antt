@@ -11,7 +11,7 @@ use lib.Dec.{T, eqb, leb, eqb→eq}
 use lib.ListN.{length, getD, set, take, drop, length-append, length-drop, List·getD-append}
 use lib.Seq.{take-all, drop-nil, drop-cons, getD-drop, drop-drop, drop-append-add, getD-set-same, getD-set-other, paste}
 use Rattle.lists.proofs.Laws.Tests.{holds, below, of-cond, of-between}
-use Rattle.meaning.specs.Block.{at, wordSum, blockOutput}
+use Rattle.meaning.specs.Block.{at, wordSum, blockOutput, blockSize, entrySize}
 use Rattle.meaning.proofs.Laws.Writing.{groupText, groupSum, written-more, written-all}
 use Rattle.automaton.specs.Sound.{longestWord, expansionWord, stateCount, depthWord, acceptWord, targetWord, classCount, blockAt, soundState, sound}
 use Rattle.automaton.specs.Classes.{classOf}
@@ -19,11 +19,12 @@ use Rattle.automaton.specs.Automaton.{fromWords}
 use Rattle.machine.specs.declared.numbers.StateNo.{StateNo}
 use Rattle.automaton.proofs.Laws.Words.{sound-state, sound-class, sound-good}
 use Rattle.reckoning.specs.Machine.{Ended}
-use Rattle.session.specs.Running.{firstOf, standing, storeOf, Placed, Going, left, Onward, Beyond, Passes, Stands, Between, ReadsOn, readTo, Read, Back}
+use Rattle.session.specs.bridge.Running.{firstOf, standing, storeOf, Placed, Going, left, Onward, Beyond, Passes, Stands, Between, ReadsOn, readTo, Read, Back}
 use Rattle.session.specs.declared.kept.Status.the-variants as Kept
 use Rattle.session.specs.declared.run.Ran.{Ran}
 use Rattle.session.specs.declared.run.Ahead.{Ahead}
 use Rattle.session.proofs.Laws.Running.{first-at, character-backs, character-reads, decides-character, turn-room, default-words, onward-read, onward-default, beyond-on}
+use Rattle.automaton.specs.Layout.{blocksFrom, classesFrom}
 
 -- one more place of a table is filled
 pub filled : (f : ℕ → ℕ) (table : List ℕ) (n x : ℕ) → n < length table → x ≡ f n → ((i : ℕ) → i < n → getD table i 0 ≡ f i) →
@@ -80,35 +81,35 @@ module _ (given piece part : List ℕ) (n : ℕ) (e : part ≡ partOf given piec
 
 -- The default's output, by its places in the words: block 32 begins at 19622.
 
-pub default-count : (w : List ℕ) → at (blockAt w 32) 2 ≡ at w 19624
-default-count w = getD-drop (17222 + 75 * 32) w 2 0
+pub default-count : (w : List ℕ) → at (blockAt w 32) 2 ≡ at w (blocksFrom + 32 * blockSize + 2)
+default-count w = getD-drop (blocksFrom + blockSize * 32) w 2 0
 
 module _ (w word : List ℕ) where
   abbrev pub defaultText : List ℕ
-  defaultText = groupText (drop 17222 w) 32 word
+  defaultText = groupText (drop blocksFrom w) 32 word
 
-  pub default-sum : (j : ℕ) → at (blockAt w 32) 0 ≡ 1 → wordSum (at w (19625 + 9 * j)) (take 1 (drop (19625 + 9 * j + 1) w)) word ≡ groupSum (drop 17222 w) 32 word j
+  pub default-sum : (j : ℕ) → at (blockAt w 32) 0 ≡ 1 → wordSum (at w (blocksFrom + 32 * blockSize + 3 + entrySize * j)) (take 1 (drop (blocksFrom + 32 * blockSize + 3 + entrySize * j + 1) w)) word ≡ groupSum (drop blocksFrom w) 32 word j
   default-sum j one =
-      let a : 19625 + 9 * j ≡ 17222 + (75 * 32 + 3 + 9 * j) = omega arith in
-      let b : 19625 + 9 * j + 1 ≡ 17222 + (75 * 32 + 3 + 9 * j + 1) = omega arith in
-      let p : at w (19625 + 9 * j) ≡ at (drop 17222 w) (75 * 32 + 3 + 9 * j) = ap (at w) a ∙ sym (getD-drop 17222 w (75 * 32 + 3 + 9 * j) 0) in
-      let q : 1 ≡ at (drop 17222 w) (75 * 32) = sym one ∙ getD-drop (17222 + 75 * 32) w 0 0 ∙ sym (getD-drop 17222 w (75 * 32) 0) in
-      let r : drop (19625 + 9 * j + 1) w ≡ drop (75 * 32 + 3 + 9 * j + 1) (drop 17222 w) =
-      ap (λ k. drop k w) b ∙ sym (drop-drop (75 * 32 + 3 + 9 * j + 1) 17222 w) in
+      let a : blocksFrom + 32 * blockSize + 3 + entrySize * j ≡ blocksFrom + (blockSize * 32 + 3 + entrySize * j) = omega arith in
+      let b : blocksFrom + 32 * blockSize + 3 + entrySize * j + 1 ≡ blocksFrom + (blockSize * 32 + 3 + entrySize * j + 1) = omega arith in
+      let p : at w (blocksFrom + 32 * blockSize + 3 + entrySize * j) ≡ at (drop blocksFrom w) (blockSize * 32 + 3 + entrySize * j) = ap (at w) a ∙ sym (getD-drop blocksFrom w (blockSize * 32 + 3 + entrySize * j) 0) in
+      let q : 1 ≡ at (drop blocksFrom w) (blockSize * 32) = sym one ∙ getD-drop (blocksFrom + blockSize * 32) w 0 0 ∙ sym (getD-drop blocksFrom w (blockSize * 32) 0) in
+      let r : drop (blocksFrom + 32 * blockSize + 3 + entrySize * j + 1) w ≡ drop (blockSize * 32 + 3 + entrySize * j + 1) (drop blocksFrom w) =
+      ap (λ k. drop k w) b ∙ sym (drop-drop (blockSize * 32 + 3 + entrySize * j + 1) blocksFrom w) in
       λ i. wordSum (p i) (take (q i) (r i)) word
 
-  pub default-more : (d : List ℕ) (count j x : ℕ) → j < at w 19624 → count + j < length d → x ≡ groupSum (drop 17222 w) 32 word j →
+  pub default-more : (d : List ℕ) (count j x : ℕ) → j < at w (blocksFrom + 32 * blockSize + 2) → count + j < length d → x ≡ groupSum (drop blocksFrom w) 32 word j →
       set (paste d count defaultText j) (count + j) x ≡ paste d count defaultText (j + 1)
   default-more d count j x h k e =
       ap (set (paste d count defaultText j) (count + j)) e
-      ∙ written-more (drop 17222 w) 32 word d count j (omega (arith, getD-drop 17222 w (75 * 32 + 2) 0)) k
+      ∙ written-more (drop blocksFrom w) 32 word d count j (omega (arith, getD-drop blocksFrom w (blockSize * 32 + 2) 0)) k
 
-  pub default-all : (d : List ℕ) (count n : ℕ) → n ≡ at w 19624 →
+  pub default-all : (d : List ℕ) (count n : ℕ) → n ≡ at w (blocksFrom + 32 * blockSize + 2) →
       paste d count defaultText n ≡ take count d ++ blockOutput (blockAt w 32) word ++ drop (count + at (blockAt w 32) 2) d
   default-all d count n e =
-      let m : at (drop 17222 w) (75 * 32 + 2) ≡ at w 19624 = getD-drop 17222 w (75 * 32 + 2) 0 in
-      ap (paste d count defaultText) (e ∙ sym m) ∙ written-all (drop 17222 w) 32 word d count
-      ∙ (λ i. take count d ++ blockOutput (drop-drop (75 * 32) 17222 w i) word ++ drop (count + (m ∙ sym (default-count w)) i) d)
+      let m : at (drop blocksFrom w) (blockSize * 32 + 2) ≡ at w (blocksFrom + 32 * blockSize + 2) = getD-drop blocksFrom w (blockSize * 32 + 2) 0 in
+      ap (paste d count defaultText) (e ∙ sym m) ∙ written-all (drop blocksFrom w) 32 word d count
+      ∙ (λ i. take count d ++ blockOutput (drop-drop (blockSize * 32) blocksFrom w i) word ++ drop (count + (m ∙ sym (default-count w)) i) d)
 
 -- A run that leads on, and then on again.
 
@@ -162,7 +163,7 @@ Reaches w u q n p m =
     Passes w u (length output) now output (readTo now (ahead p m)) output)
 
 abbrev pub classIn : List ℕ → ℕ → ℕ
-classIn w x = classOf (take (classCount w) (drop 6 w)) x
+classIn w x = classOf (take (classCount w) (drop classesFrom w)) x
 
 module _ (w u : List ℕ) (q : StateNo) (n : ℕ) where
   pub reaches-none : (m : ℕ) → m ≡ n → q .0 < stateCount w → Reaches w u q n q m

@@ -20,8 +20,9 @@ use Rattle.reckoning.specs.Machine.{Status, Open, Closed, Stopped, Ended}
 use Rattle.reckoning.specs.Session.{Session, consumed, store, path, isAt}
 use Rattle.reckoning.specs.Calls.{admits, receivedBy, resumed, later, callBy}
 use Rattle.session.specs.Keeping.{sessionOf}
-use Rattle.session.specs.Running.{storeOf, Finished}
-use Rattle.session.specs.Contracts.{outcomeOf, laterOf, Small}
+use Rattle.session.specs.bridge.Running.{storeOf, Finished}
+use Rattle.session.specs.Contracts.{outcomeOf}
+use Rattle.session.specs.bridge.Later.{laterOf, Small}
 use Rattle.session.specs.declared.kept.Session as Kept
 use Rattle.session.specs.declared.run.Ran.{Ran}
 use Rattle.session.specs.declared.call.Answer.the-variants.{Accepted}

@@ -26,10 +26,11 @@ use Rattle.automaton.proofs.Laws.Words.{Names, sound-header, sound-rule, sound-
 use Rattle.reckoning.specs.Machine.{Configuration, Status, Open, Closed, Stopped, onward, halt, step, Ended, steps, run, start}
 use Rattle.reckoning.specs.Session.{path, isAt}
 use Rattle.session.specs.Keeping.{statusOf}
-use Rattle.session.specs.Running.{firstOf, standing, stepOf, Fits, Decides, storeOf, Placed, Going, Finished, left, Onward, Beyond, Move, Emit, Read, Back, Wait, Close}
+use Rattle.session.specs.bridge.Running.{firstOf, standing, stepOf, Fits, Decides, storeOf, Placed, Going, Finished, left, Onward, Beyond, Move, Emit, Read, Back, Wait, Close}
 use Rattle.session.specs.declared.run.Ran.{Ran}
 use Rattle.reckoning.proofs.Laws.Run.{step-accept, step-read, step-back, due-read, due-stop, due-emit, steps-onward, steps-halt, fuel-enough}
 use Rattle.reckoning.proofs.Laws.Kept.{path-leads}
+use Rattle.automaton.specs.Layout.{classesFrom}
 
 pub of-not-true : (b : Bool) → not b ≡ true → b ≡ false
 of-not-true false e = refl
@@ -101,7 +102,7 @@ module _ (w : List ℕ) (W : T (sound w)) (q : ℕ) (b : q < stateCount w) where
         (λ ended store rest log n. step-accept (fromWords w) ended store x rest q log n (g .0) (sym e), rule-fits g (acceptWord w q) e (sound-state w W q b .accept))
 
     abbrev class : ℕ
-    class = classOf (take (classCount w) (drop 6 w)) x
+    class = classOf (take (classCount w) (drop classesFrom w)) x
 
     pub character-backs : 0 ≡ acceptWord w q → targetWord w q class ≡ 0 → OnCharacter (fromWords w) q x Back
     unfolding fromWords
@@ -485,8 +486,8 @@ depth-after : (w : List ℕ) → T (sound w) → (q : ℕ) (h : List ℕ) → q 
 unfolding after fromWords
 depth-after w W q [] i l = (i, omega arith)
 depth-after w W q (x ∷ h) i l =
-    let f = sound-state w W q i .target (classOf (take (classCount w) (drop 6 w)) x) (sound-class w W x) (l .0) in
-    let k = depth-after w W (targetWord w q (classOf (take (classCount w) (drop 6 w)) x)) h (f .below) (l .1) in
+    let f = sound-state w W q i .target (classOf (take (classCount w) (drop classesFrom w)) x) (sound-class w W x) (l .0) in
+    let k = depth-after w W (targetWord w q (classOf (take (classCount w) (drop classesFrom w)) x)) h (f .below) (l .1) in
     (k .0, omega (arith, k .1, f .deeper))
 
 -- The run as it begins: the given characters are the store.

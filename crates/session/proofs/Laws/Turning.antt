@@ -19,7 +19,7 @@ use Rattle.machine.specs.declared.numbers.RuleNo.{RuleNo}
 use Rattle.automaton.proofs.Laws.Words.{sound-state}
 use Rattle.reckoning.specs.Machine.{Stopped, Closed, step}
 use Rattle.reckoning.specs.Session.{settled}
-use Rattle.session.specs.Running.{Move, Emit, Back, Wait, Close, standing, stepOf, Fits, Decides, storeOf, Placed, Onward, Beyond, Classed, Between, Halted, Waits, readTo, Passes, Stands, ReadsOn, Moves, acceptNow}
+use Rattle.session.specs.bridge.Running.{Move, Emit, Back, Wait, Close, standing, stepOf, Fits, Decides, storeOf, Placed, Onward, Beyond, Classed, Between, Halted, Waits, readTo, Passes, Stands, ReadsOn, Moves, acceptNow}
 use Rattle.session.specs.declared.run.Ran.{Ran}
 use Rattle.session.specs.declared.run.Ahead.{Ahead}
 use Rattle.reckoning.proofs.Laws.Walk.{settled-both}

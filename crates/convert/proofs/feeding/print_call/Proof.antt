@@ -5,7 +5,7 @@ use Prim.Native.Nat.{_≤_}
 use borrow.Author.Needs.{needs}
 use lib.ListN.{length}
 use lib.Seq.{length-take-le}
-use Rattle.convert.specs.Call.{Counted}
+use Rattle.convert.specs.bridge.Call.{Counted}
 use Rattle.convert.proofs.feeding.print_call.Statement.{statement}
 use Rattle.convert.proofs.feeding.print_call.Tie as tie
 

@@ -9,16 +9,17 @@ use borrow.Author.Needs.{needs}
 use lib.ListN.{length, drop}
 use Rattle.lists.specs.Lists.{pad}
 use Rattle.meaning.specs.Table.{Table}
-use Rattle.meaning.specs.Flat.{tableAt}
+use Rattle.meaning.specs.bridge.Flat.{tableAt}
 use Rattle.rules.proofs.Laws.Converting.{expansion-eight}
 use Rattle.automaton.specs.Classes.{starts}
 use Rattle.automaton.specs.States.{states}
-use Rattle.automaton.specs.Layout.{wordCount}
-use Rattle.automaton.specs.Gathered.{Gathered}
-use Rattle.automaton.specs.Noted.{Kept}
+use Rattle.automaton.specs.Layout.{wordCount, blocksFrom}
+use Rattle.automaton.specs.bridge.Gathered.{Gathered}
+use Rattle.automaton.specs.bridge.Noted.{Kept}
 use Rattle.machine.proofs.Laws.Compiling.{longest-eight, drop-later, zero-starts, gathered-back, gathered-zero, gathered-number, gathered-over, gathered-start, states-over, states-few, put-together, built-classes, built-states, built-words}
 use Rattle.machine.proofs.compile.build.Statement.{statement}
 use Rattle.machine.proofs.compile.build.Tie as tie
+use Rattle.meaning.specs.Block.{blocksSize}
 
 -- the arrays as a table, without its default
 abbrev table : tie.Start → Table
@@ -99,7 +100,7 @@ build-states-requires c κs =
       s .pre .0 .0,
       (
         (s .pre .0 .1, gathered-number w z ss (with-starts g) n (gathers g) few, few, gathered-start w z ss (with-starts g) n (gathers g) (s .pre .1 .0) few),
-        (subst (λ m. 19697 ≤ m) (sym (gathers g .size)) (s .pre .1 .0), refl, gathered-zero w z ss (with-starts g) n (gathers g)),
+        (subst (λ m. wordCount ≤ m) (sym (gathers g .size)) (s .pre .1 .0), refl, gathered-zero w z ss (with-starts g) n (gathers g)),
       ),
     )
 
@@ -121,7 +122,7 @@ returns-2 c =
     let e = built-states (table s) (a .blocks .now) (a .rules) (a .defaulted) (drop wordCount (a .words .now)) few over in (
       sym (ap (λ o. o .answer) e),
       done .clear2 .ensures
-          ∙ ap (λ l. pad wordCount [] ++ l) (drop-later 17222 2475 (with-states b) (with-starts g) (kept b .back) ∙ same-back g)
+          ∙ ap (λ l. pad wordCount [] ++ l) (drop-later blocksFrom blocksSize (with-states b) (with-starts g) (kept b .back) ∙ same-back g)
           ∙ sym (ap (λ o. o .words) e),
     )
 

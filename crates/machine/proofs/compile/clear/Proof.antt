@@ -9,12 +9,13 @@ use lib.ListN.{set, length, drop, replicate}
 use Rattle.rules.proofs.Laws.Flattened.{pad-zeros}
 use Rattle.machine.proofs.compile.clear.Statement.{statement}
 use Rattle.machine.proofs.compile.clear.Tie as tie
+use Rattle.automaton.specs.Layout.{wordCount}
 
 abbrev Inv-loop : tie.InvT-loop
-Inv-loop words₀ i₀ words i = (i ≤ 19697) × (length words ≡ length words₀) × (words ≡ replicate i 0 ++ drop i words₀)
+Inv-loop words₀ i₀ words i = (i ≤ wordCount) × (length words ≡ length words₀) × (words ≡ replicate i 0 ++ drop i words₀)
 
 abbrev μ-loop : tie.MeasureT-loop
-μ-loop words₀ i₀ words i = 19697 - i
+μ-loop words₀ i₀ words i = wordCount - i
 
 loop-holds : tie.Need-loop-holds Inv-loop μ-loop
 loop-holds c = (search needs, refl, refl)
@@ -45,8 +46,8 @@ returns : tie.Need-returns Inv-loop μ-loop
 returns c =
     let l = c .before in
     let w = l .before .args .words .now in
-    let e : l .loop .i ≡ 19697 = search needs in
-    l .loop .inv .2 ∙ ap (λ k. replicate k 0 ++ drop k w) e ∙ ap (λ z. z ++ drop 19697 w) (sym (pad-zeros 19697))
+    let e : l .loop .i ≡ wordCount = search needs in
+    l .loop .inv .2 ∙ ap (λ k. replicate k 0 ++ drop k w) e ∙ ap (λ z. z ++ drop wordCount w) (sym (pad-zeros wordCount))
 
 pub clear-spec : {M : Type 1} → statement M
 clear-spec =

@@ -12,6 +12,7 @@ use Rattle.automaton.specs.Layout.{wordCount}
 use Rattle.machine.proofs.Laws.Compiling.{cleared-back, cleared, compile-short, compile-refused, compile-flat, compile-built}
 use Rattle.machine.proofs.compile.compile.Statement.{statement}
 use Rattle.machine.proofs.compile.compile.Tie as tie
+use Rattle.meaning.specs.Block.{blocksSize}
 
 -- where the table has been loaded: the words cleared, the function's entry, the bytes
 
@@ -43,7 +44,7 @@ slice-aggregate-load-table-3 : tie.Need-slice-aggregate-load-table-3
 slice-aggregate-load-table-3 c = search needs
 
 load-table-requires : tie.Need-load-table-requires
-load-table-requires c κs = (sym (pad-zeros 264), sym (pad-zeros 2112), sym (pad-zeros 2475))
+load-table-requires c κs = (sym (pad-zeros 264), sym (pad-zeros 2112), sym (pad-zeros blocksSize))
 
 enum-known-loaded : tie.Need-enum-known-loaded
 enum-known-loaded c = search needs

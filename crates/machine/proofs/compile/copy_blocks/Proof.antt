@@ -9,15 +9,17 @@ use lib.ListN.{set, length, getD, take, drop}
 use lib.Seq.{paste, paste-zero, paste-suc, take-all}
 use Rattle.machine.proofs.compile.copy_blocks.Statement.{statement}
 use Rattle.machine.proofs.compile.copy_blocks.Tie as tie
+use Rattle.meaning.specs.Block.{blocksSize}
+use Rattle.automaton.specs.Layout.{blocksFrom, wordCount}
 
 abbrev Inv-loop : tie.InvT-loop
-Inv-loop words₀ blocks i₀ words i = (i ≤ 2475) × (length words ≡ length words₀) × (words ≡ paste words₀ 17222 blocks i)
+Inv-loop words₀ blocks i₀ words i = (i ≤ blocksSize) × (length words ≡ length words₀) × (words ≡ paste words₀ blocksFrom blocks i)
 
 abbrev μ-loop : tie.MeasureT-loop
-μ-loop words₀ blocks i₀ words i = 2475 - i
+μ-loop words₀ blocks i₀ words i = blocksSize - i
 
 loop-holds : tie.Need-loop-holds Inv-loop μ-loop
-loop-holds c = (search needs, refl, paste-zero (c .args .words .now) 17222 (c .args .blocks .now))
+loop-holds c = (search needs, refl, paste-zero (c .args .words .now) blocksFrom (c .args .blocks .now))
 
 mul-words : tie.Need-mul-words Inv-loop μ-loop
 mul-words c = search needs
@@ -47,8 +49,8 @@ loop-again c =
     let b = l .before .args .blocks .now in
     let i = l .loop .i in
     let h : i < length b = search needs in
-    let k : 17222 + i < length w = search needs in
-    (search needs, search needs, ap (λ v. set v (17222 + i) (getD b i 0)) (l .loop .inv .2) ∙ paste-suc w 17222 b i 0 k h ∙ ap (paste w 17222 b) (sym (add-one i)))
+    let k : blocksFrom + i < length w = search needs in
+    (search needs, search needs, ap (λ v. set v (blocksFrom + i) (getD b i 0)) (l .loop .inv .2) ∙ paste-suc w blocksFrom b i 0 k h ∙ ap (paste w blocksFrom b) (sym (add-one i)))
 
 same-length : tie.Need-same-length Inv-loop μ-loop
 same-length c = search needs
@@ -58,9 +60,9 @@ returns c =
     let l = c .before in
     let w = l .before .args .words .now in
     let b = l .before .args .blocks .now in
-    let e : l .loop .i ≡ 2475 = search needs in
-    let h : length b ≤ 2475 = search needs in
-    l .loop .inv .2 ∙ ap (paste w 17222 b) e ∙ ap (λ k. take 17222 w ++ k ++ drop 19697 w) (take-all 2475 b h)
+    let e : l .loop .i ≡ blocksSize = search needs in
+    let h : length b ≤ blocksSize = search needs in
+    l .loop .inv .2 ∙ ap (paste w blocksFrom b) e ∙ ap (λ k. take blocksFrom w ++ k ++ drop wordCount w) (take-all blocksSize b h)
 
 pub copy-blocks-spec : {M : Type 1} → statement M
 copy-blocks-spec =

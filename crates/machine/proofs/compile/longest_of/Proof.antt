@@ -5,8 +5,8 @@ use mathlib.Core.Path.{_≡_, refl, ap, _∙_}
 use Prim.Native.Nat.{_*_, _-_, _≤_, _<_}
 use native.Mathlib.Numerals.{add-one}
 use native.Mathlib.Omega.{arith}
-use Rattle.meaning.specs.Block.{at}
-use Rattle.machine.specs.Compiled.{longestAt}
+use Rattle.meaning.specs.Block.{at, blockSize}
+use Rattle.machine.specs.bridge.Building.{longestAt}
 use Rattle.machine.proofs.compile.longest_of.Statement.{statement}
 use Rattle.machine.proofs.compile.longest_of.Tie as tie
 
@@ -30,7 +30,7 @@ shared-slice-read-size : tie.Need-shared-slice-read-size Inv-loop μ-loop
 shared-slice-read-size c = omega arith
 
 cast-size : tie.Need-cast-size Inv-loop μ-loop
-cast-size c = omega (arith, c .shared-slice-known .given (75 * c .before .before .loop .group))
+cast-size c = omega (arith, c .shared-slice-known .given (blockSize * c .before .before .loop .group))
 
 add-group : tie.Need-add-group Inv-loop μ-loop
 add-group c = omega arith
@@ -42,10 +42,10 @@ loop-again : tie.Need-loop-again Inv-loop μ-loop
 unfolding longestAt
 loop-again c =
     let l = c .before .before .before in
-    let size = at (l .before .args .blocks .now) (75 * l .loop .group) in
+    let size = at (l .before .args .blocks .now) (blockSize * l .loop .group) in
     let inv = l .loop .inv in
     let test = c .before .before .loop-test .taken in
-    let known = c .before .shared-slice-known .given (75 * l .loop .group) in
+    let known = c .before .shared-slice-known .given (blockSize * l .loop .group) in
     rw add-one
     (⊎-elim
     (λ w. let e : c .if1 .most ≡ size = w .1 in let h : l .loop .most < size = w .0 .taken in (omega arith, omega arith, omega arith))

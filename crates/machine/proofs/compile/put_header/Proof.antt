@@ -8,6 +8,7 @@ use lib.ListN.{set, drop, length-set}
 use Rattle.machine.proofs.Laws.Compiling.{header-put}
 use Rattle.machine.proofs.compile.put_header.Statement.{statement}
 use Rattle.machine.proofs.compile.put_header.Tie as tie
+use Rattle.automaton.specs.Layout.{classesFrom}
 
 bit-of-requires : tie.Need-bit-of-requires
 bit-of-requires c κs = search needs
@@ -73,7 +74,7 @@ returns c =
     let s = c .before .before in
     let a = s .args in
     header-put (a .words .now) (a .states) (a .classes) (a .longest) (a .expansion) (a .rules) (c .bit-of .result) (s .pre .0)
-    ∙ ap (λ d. (a .states ∷ a .classes ∷ a .longest ∷ a .expansion ∷ a .rules ∷ d ∷ []) ++ drop 6 (a .words .now)) (c .bit-of .ensures)
+    ∙ ap (λ d. (a .states ∷ a .classes ∷ a .longest ∷ a .expansion ∷ a .rules ∷ d ∷ []) ++ drop classesFrom (a .words .now)) (c .bit-of .ensures)
 
 pub put-header-spec : {M : Type 1} → statement M
 put-header-spec =

@@ -6,9 +6,9 @@ use borrow.Author.Needs.{needs}
 use lib.ListN.{length}
 use Rattle.lists.specs.Lists.{flatMap, tabFrom}
 use Rattle.meaning.specs.Block.{at}
-use Rattle.meaning.specs.Flat.{rangesAt}
+use Rattle.meaning.specs.bridge.Flat.{rangesAt}
 use Rattle.automaton.specs.Classes.{edges}
-use Rattle.automaton.specs.Gathered.{rangeFrom, Gathers}
+use Rattle.automaton.specs.bridge.Gathered.{rangeFrom, Gathers}
 use Rattle.automaton.proofs.Laws.Gathering.{gathers-next}
 use Rattle.machine.proofs.gather.gather_place.Statement.{statement}
 use Rattle.machine.proofs.gather.gather_place.Tie as tie

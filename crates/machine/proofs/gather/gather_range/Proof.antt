@@ -1,7 +1,7 @@
 -- `gather::gather_range` meets its contract: a range has one edge or two.
 -- Assumes nothing.
 use borrow.Author.Needs.{needs}
-use Rattle.automaton.specs.Gathered.{rangeFrom}
+use Rattle.automaton.specs.bridge.Gathered.{rangeFrom}
 use Rattle.automaton.proofs.Laws.Gathering.{gathers-both, gathers-low}
 use Rattle.machine.proofs.gather.gather_range.Statement.{statement}
 use Rattle.machine.proofs.gather.gather_range.Tie as tie

@@ -6,10 +6,10 @@ use native.Mathlib.Omega.{arith}
 use borrow.Author.Needs.{needs}
 use lib.ListN.{length}
 use Rattle.lists.specs.Lists.{flatMap, tabFrom}
-use Rattle.meaning.specs.Block.{at}
-use Rattle.meaning.specs.Flat.{patternAt, rangesAt}
+use Rattle.meaning.specs.Block.{at, blockSize}
+use Rattle.meaning.specs.bridge.Flat.{patternAt, rangesAt}
 use Rattle.automaton.specs.Classes.{edges}
-use Rattle.automaton.specs.Gathered.{Gathers}
+use Rattle.automaton.specs.bridge.Gathered.{Gathers}
 use Rattle.automaton.proofs.Laws.Gathering.{gathers-next}
 use Rattle.machine.proofs.gather.gather_rule.Statement.{statement}
 use Rattle.machine.proofs.gather.gather_rule.Tie as tie
@@ -22,7 +22,7 @@ abbrev μ-loop : tie.MeasureT-loop
 μ-loop slots ranges blocks rule words₀ count size met₀ p₀ words met p = size - p
 
 -- a rule has at most eight positions
-few : (s : tie.Start Inv-loop μ-loop) → at (s .args .blocks .now) (75 * s .args .rule) ≤ 8
+few : (s : tie.Start Inv-loop μ-loop) → at (s .args .blocks .now) (blockSize * s .args .rule) ≤ 8
 few s = s .pre .0 .0 .size (s .args .rule) (omega arith)
 
 mul-size : tie.Need-mul-size Inv-loop μ-loop
@@ -72,7 +72,7 @@ unfolding patternAt
 returns c =
     let l = c .before in
     let a = l .before .before .before .before .before .before .args in
-    let e : l .loop .p ≡ at (a .blocks .now) (75 * a .rule) = search needs in
+    let e : l .loop .p ≡ at (a .blocks .now) (blockSize * a .rule) = search needs in
     rw e at (l .loop .inv .2)
 
 pub gather-rule-spec : {M : Type 1} → statement M

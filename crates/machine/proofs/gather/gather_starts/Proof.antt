@@ -7,9 +7,9 @@ use native.Mathlib.Omega.{arith}
 use borrow.Author.Needs.{needs}
 use lib.ListN.{length}
 use Rattle.lists.specs.Lists.{flatMap, tabFrom}
-use Rattle.meaning.specs.Flat.{tableAt, groupAt}
+use Rattle.meaning.specs.bridge.Flat.{tableAt, groupAt}
 use Rattle.automaton.specs.Classes.{edges}
-use Rattle.automaton.specs.Gathered.{Gathers}
+use Rattle.automaton.specs.bridge.Gathered.{Gathers}
 use Rattle.automaton.proofs.Laws.Gathering.{gathered, gathers-next}
 use Rattle.machine.proofs.gather.gather_starts.Statement.{statement}
 use Rattle.machine.proofs.gather.gather_starts.Tie as tie

@@ -4,14 +4,15 @@ use mathlib.Core.Path.{_≡_, sym, _∙_}
 use Prim.Native.Nat.{_≤_, _+_, _-_}
 use borrow.Author.Needs.{needs}
 use lib.ListN.{take, drop}
-use Rattle.automaton.specs.Gathered.{placeIn}
+use Rattle.automaton.specs.bridge.Gathered.{placeIn}
 use Rattle.automaton.proofs.Laws.Gathering.{place-start, place-further, place-found, place-end}
 use Rattle.machine.proofs.gather.place_of.Statement.{statement}
 use Rattle.machine.proofs.gather.place_of.Tie as tie
+use Rattle.automaton.specs.Layout.{classesFrom}
 
 abbrev Inv-loop : tie.InvT-loop
 Inv-loop words count start place₀ place =
-    (place ≤ count) × (placeIn start (take count (drop 6 words)) ≡ place + placeIn start (take (count - place) (drop (6 + place) words)))
+    (place ≤ count) × (placeIn start (take count (drop classesFrom words)) ≡ place + placeIn start (take (count - place) (drop (classesFrom + place) words)))
 
 abbrev μ-loop : tie.MeasureT-loop
 μ-loop words count start place₀ place = count - place

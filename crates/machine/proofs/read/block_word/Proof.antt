@@ -6,6 +6,8 @@ use borrow.Author.Needs.{needs}
 use lib.Seq.{getD-drop}
 use Rattle.machine.proofs.read.block_word.Statement.{statement}
 use Rattle.machine.proofs.read.block_word.Tie as tie
+use Rattle.meaning.specs.Block.{blockSize}
+use Rattle.automaton.specs.Layout.{blocksFrom}
 
 mul-result : tie.Need-mul-result
 mul-result c = search needs
@@ -25,7 +27,7 @@ shared-slice-read-result c = search needs
 returns : tie.Need-returns
 returns c =
     let a = c .before .args in
-    sym (getD-drop (17222 + 75 * a .group) (a .words .now) (a .i) 0)
+    sym (getD-drop (blocksFrom + blockSize * a .group) (a .words .now) (a .i) 0)
 
 pub block-word-spec : {M : Type 1} → statement M
 block-word-spec =

@@ -5,7 +5,7 @@ use Prim.Native.Nat.{_+_, _-_, _≤_, _<_}
 use native.Mathlib.Omega.{arith}
 use lib.ListN.{length}
 use Rattle.meaning.specs.Block.{at}
-use Rattle.automaton.specs.Layout.{wordCount}
+use Rattle.automaton.specs.Layout.{wordCount, classesFrom}
 use Rattle.automaton.proofs.Laws.Words.{sound-header}
 use Rattle.automaton.proofs.Laws.Reading.{first-start, class-found}
 use Rattle.machine.proofs.read.class_of.Statement.{statement}
@@ -13,7 +13,7 @@ use Rattle.machine.proofs.read.class_of.Tie as tie
 
 abbrev Inv-loop : tie.InvT-loop
 Inv-loop words c low₀ high₀ low high =
-    (wordCount ≤ length words) × (at words 1 ≤ 64) × (low < high) × (high ≤ at words 1) × (at words (6 + low) ≤ c) × (high < at words 1 → c < at words (6 + high))
+    (wordCount ≤ length words) × (at words 1 ≤ 64) × (low < high) × (high ≤ at words 1) × (at words (classesFrom + low) ≤ c) × (high < at words 1 → c < at words (classesFrom + high))
 
 abbrev μ-loop : tie.MeasureT-loop
 μ-loop words c low₀ high₀ low high = high - low

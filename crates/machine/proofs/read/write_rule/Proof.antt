@@ -5,7 +5,7 @@ use Prim.Native.Nat.{_+_, _*_, _≤_}
 use native.Mathlib.Nat.{zero-add}
 use borrow.Author.Needs.{needs}
 use lib.ListN.{length}
-use Rattle.meaning.specs.Block.{at}
+use Rattle.meaning.specs.Block.{at, blockSize}
 use Rattle.automaton.proofs.Laws.Reading.{blocksOf, blocks-long, blocks-size, blocks-count, blocks-written}
 use Rattle.machine.proofs.read.write_rule.Statement.{statement}
 use Rattle.machine.proofs.read.write_rule.Tie as tie
@@ -33,7 +33,7 @@ write-group-requires c κs =
       (
         (subst (λ n. n ≤ 8) size (small .0), subst (λ n. n ≤ 8) few (small .1)),
         (
-          subst (λ n. n ≤ length (a .store .now)) (size ∙ sym (zero-add (at (blocksOf w) (75 * g)))) (s .pre .1 .1 .0),
+          subst (λ n. n ≤ length (a .store .now)) (size ∙ sym (zero-add (at (blocksOf w) (blockSize * g)))) (s .pre .1 .1 .0),
           subst (λ n. a .count + n ≤ length (a .output .now)) few (s .pre .1 .1 .1),
         ),
       ),

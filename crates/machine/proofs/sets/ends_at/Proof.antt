@@ -6,6 +6,7 @@ use borrow.Author.Needs.{needs}
 use borrow.Author.Tests.{eq-eqb, ne-eqb}
 use Rattle.machine.proofs.sets.ends_at.Statement.{statement}
 use Rattle.machine.proofs.sets.ends_at.Tie as tie
+use Rattle.meaning.specs.Block.{blockSize}
 
 mul-if1 : tie.Need-mul-if1
 mul-if1 c = search needs
@@ -17,7 +18,7 @@ shared-slice-read-if1 : tie.Need-shared-slice-read-if1
 shared-slice-read-if1 c = search needs
 
 cast-if1 : tie.Need-cast-if1
-cast-if1 c = omega (arith, c .shared-slice-known .given (75 * c .before .args .rule))
+cast-if1 c = omega (arith, c .shared-slice-known .given (blockSize * c .before .args .rule))
 
 returns : tie.Need-returns
 returns c = rw (ne-eqb _ _ (c .if1 .taken))

@@ -4,7 +4,7 @@ use Prim.Native.Nat.{_+_, _*_, _≤_}
 use native.Mathlib.Omega.{arith}
 use borrow.Author.Needs.{needs}
 use borrow.Author.Tests.{lt-ltb, le-ltb}
-use Rattle.meaning.specs.Block.{at}
+use Rattle.meaning.specs.Block.{at, blockSize}
 use Rattle.machine.proofs.sets.goes_on.Statement.{statement}
 use Rattle.machine.proofs.sets.goes_on.Tie as tie
 
@@ -18,7 +18,7 @@ shared-slice-read-if1 : tie.Need-shared-slice-read-if1
 shared-slice-read-if1 c = search needs
 
 cast-if1 : tie.Need-cast-if1
-cast-if1 c = omega (arith, c .shared-slice-known4 .given (75 * c .before .before .before .before .args .rule))
+cast-if1 c = omega (arith, c .shared-slice-known4 .given (blockSize * c .before .before .before .before .args .rule))
 
 mul-in-ranges : tie.Need-mul-in-ranges
 mul-in-ranges c = search needs
@@ -30,7 +30,7 @@ in-ranges-requires : tie.Need-in-ranges-requires
 in-ranges-requires c κs =
     let s = c .before .before .before .before .before in
     let f = s .pre .0 in
-    let z : at (s .args .blocks .now) (75 * s .args .rule) ≤ 8 = f .size (s .args .rule) (omega arith) in
+    let z : at (s .args .blocks .now) (blockSize * s .args .rule) ≤ 8 = f .size (s .args .rule) (omega arith) in
     (omega arith, omega arith, f .few (8 * s .args .rule + s .args .depth) (omega arith))
 
 returns : tie.Need-returns

@@ -15,9 +15,10 @@ use Rattle.meaning.proofs.Laws.Extremes.{none-below, below-again, below-fails}
 use Rattle.automaton.specs.Sound.{classCount, soundStarts}
 use Rattle.machine.proofs.sound_words.starts_sound.Statement.{statement}
 use Rattle.machine.proofs.sound_words.starts_sound.Tie as tie
+use Rattle.automaton.specs.Layout.{classesFrom}
 
 abbrev rises : List ℕ → ℕ → Bool
-rises w k = ltb (at w (6 + k)) (at w (7 + k))
+rises w k = ltb (at w (classesFrom + k)) (at w (classesFrom + 1 + k))
 
 abbrev Inv-loop : tie.InvT-loop
 Inv-loop words classes k₀ k = (k ≤ pred (classCount words)) × (forBelow k (rises words) ≡ true)

@@ -9,13 +9,14 @@ use borrow.Author.Tests.{lt-ltb, le-ltb}
 use native.Mathlib.Omega.{arith}
 use lib.ListN.{length, set, length-set}
 use Rattle.meaning.specs.Table.{Table}
-use Rattle.meaning.specs.Flat.{tableAt}
+use Rattle.meaning.specs.bridge.Flat.{tableAt}
 use Rattle.automaton.specs.States.{states}
-use Rattle.automaton.specs.Noted.{NotedAt, Kept}
+use Rattle.automaton.specs.bridge.Noted.{NotedAt, Kept}
 use Rattle.automaton.proofs.Laws.Noting.{kept-same, kept-set, kept-on}
 use Rattle.automaton.proofs.Laws.Building.{rules-counted, noted-start, noted-below, noted-count, noted-words}
 use Rattle.machine.proofs.states.build_states.Statement.{statement}
 use Rattle.machine.proofs.states.build_states.Tie as tie
+use Rattle.automaton.specs.Layout.{statesFrom}
 
 abbrev Inv-loop : tie.InvT-loop
 Inv-loop slots ranges blocks rules classes words₀ sets₀ count₀ state₀ words sets count state =
@@ -33,7 +34,7 @@ table s = let a = s .args in tableAt (a .slots .now) (a .ranges .now) (a .blocks
 
 -- the words since the function began
 kept : (l : tie.At-loop Inv-loop μ-loop) (w : List ℕ) → Kept (l .loop .words) w → Kept (entry l .args .words .now) w
-kept l w k = kept-on (kept-set (entry l .args .words .now) 70 0 (omega arith) (omega arith)) (kept-on (l .loop .inv .2) k)
+kept l w k = kept-on (kept-set (entry l .args .words .now) statesFrom 0 (omega arith) (omega arith)) (kept-on (l .loop .inv .2) k)
 
 slice-write-words : tie.Need-slice-write-words Inv-loop μ-loop
 slice-write-words c = omega arith
@@ -52,7 +53,7 @@ loop-holds c =
     let h = s .pre .1 .1 in (
       omega arith,
       refl,
-      kept-same (set (a .words .now) 70 0),
+      kept-same (set (a .words .now) statesFrom 0),
       noted-start (table s) (a .rules) (a .words .now) (a .sets .now) (c .all-rules .result) (h .0) (h .1) (omega arith) (g .3) (h .2)
           (rules-counted (a .slots .now) (a .ranges .now) (a .blocks .now) (a .rules) false) (c .all-rules .ensures .0) (c .all-rules .ensures .1),
     )

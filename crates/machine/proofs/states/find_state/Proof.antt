@@ -7,6 +7,7 @@ use native.Mathlib.Omega.{arith}
 use Rattle.automaton.proofs.Laws.Looking.{Looked, looked-from, looked-next, looked-found, looked-end}
 use Rattle.machine.proofs.states.find_state.Statement.{statement}
 use Rattle.machine.proofs.states.find_state.Tie as tie
+use Rattle.automaton.specs.Layout.{statesFrom}
 
 abbrev Inv-loop : tie.InvT-loop
 Inv-loop words sets from count depth set i₀ i = Looked words sets count depth set i
@@ -36,7 +37,7 @@ shared-slice-read-if2 : tie.Need-shared-slice-read-if2 Inv-loop μ-loop
 shared-slice-read-if2 c = omega arith
 
 cast-if2 : tie.Need-cast-if2 Inv-loop μ-loop
-cast-if2 c = omega (arith, c .shared-slice-known2 .given (70 + 3 * c .before .before .before .before .loop .i))
+cast-if2 c = omega (arith, c .shared-slice-known2 .given (statesFrom + 3 * c .before .before .before .before .loop .i))
 
 returns : tie.Need-returns Inv-loop μ-loop
 returns c =

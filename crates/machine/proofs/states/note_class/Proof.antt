@@ -7,13 +7,14 @@ use borrow.Author.Needs.{needs}
 use native.Mathlib.Omega.{arith}
 use lib.ListN.{set, length-set}
 use Rattle.meaning.specs.Table.{Table}
-use Rattle.meaning.specs.Flat.{tableAt}
+use Rattle.meaning.specs.bridge.Flat.{tableAt}
 use Rattle.automaton.specs.Sound.{depthWord}
-use Rattle.automaton.specs.Build.{stateOf, numberIn, statesAt}
+use Rattle.automaton.specs.bridge.Build.{stateOf, numberIn, statesAt}
 use Rattle.automaton.proofs.Laws.Noting.{kept-same, kept-set, kept-on, onward, too-large}
 use Rattle.automaton.proofs.Laws.Meeting.{noted-depths, Ways, ways-on}
 use Rattle.machine.proofs.states.note_class.Statement.{statement}
 use Rattle.machine.proofs.states.note_class.Tie as tie
+use Rattle.automaton.specs.Layout.{statesFrom, targetsFrom}
 
 abbrev entry : tie.After-longer-rules → tie.Start
 entry l = l .before .before .before .before .before .before .before .before .before
@@ -128,7 +129,7 @@ returns-2 c =
     let a = s .args in
     let g = s .pre .1 in
     let p = f .before .before .before .if1 .left in
-    onward (kept-set (a .words .now) (838 + 64 * a .state + a .class) (f .find-state .result) (omega arith) (omega arith))
+    onward (kept-set (a .words .now) (targetsFrom + 64 * a .state + a .class) (f .find-state .result) (omega arith) (omega arith))
     (ways l .there p (f .find-state .result) (number f) (c .if2 .taken))
 
 same-length-3 : tie.Need-same-length-3
@@ -197,9 +198,9 @@ returns-4 c =
     let a = s .args in
     let g = s .pre .1 in
     let p = f .before .before .before .if1 .left in
-    let w = set (a .words .now) (70 + 3 * a .count) (depthWord (a .words .now) (a .state) + 1) in
-    onward (kept-on (kept-set (a .words .now) (70 + 3 * a .count) (depthWord (a .words .now) (a .state) + 1) (omega arith) (omega arith))
-    (kept-set w (838 + 64 * a .state + a .class) (a .count) (omega arith) (omega arith)))
+    let w = set (a .words .now) (statesFrom + 3 * a .count) (depthWord (a .words .now) (a .state) + 1) in
+    onward (kept-on (kept-set (a .words .now) (statesFrom + 3 * a .count) (depthWord (a .words .now) (a .state) + 1) (omega arith) (omega arith))
+    (kept-set w (targetsFrom + 64 * a .state + a .class) (a .count) (omega arith) (omega arith)))
     (ways l .new p (f .find-state .result) (number f) (omega arith) (omega arith))
 
 pub note-class-spec : {M : Type 1} → statement M

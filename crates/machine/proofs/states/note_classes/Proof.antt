@@ -7,9 +7,9 @@ use native.Mathlib.Numerals.{add-one}
 use native.Mathlib.Omega.{arith}
 use lib.ListN.{length}
 use Rattle.meaning.specs.Table.{Table}
-use Rattle.meaning.specs.Flat.{tableAt}
+use Rattle.meaning.specs.bridge.Flat.{tableAt}
 use Rattle.automaton.specs.Classes.{starts}
-use Rattle.automaton.specs.Noted.{NotedAt, Kept}
+use Rattle.automaton.specs.bridge.Noted.{NotedAt, Kept}
 use Rattle.automaton.proofs.Laws.Noting.{kept-same, kept-on, onward, too-large}
 use Rattle.automaton.proofs.Laws.Meeting.{noted-here, row-done}
 use Rattle.machine.proofs.states.note_classes.Statement.{statement}

@@ -7,16 +7,17 @@ use Prim.Native.Nat.{ℕ, suc, _+_, _*_, _≤_}
 use native.Mathlib.Omega.{arith}
 use lib.ListN.{length, set, length-set}
 use Rattle.meaning.specs.Table.{Table}
-use Rattle.meaning.specs.Flat.{tableAt}
+use Rattle.meaning.specs.bridge.Flat.{tableAt}
 use Rattle.automaton.specs.Classes.{starts}
 use Rattle.automaton.specs.States.{acceptOf}
 use Rattle.automaton.specs.Sound.{depthWord}
-use Rattle.automaton.specs.Noted.{NotedAt, Kept}
+use Rattle.automaton.specs.bridge.Noted.{NotedAt, Kept}
 use Rattle.automaton.proofs.Laws.Good.{stateAt}
 use Rattle.automaton.proofs.Laws.Noting.{kept-set, kept-on, onward}
 use Rattle.automaton.proofs.Laws.Meeting.{accepts-noted, accepting, row-done}
 use Rattle.machine.proofs.states.note_state.Statement.{statement}
 use Rattle.machine.proofs.states.note_state.Tie as tie
+use Rattle.automaton.specs.Layout.{statesFrom}
 
 abbrev table : tie.Start → Table
 table s = let a = s .args in tableAt (a .slots .now) (a .ranges .now) (a .blocks .now) (a .rules) false
@@ -31,7 +32,7 @@ entry k = k .before .before .before .before .before .before .before .before .bef
 abbrev words : tie.After-accept-of → List ℕ
 words k =
     let a = entry k .args in
-    set (set (a .words .now) (71 + 3 * a .state) (k .before .accept-at-end-of .result)) (72 + 3 * a .state) (k .accept-of .result)
+    set (set (a .words .now) (statesFrom + 1 + 3 * a .state) (k .before .accept-at-end-of .result)) (statesFrom + 2 + 3 * a .state) (k .accept-of .result)
 
 noted : (k : tie.After-accept-of) →
     let s = entry k in
@@ -48,8 +49,8 @@ kept k =
     let a = entry k .args in
     let few = entry k .pre .1 .1 .few in
     let h = entry k .pre .1 .0 .3 in
-    kept-on (kept-set (a .words .now) (71 + 3 * a .state) (k .before .accept-at-end-of .result) (omega arith) (omega arith))
-    (kept-set (set (a .words .now) (71 + 3 * a .state) (k .before .accept-at-end-of .result)) (72 + 3 * a .state) (k .accept-of .result) (omega arith) (omega arith))
+    kept-on (kept-set (a .words .now) (statesFrom + 1 + 3 * a .state) (k .before .accept-at-end-of .result) (omega arith) (omega arith))
+    (kept-set (set (a .words .now) (statesFrom + 1 + 3 * a .state) (k .before .accept-at-end-of .result)) (statesFrom + 2 + 3 * a .state) (k .accept-of .result) (omega arith) (omega arith))
 
 mul-depth : tie.Need-mul-depth
 mul-depth c = omega arith

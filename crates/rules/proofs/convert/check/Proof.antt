@@ -6,6 +6,7 @@ use Rattle.rules.proofs.Laws.Flattened.{pad-zeros}
 use Rattle.rules.proofs.Laws.Converting.{loaded-checked, refused-checked}
 use Rattle.rules.proofs.convert.check.Statement.{statement}
 use Rattle.rules.proofs.convert.check.Tie as tie
+use Rattle.meaning.specs.Block.{blocksSize}
 
 slice-aggregate-load-table : tie.Need-slice-aggregate-load-table
 slice-aggregate-load-table c = search needs
@@ -17,7 +18,7 @@ slice-aggregate-load-table-3 : tie.Need-slice-aggregate-load-table-3
 slice-aggregate-load-table-3 c = search needs
 
 load-table-requires : tie.Need-load-table-requires
-load-table-requires c κs = (sym (pad-zeros 264), sym (pad-zeros 2112), sym (pad-zeros 2475))
+load-table-requires c κs = (sym (pad-zeros 264), sym (pad-zeros 2112), sym (pad-zeros blocksSize))
 
 enum-known-loaded : tie.Need-enum-known-loaded
 enum-known-loaded c = search needs

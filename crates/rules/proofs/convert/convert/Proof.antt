@@ -10,6 +10,7 @@ use Rattle.rules.proofs.Laws.Loading.{each-known}
 use Rattle.rules.proofs.Laws.Converting.{loaded-ready, loaded-direct, refused-direct}
 use Rattle.rules.proofs.convert.convert.Statement.{statement}
 use Rattle.rules.proofs.convert.convert.Tie as tie
+use Rattle.meaning.specs.Block.{blocksSize}
 
 slice-aggregate-load-table : tie.Need-slice-aggregate-load-table
 slice-aggregate-load-table c = search needs
@@ -21,7 +22,7 @@ slice-aggregate-load-table-3 : tie.Need-slice-aggregate-load-table-3
 slice-aggregate-load-table-3 c = search needs
 
 load-table-requires : tie.Need-load-table-requires
-load-table-requires c κs = (sym (pad-zeros 264), sym (pad-zeros 2112), sym (pad-zeros 2475))
+load-table-requires c κs = (sym (pad-zeros 264), sym (pad-zeros 2112), sym (pad-zeros blocksSize))
 
 -- where the table has been loaded: the function's entry, the bytes and the input's characters
 abbrev start : tie.After-load-table → tie.Start

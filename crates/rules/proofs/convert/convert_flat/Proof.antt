@@ -6,8 +6,8 @@ use native.Mathlib.Omega.{arith}
 use borrow.Author.Needs.{needs}
 use lib.ListN.{length}
 use Rattle.meaning.specs.Table.{Table}
-use Rattle.meaning.specs.Flat.{tableAt}
-use Rattle.rules.specs.Answers.{choiceOf}
+use Rattle.meaning.specs.bridge.Flat.{tableAt}
+use Rattle.rules.specs.bridge.Readings.{choiceOf}
 use Rattle.meaning.proofs.Laws.Writing.{Taken, choice-taken, Reached, reached-start, reached-close, reached-stop, reached-room, reached-step}
 use Rattle.rules.proofs.convert.convert_flat.Statement.{statement}
 use Rattle.rules.proofs.convert.convert_flat.Tie as tie

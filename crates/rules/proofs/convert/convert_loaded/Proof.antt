@@ -5,7 +5,7 @@ use Prim.Native.Nat.{_*_, _≤_, _<_}
 use native.Mathlib.Omega.{arith}
 use borrow.Author.Needs.{needs}
 use lib.ListN.{length}
-use Rattle.meaning.specs.Flat.{expansionAt}
+use Rattle.meaning.specs.bridge.Flat.{expansionAt}
 use Rattle.rules.proofs.Laws.Converting.{expansion-eight, flat-long, flat-narrow, flat-converted, expansion-fits}
 use Rattle.rules.proofs.convert.convert_loaded.Statement.{statement}
 use Rattle.rules.proofs.convert.convert_loaded.Tie as tie

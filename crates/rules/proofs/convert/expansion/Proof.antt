@@ -6,14 +6,14 @@ use mathlib.Core.Path.{_≡_, ap, _∙_}
 use Prim.Native.Nat.{_+_, _*_, _-_, _≤_, _<_}
 use native.Mathlib.Numerals.{add-one}
 use native.Mathlib.Omega.{arith}
-use Rattle.meaning.specs.Block.{at}
-use Rattle.meaning.specs.Flat.{expansionFrom}
+use Rattle.meaning.specs.Block.{at, blockSize}
+use Rattle.meaning.specs.bridge.Flat.{expansionFrom}
 use Rattle.rules.proofs.convert.expansion.Statement.{statement}
 use Rattle.rules.proofs.convert.expansion.Tie as tie
 
 abbrev Inv-loop : tie.InvT-loop
 Inv-loop blocks rules defaulted most₀ group₀ most group =
-    (group ≤ rules) × (most ≡ expansionFrom blocks group (cond defaulted (at blocks 2402) 0)) × (most < 65536)
+    (group ≤ rules) × (most ≡ expansionFrom blocks group (cond defaulted (at blocks (32 * blockSize + 2)) 0)) × (most < 65536)
 
 abbrev μ-loop : tie.MeasureT-loop
 μ-loop blocks rules defaulted most₀ group₀ most group = rules - group
@@ -22,13 +22,13 @@ shared-slice-read-most : tie.Need-shared-slice-read-most Inv-loop μ-loop
 shared-slice-read-most c = omega arith
 
 cast-most : tie.Need-cast-most Inv-loop μ-loop
-cast-most c = omega (arith, c .shared-slice-known .given 2402)
+cast-most c = omega (arith, c .shared-slice-known .given (32 * blockSize + 2))
 
 loop-holds : tie.Need-loop-holds Inv-loop μ-loop
 unfolding expansionFrom
 loop-holds c =
     ⊎-elim
-    (λ w. let e : c .if1 .most ≡ at (c .before .args .blocks .now) 2402 = w .2 in let h = w .1 .given 2402 in (omega arith, rw (w .0 .taken) e, omega arith))
+    (λ w. let e : c .if1 .most ≡ at (c .before .args .blocks .now) (32 * blockSize + 2) = w .2 in let h = w .1 .given (32 * blockSize + 2) in (omega arith, rw (w .0 .taken) e, omega arith))
     (λ w. let e : c .if1 .most ≡ 0 = w .1 in (omega arith, rw (w .0 .left) e, omega arith))
     (c .if1 .came)
 
@@ -45,7 +45,7 @@ shared-slice-read-count : tie.Need-shared-slice-read-count Inv-loop μ-loop
 shared-slice-read-count c = omega arith
 
 cast-count : tie.Need-cast-count Inv-loop μ-loop
-cast-count c = omega (arith, c .shared-slice-known2 .given (75 * c .before .before .loop .group + 2))
+cast-count c = omega (arith, c .shared-slice-known2 .given (blockSize * c .before .before .loop .group + 2))
 
 add-group : tie.Need-add-group Inv-loop μ-loop
 add-group c = omega arith
@@ -56,10 +56,10 @@ loop-less c = omega arith
 loop-again : tie.Need-loop-again Inv-loop μ-loop
 unfolding expansionFrom
 loop-again c =
-    let count = at (c .before .before .before .before .before .args .blocks .now) (75 * c .before .before .before .loop .group + 2) in
+    let count = at (c .before .before .before .before .before .args .blocks .now) (blockSize * c .before .before .before .loop .group + 2) in
     let inv = c .before .before .before .loop .inv in
     let test = c .before .before .loop-test .taken in
-    let known = c .before .shared-slice-known2 .given (75 * c .before .before .before .loop .group + 2) in
+    let known = c .before .shared-slice-known2 .given (blockSize * c .before .before .before .loop .group + 2) in
     rw add-one
     (⊎-elim
     (λ w. let e : c .if2 .most ≡ count = w .1 in let h : c .before .before .before .loop .most < count = w .0 .taken in (omega arith, omega arith, omega arith))
@@ -70,7 +70,7 @@ returns : tie.Need-returns Inv-loop μ-loop
 returns c =
     let l = c .before .loop .inv in
     let e : c .before .loop .group ≡ c .before .before .before .args .rules = omega arith in
-    l .1 ∙ ap (λ n. expansionFrom (c .before .before .before .args .blocks .now) n (cond (c .before .before .before .args .defaulted) (at (c .before .before .before .args .blocks .now) 2402) 0)) e
+    l .1 ∙ ap (λ n. expansionFrom (c .before .before .before .args .blocks .now) n (cond (c .before .before .before .args .defaulted) (at (c .before .before .before .args .blocks .now) (32 * blockSize + 2)) 0)) e
 
 pub expansion-spec : {M : Type 1} → statement M
 expansion-spec =

@@ -6,7 +6,7 @@ use native.Mathlib.Omega.{arith}
 use borrow.Author.Needs.{needs}
 use borrow.Author.Tests.{eq-eqb, ne-eqb}
 use Rattle.lists.specs.Decide.{select}
-use Rattle.rules.specs.Summary.{gap}
+use Rattle.rules.specs.bridge.Summary.{gap}
 use Rattle.rules.proofs.load.finish_load.Statement.{statement}
 use Rattle.rules.proofs.load.finish_load.Tie as tie
 

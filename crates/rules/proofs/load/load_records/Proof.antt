@@ -5,7 +5,7 @@ use Prim.Native.Nat.{_-_}
 use native.Mathlib.Omega.{arith}
 use borrow.Author.Needs.{needs}
 use lib.ListN.{length}
-use Rattle.rules.specs.Answers.{recordOf, stepOf}
+use Rattle.rules.specs.bridge.Readings.{recordOf, stepOf}
 use Rattle.rules.proofs.Laws.Represents.{arrays-same}
 use Rattle.rules.proofs.Laws.Loading.{Passed, passed-start, passed-room, passed-end, passed-stop, passed-on, each-known}
 use Rattle.rules.proofs.load.load_records.Statement.{statement}

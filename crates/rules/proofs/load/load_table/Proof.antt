@@ -8,13 +8,14 @@ use Prim.Native.Nat.{_%_, _<_}
 use lib.ListN.{length, replicate}
 use Rattle.lists.specs.Lists.{Each}
 use Rattle.lists.proofs.Laws.Parts.{length-pad}
-use Rattle.rules.specs.Summary.{Arrays}
-use Rattle.rules.specs.Answers.{stepOf}
+use Rattle.rules.specs.bridge.Summary.{Arrays}
+use Rattle.rules.specs.bridge.Readings.{stepOf}
 use Rattle.rules.proofs.Laws.Flattened.{emptied, pad-zeros}
 use Rattle.rules.proofs.Laws.Represents.{arrays-same}
 use Rattle.rules.proofs.Laws.Loading.{each-known, ragged-loaded, records-loaded, end-needs, end-loaded}
 use Rattle.rules.proofs.load.load_table.Statement.{statement}
 use Rattle.rules.proofs.load.load_table.Tie as tie
+use Rattle.meaning.specs.Block.{blocksSize}
 
 returns : tie.Need-returns
 returns c = ragged-loaded _ _ _ _ (c .if1 .taken)
@@ -25,7 +26,7 @@ slice-aggregate-load-records c = search needs
 load-records-requires : tie.Need-load-records-requires
 load-records-requires c κs =
     let s = c .before .before .before .before .before .before .before .before .before in
-    (c .before .before .before .before .if1 .left, (ap length (s .pre .0) ∙ length-pad 264 _, ap length (s .pre .1) ∙ length-pad 2112 _, ap length (s .pre .2) ∙ length-pad 2475 _, refl))
+    (c .before .before .before .before .if1 .left, (ap length (s .pre .0) ∙ length-pad 264 _, ap length (s .pre .1) ∙ length-pad 2112 _, ap length (s .pre .2) ∙ length-pad blocksSize _, refl))
 
 -- where the records have been taken: the function's entry, the bytes, the arrays of zeros
 abbrev start : tie.After-load-records → tie.Start

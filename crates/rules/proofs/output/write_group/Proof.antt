@@ -7,21 +7,21 @@ use native.Mathlib.Omega.{arith}
 use borrow.Author.Needs.{needs}
 use lib.ListN.{length, take, drop, set, length-set}
 use lib.Seq.{paste, paste-zero}
-use Rattle.meaning.specs.Block.{at}
+use Rattle.meaning.specs.Block.{at, blockSize}
 use Rattle.meaning.proofs.Laws.Writing.{groupText, written-more, written-all}
 use Rattle.rules.proofs.output.write_group.Statement.{statement}
 use Rattle.rules.proofs.output.write_group.Tie as tie
 
 -- the group's characters, and what it writes for them
 abbrev word : List ℕ → ℕ → List ℕ → ℕ → List ℕ
-word blocks group input place = take (at blocks (75 * group)) (drop place input)
+word blocks group input place = take (at blocks (blockSize * group)) (drop place input)
 
 abbrev text : List ℕ → ℕ → List ℕ → ℕ → List ℕ
 text blocks group input place = groupText blocks group (word blocks group input place)
 
 abbrev Inv-loop : tie.InvT-loop
 Inv-loop blocks group input place output₀ count base size number j₀ output j =
-    (j ≤ at blocks (75 * group + 2)) × (length output ≡ length output₀) × (output ≡ paste output₀ count (text blocks group input place) j)
+    (j ≤ at blocks (blockSize * group + 2)) × (length output ≡ length output₀) × (output ≡ paste output₀ count (text blocks group input place) j)
 
 abbrev μ-loop : tie.MeasureT-loop
 μ-loop blocks group input place output₀ count base size number j₀ output j = number - j
@@ -90,7 +90,7 @@ loop-again c =
     let sum = c .sum-at .result in
     let put : List ℕ → List ℕ = λ o. set o (a .count + l .j) sum in
     let front = paste (a .output .now) (a .count) (text b (a .group) (a .input .now) (a .place)) (l .j) in
-    let turn : l .j < at b (75 * a .group + 2) = c .before .loop-test .taken in (
+    let turn : l .j < at b (blockSize * a .group + 2) = c .before .loop-test .taken in (
       omega (arith, turn),
       length-set (l .output) (a .count + l .j) sum ∙ l .inv .1,
       ap put (l .inv .2) ∙ ap (set front (a .count + l .j)) (c .sum-at .ensures)
@@ -108,7 +108,7 @@ returns c =
     let a = c .before .before .before .before .before .before .before .args in
     let l = c .before .loop in
     let b = a .blocks .now in
-    let e : l .j ≡ at b (75 * a .group + 2) = search needs in (
+    let e : l .j ≡ at b (blockSize * a .group + 2) = search needs in (
       refl,
       l .inv .2 ∙ ap (paste (a .output .now) (a .count) (text b (a .group) (a .input .now) (a .place))) e
           ∙ written-all b (a .group) (word b (a .group) (a .input .now) (a .place)) (a .output .now) (a .count),

@@ -10,9 +10,9 @@ use borrow.Author.Tests.{lt-ltb, le-ltb}
 use lib.Dec.{ltb}
 use lib.ListN.{drop}
 use Rattle.meaning.specs.Table.{defaultNumber}
-use Rattle.meaning.specs.Block.{at}
+use Rattle.meaning.specs.Block.{at, blockSize}
 use Rattle.meaning.specs.Meaning.{choose}
-use Rattle.meaning.specs.Flat.{tableAt}
+use Rattle.meaning.specs.bridge.Flat.{tableAt}
 use Rattle.meaning.proofs.Laws.Choosing.{KeptOf, kept-none, kept-skip, kept-longer, kept-shorter, kept-choose}
 use Rattle.rules.proofs.pattern.choose_at.Statement.{statement}
 use Rattle.rules.proofs.pattern.choose_at.Tie as tie
@@ -38,7 +38,7 @@ shared-slice-read-size : tie.Need-shared-slice-read-size Inv-loop μ-loop
 shared-slice-read-size c = omega arith
 
 cast-size : tie.Need-cast-size Inv-loop μ-loop
-cast-size c = omega (arith, c .shared-slice-known5 .given (75 * c .before .before .loop .r))
+cast-size c = omega (arith, c .shared-slice-known5 .given (blockSize * c .before .before .loop .r))
 
 fits-at-requires : tie.Need-fits-at-requires Inv-loop μ-loop
 fits-at-requires c κs =
@@ -59,7 +59,7 @@ loop-again c =
     let u = drop (a .at) (a .input .now) in
     let r = l .loop .r in
     let i : r < a .rules = omega arith in
-    let z : at (a .blocks .now) (75 * r) ≤ 8 = s .pre .0 .size r (omega arith) in
+    let z : at (a .blocks .now) (blockSize * r) ≤ 8 = s .pre .0 .size r (omega arith) in
     let shorter = kept-shorter (a .slots .now) (a .ranges .now) (a .blocks .now) (a .rules) (a .defaulted) u r (l .loop .best) (l .loop .least) i in
     let skip = kept-skip (a .slots .now) (a .ranges .now) (a .blocks .now) (a .rules) (a .defaulted) u r (l .loop .best) (l .loop .least) i in
     let longer = kept-longer (a .slots .now) (a .ranges .now) (a .blocks .now) (a .rules) (a .defaulted) u r (l .loop .best) (l .loop .least) i in (

@@ -5,7 +5,7 @@ use mathlib.Core.Path.{sym}
 use Prim.Native.Nat.{_*_, _≤_}
 use native.Mathlib.Omega.{arith}
 use borrow.Author.Needs.{needs}
-use Rattle.meaning.specs.Block.{at}
+use Rattle.meaning.specs.Block.{at, blockSize}
 use Rattle.meaning.proofs.Laws.Choosing.{flat-short, flat-early, flat-word}
 use Rattle.rules.proofs.pattern.fits_at.Statement.{statement}
 use Rattle.rules.proofs.pattern.fits_at.Tie as tie
@@ -20,7 +20,7 @@ shared-slice-read-size : tie.Need-shared-slice-read-size
 shared-slice-read-size c = search needs
 
 cast-size : tie.Need-cast-size
-cast-size c = omega (arith, c .shared-slice-known5 .given (75 * c .before .before .before .before .before .args .group))
+cast-size c = omega (arith, c .shared-slice-known5 .given (blockSize * c .before .before .before .before .before .args .group))
 
 sub-left : tie.Need-sub-left
 sub-left c = search needs
@@ -54,7 +54,7 @@ positions-fit-requires : tie.Need-positions-fit-requires
 positions-fit-requires c κs =
     let s = c .before .before .before .before .before .before .before .before in
     let f = s .pre .0 in
-    let z : at (s .args .blocks .now) (75 * s .args .group) ≤ 8 = f .size (s .args .group) (omega arith) in
+    let z : at (s .args .blocks .now) (blockSize * s .args .group) ≤ 8 = f .size (s .args .group) (omega arith) in
     ((omega arith, omega arith, omega arith), λ p h. f .few p (omega arith))
 
 returns-3 : tie.Need-returns-3

@@ -6,7 +6,7 @@ use Prim.Native.Nat.{_≤_, _+_, _-_}
 use native.Mathlib.Omega.{arith}
 use Rattle.meaning.specs.Table.{inRanges}
 use Rattle.meaning.specs.Block.{at}
-use Rattle.meaning.specs.Flat.{rangesAt}
+use Rattle.meaning.specs.bridge.Flat.{rangesAt}
 use Rattle.meaning.proofs.Laws.Choosing.{inFrom, inFrom-start, inFrom-next, inFrom-end}
 use Rattle.rules.proofs.pattern.in_ranges.Statement.{statement}
 use Rattle.rules.proofs.pattern.in_ranges.Tie as tie

@@ -8,7 +8,7 @@ use borrow.Author.Tests.{not-true, not-false}
 use lib.ListN.{take, drop}
 use Rattle.lists.specs.Lists.{tabFrom}
 use Rattle.meaning.specs.Value.{fitsWord}
-use Rattle.meaning.specs.Flat.{rangesAt}
+use Rattle.meaning.specs.bridge.Flat.{rangesAt}
 use Rattle.meaning.proofs.Laws.Choosing.{fitsFrom, fitsFrom-start, fitsFrom-next, fitsFrom-end}
 use Rattle.rules.proofs.pattern.positions_fit.Statement.{statement}
 use Rattle.rules.proofs.pattern.positions_fit.Tie as tie

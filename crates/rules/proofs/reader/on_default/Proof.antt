@@ -5,7 +5,7 @@ use borrow.Author.Needs.{needs}
 use Rattle.lists.proofs.Laws.Tests.{select-here, select-next, select-last}
 use Rattle.meaning.specs.Refusal.{Outcome, refused, accepted}
 use Rattle.meaning.specs.Record.{default}
-use Rattle.rules.specs.Summary.{admit}
+use Rattle.rules.specs.bridge.Summary.{admit}
 use Rattle.rules.specs.declared.reader.Reader.{Reader}
 use Rattle.rules.proofs.Laws.Stepping.{kept, changed}
 use Rattle.rules.proofs.reader.on_default.Statement.{statement}

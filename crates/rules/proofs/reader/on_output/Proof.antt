@@ -10,7 +10,7 @@ use native.Mathlib.Omega.{arith}
 use Rattle.lists.proofs.Laws.Tests.{select-here, select-next, select-last}
 use Rattle.meaning.specs.Refusal.{Outcome, refused, accepted}
 use Rattle.meaning.specs.Record.{output}
-use Rattle.rules.specs.Summary.{admit, gap}
+use Rattle.rules.specs.bridge.Summary.{admit, gap}
 use Rattle.rules.specs.declared.reader.Reader.{Reader}
 use Rattle.rules.proofs.Laws.Stepping.{fails, kept, changed, group-below}
 use Rattle.rules.proofs.reader.on_output.Statement.{statement}

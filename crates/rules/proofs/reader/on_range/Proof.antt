@@ -10,7 +10,7 @@ use lib.ListN.{set}
 use Rattle.lists.proofs.Laws.Tests.{select-here, select-next, select-last}
 use Rattle.meaning.specs.Refusal.{Outcome, refused, accepted}
 use Rattle.meaning.specs.Record.{range}
-use Rattle.rules.specs.Summary.{admit}
+use Rattle.rules.specs.bridge.Summary.{admit}
 use Rattle.rules.specs.declared.reader.Reader.{Reader}
 use Rattle.rules.proofs.Laws.Stepping.{fails, kept, changed, rangeMisplaced, positionFull, RangeComes, range-comes, slot-free, slot-next, group-below}
 use Rattle.rules.proofs.reader.on_range.Statement.{statement}

@@ -9,7 +9,7 @@ use lib.ListN.{length-set}
 use Rattle.lists.proofs.Laws.Tests.{select-here, select-next, select-last}
 use Rattle.meaning.specs.Refusal.{Outcome, refused, accepted}
 use Rattle.meaning.specs.Record.{rule}
-use Rattle.rules.specs.Summary.{admit, gap}
+use Rattle.rules.specs.bridge.Summary.{admit, gap}
 use Rattle.rules.specs.declared.reader.Reader.{Reader}
 use Rattle.rules.proofs.Laws.Stepping.{kept, changed}
 use Rattle.rules.proofs.reader.on_rule.Statement.{statement}

@@ -9,7 +9,7 @@ use native.Mathlib.Numerals.{sub-one}
 use Rattle.lists.proofs.Laws.Tests.{select-here, select-next, select-last}
 use Rattle.meaning.specs.Refusal.{Outcome, refused, accepted}
 use Rattle.meaning.specs.Record.{term}
-use Rattle.rules.specs.Summary.{admit}
+use Rattle.rules.specs.bridge.Summary.{admit}
 use Rattle.rules.specs.declared.reader.Reader.{Reader}
 use Rattle.rules.proofs.Laws.Stepping.{fails, kept, changed, termMisplaced, TermComes, term-comes, group-below}
 use Rattle.rules.proofs.reader.on_term.Statement.{statement}

@@ -4,7 +4,7 @@ use mathlib.Core.Bool.{true}
 use mathlib.Core.Path.{_≡_, sym, _∙_}
 use borrow.Author.Needs.{needs}
 use borrow.Author.Tests.{lt-ltb, le-ltb, le-leb, lt-leb, eq-eqb, ne-eqb, not-true, not-false}
-use Rattle.rules.specs.Summary.{rangesRead}
+use Rattle.rules.specs.bridge.Summary.{rangesRead}
 use Rattle.rules.proofs.reader.range_misplaced.Statement.{statement}
 use Rattle.rules.proofs.reader.range_misplaced.Tie as tie
 

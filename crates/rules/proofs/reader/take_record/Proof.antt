@@ -4,7 +4,7 @@ use mathlib.Core.Path.{refl}
 use denote.Ref.{now}
 use borrow.Author.Needs.{needs}
 use Rattle.meaning.specs.Record.{rule, range, output, term, default}
-use Rattle.rules.specs.Summary.{admit}
+use Rattle.rules.specs.bridge.Summary.{admit}
 use Rattle.rules.proofs.Laws.Stepping.{untouched}
 use Rattle.rules.proofs.reader.take_record.Statement.{statement}
 use Rattle.rules.proofs.reader.take_record.Tie as tie

@@ -6,7 +6,7 @@ use Prim.Native.Nat.{ℕ, _-_, _≤_}
 use native.Mathlib.Omega.{arith}
 use denote.Ref.{now}
 use Rattle.lists.specs.Decide.{forBelow}
-use Rattle.meaning.specs.Flat.{safeGroupAt, safeAt}
+use Rattle.meaning.specs.bridge.Flat.{safeGroupAt, safeAt}
 use Rattle.meaning.proofs.Laws.Extremes.{none-below, below-again, below-fails}
 use Rattle.rules.proofs.safe.all_safe.Statement.{statement}
 use Rattle.rules.proofs.safe.all_safe.Tie as tie

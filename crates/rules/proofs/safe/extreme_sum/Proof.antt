@@ -6,7 +6,7 @@ use native.Mathlib.Omega.{arith}
 use denote.Ref.{now}
 use lib.IntN.{pos, subℕ, _+ℤ_, _*ℤ_}
 use lib.ListN.{length}
-use Rattle.meaning.specs.Block.{at}
+use Rattle.meaning.specs.Block.{at, blockSize, entrySize}
 use Rattle.meaning.specs.Reader.{signed}
 use Rattle.meaning.proofs.Laws.Extremes.{sumFrom, sum-last, sum-before, sum-whole}
 use Rattle.rules.proofs.safe.extreme_sum.Statement.{statement}
@@ -20,7 +20,7 @@ Inv-loop slots ranges blocks group number least p₀ d₀ p d =
 abbrev μ-loop : tie.MeasureT-loop
 μ-loop slots ranges blocks group number least p₀ d₀ p d = p
 
-size : (s : tie.Start Inv-loop μ-loop) → at (now (s .args .blocks)) (75 * s .args .group) ≤ 8
+size : (s : tie.Start Inv-loop μ-loop) → at (now (s .args .blocks)) (blockSize * s .args .group) ≤ 8
 size s = s .pre .0 .size (s .args .group) (s .pre .1)
 
 mul-p : tie.Need-mul-p Inv-loop μ-loop
@@ -90,9 +90,9 @@ loop-again c =
     let a = s .args in
     let here = c .before .before .before .before .loop in
     let turn = c .before .before .before .loop-test .taken in
-    let fit : 75 * a .group + 4 + 9 * a .number + at (now (a .blocks)) (75 * a .group) ≤ length (now (a .blocks)) = omega (arith, size s, s .pre .0 .blocks-length) in
+    let fit : blockSize * a .group + 4 + entrySize * a .number + at (now (a .blocks)) (blockSize * a .group) ≤ length (now (a .blocks)) = omega (arith, size s, s .pre .0 .blocks-length) in
     let step = sum-before (a .least) (now (a .slots)) (now (a .ranges)) (now (a .blocks)) (a .group) (a .number) (here .p) (omega (arith, turn)) (here .inv .0) fit in
-    let coefficient = signed 16 (at (now (a .blocks)) (75 * a .group + 4 + 9 * a .number + (here .p - 1))) in
+    let coefficient = signed 16 (at (now (a .blocks)) (blockSize * a .group + 4 + entrySize * a .number + (here .p - 1))) in
     let sum = c .with-product .ensures .0 ∙ ap₂ (λ x y. coefficient *ℤ pos x +ℤ y) (c .before .end-of .ensures) (here .inv .3) ∙ sym step in
     let more = c .with-product .ensures .1 in
     (omega (arith, here .inv .0), omega (arith, turn, here .inv .1, more .0), omega (arith, turn, here .inv .2, more .1), sum)

@@ -7,15 +7,15 @@ use Prim.Native.Nat.{ℕ, _+_, _*_, _-_, _≤_}
 use native.Mathlib.Omega.{arith}
 use denote.Ref.{now}
 use Rattle.lists.specs.Decide.{forBelow}
-use Rattle.meaning.specs.Block.{at}
+use Rattle.meaning.specs.Block.{at, blockSize}
 use Rattle.meaning.specs.Value.{safeOutput}
-use Rattle.meaning.specs.Flat.{patternAt, outputAt, safeGroupAt}
+use Rattle.meaning.specs.bridge.Flat.{patternAt, outputAt, safeGroupAt}
 use Rattle.meaning.proofs.Laws.Extremes.{none-below, below-again, below-fails}
 use Rattle.rules.proofs.safe.group_safe.Statement.{statement}
 use Rattle.rules.proofs.safe.group_safe.Tie as tie
 
 abbrev test : List ℕ → List ℕ → List ℕ → List ℕ → ℕ → ℕ → Bool
-test slots ranges blocks constants group j = safeOutput (patternAt slots ranges group (at blocks (75 * group))) (outputAt blocks constants group j)
+test slots ranges blocks constants group j = safeOutput (patternAt slots ranges group (at blocks (blockSize * group))) (outputAt blocks constants group j)
 
 abbrev Inv-loop : tie.InvT-loop
 Inv-loop slots ranges blocks constants group outputs number₀ number = (number ≤ outputs) × (forBelow number (test slots ranges blocks constants group) ≡ true)
@@ -23,7 +23,7 @@ Inv-loop slots ranges blocks constants group outputs number₀ number = (number 
 abbrev μ-loop : tie.MeasureT-loop
 μ-loop slots ranges blocks constants group outputs number₀ number = outputs - number
 
-few : (s : tie.Start Inv-loop μ-loop) → at (now (s .args .blocks)) (75 * s .args .group + 2) ≤ 8
+few : (s : tie.Start Inv-loop μ-loop) → at (now (s .args .blocks)) (blockSize * s .args .group + 2) ≤ 8
 few s = s .pre .0 .outputs (s .args .group) (s .pre .2)
 
 -- the test of one output character, by the arguments
@@ -57,7 +57,7 @@ returns : tie.Need-returns Inv-loop μ-loop
 unfolding safeGroupAt
 returns c =
     let s = c .before .before .before .before .before .before .before .before .before in
-    sym (below-fails (tested s) (at (now (s .args .blocks)) (75 * s .args .group + 2)) (c .before .before .before .loop .number) (omega arith) (c .before .output-safe .ensures) (c .if1 .taken))
+    sym (below-fails (tested s) (at (now (s .args .blocks)) (blockSize * s .args .group + 2)) (c .before .before .before .loop .number) (omega arith) (c .before .output-safe .ensures) (c .if1 .taken))
 
 add-number : tie.Need-add-number Inv-loop μ-loop
 add-number c = omega (arith, few (c .before .before .before .before .before .before .before .before .before))
@@ -76,7 +76,7 @@ unfolding safeGroupAt
 returns-2 c =
     let s = c .before .before .before .before .before .before .before in
     let here = c .before .loop in
-    let all : here .number ≡ at (now (s .args .blocks)) (75 * s .args .group + 2) = omega arith in
+    let all : here .number ≡ at (now (s .args .blocks)) (blockSize * s .args .group + 2) = omega arith in
     sym (here .inv .1) ∙ ap (λ n. forBelow n (tested s)) all
 
 pub group-safe-spec : {M : Type 1} → statement M

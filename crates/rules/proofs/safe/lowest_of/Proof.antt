@@ -7,7 +7,7 @@ use denote.Ref.{now}
 use Rattle.lists.specs.Lists.{tabFrom}
 use Rattle.meaning.specs.Block.{at}
 use Rattle.meaning.specs.Value.{lowestOf}
-use Rattle.meaning.specs.Flat.{rangesAt}
+use Rattle.meaning.specs.bridge.Flat.{rangesAt}
 use Rattle.meaning.proofs.Laws.Extremes.{rangeAt, tab-whole, lowest-last, lowest-before}
 use Rattle.rules.proofs.safe.lowest_of.Statement.{statement}
 use Rattle.rules.proofs.safe.lowest_of.Tie as tie

@@ -9,23 +9,23 @@ use denote.Ref.{now}
 use lib.IntN.{ℤ}
 use lib.ListN.{take, drop}
 use Rattle.meaning.specs.Table.{Range}
-use Rattle.meaning.specs.Block.{at}
+use Rattle.meaning.specs.Block.{at, blockSize, entrySize}
 use Rattle.meaning.specs.Reader.{signed}
-use Rattle.meaning.specs.Flat.{patternAt, outputAt}
+use Rattle.meaning.specs.bridge.Flat.{patternAt, outputAt}
 use Rattle.meaning.proofs.Laws.Extremes.{unsafe-low, safe-high}
 use Rattle.rules.proofs.safe.output_safe.Statement.{statement}
 use Rattle.rules.proofs.safe.output_safe.Tie as tie
 
 -- the group's pattern, the output character's constant and its coefficients
 abbrev pattern : tie.Start → List (List Range)
-pattern s = let a = s .args in patternAt (now (a .slots)) (now (a .ranges)) (a .group) (at (now (a .blocks)) (75 * a .group))
+pattern s = let a = s .args in patternAt (now (a .slots)) (now (a .ranges)) (a .group) (at (now (a .blocks)) (blockSize * a .group))
 
 abbrev constantOf : tie.Start → ℤ
 constantOf s = let a = s .args in signed 32 (at (now (a .constants)) (8 * a .group + a .number))
 
 abbrev coefficients : tie.Start → List ℤ
 coefficients s =
-    let a = s .args in map (signed 16) (take (at (now (a .blocks)) (75 * a .group)) (drop (75 * a .group + 4 + 9 * a .number) (now (a .blocks))))
+    let a = s .args in map (signed 16) (take (at (now (a .blocks)) (blockSize * a .group)) (drop (blockSize * a .group + 4 + entrySize * a .number) (now (a .blocks))))
 
 mul-constant : tie.Need-mul-constant
 mul-constant c = search needs

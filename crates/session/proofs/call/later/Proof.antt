@@ -5,7 +5,7 @@ use Prim.Native.Nat.{ℕ}
 use borrow.Author.Needs.{needs}
 use Rattle.reckoning.specs.Session.{Session}
 use Rattle.session.specs.Keeping.{sessionOf}
-use Rattle.session.specs.Contracts.{laterOf}
+use Rattle.session.specs.bridge.Later.{laterOf}
 use Rattle.session.proofs.call.later.Statement.{statement}
 use Rattle.session.proofs.call.later.Tie as tie
 

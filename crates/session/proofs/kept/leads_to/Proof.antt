@@ -3,7 +3,7 @@
 use mathlib.Core.Path.{sym, ap, _∙_}
 use borrow.Author.Needs.{needs}
 use Rattle.reckoning.specs.Session.{isAt}
-use Rattle.session.specs.Keeping.{pathOf}
+use Rattle.session.specs.bridge.Later.{pathOf}
 use Rattle.session.proofs.kept.leads_to.Statement.{statement}
 use Rattle.session.proofs.kept.leads_to.Tie as tie
 

@@ -10,7 +10,7 @@ use Rattle.automaton.specs.Sound.{stateCount}
 use Rattle.automaton.specs.Automaton.{fromWords}
 use Rattle.automaton.proofs.Laws.Words.{sound-header}
 use Rattle.reckoning.specs.Session.{path}
-use Rattle.session.specs.Keeping.{pathOf}
+use Rattle.session.specs.bridge.Later.{pathOf}
 use Rattle.reckoning.proofs.Laws.Keeping.{held-next, held-done, path-stops, path-goes, path-inside}
 use Rattle.session.proofs.kept.path_to.Statement.{statement}
 use Rattle.session.proofs.kept.path_to.Tie as tie

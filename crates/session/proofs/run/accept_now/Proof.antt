@@ -4,7 +4,7 @@ use mathlib.Core.Bool.{cond}
 use mathlib.Core.Path.{sym, ap, _∙_}
 use borrow.Author.Needs.{needs}
 use Rattle.automaton.specs.Sound.{acceptWord}
-use Rattle.session.specs.Running.{acceptNow}
+use Rattle.session.specs.bridge.Running.{acceptNow}
 use Rattle.session.proofs.run.accept_now.Statement.{statement}
 use Rattle.session.proofs.run.accept_now.Tie as tie
 

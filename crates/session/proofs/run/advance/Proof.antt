@@ -9,7 +9,7 @@ use lib.ListN.{length}
 use Rattle.lists.proofs.Laws.Tests.{to-T}
 use Rattle.meaning.specs.Block.{at}
 use Rattle.automaton.proofs.Laws.Words.{sound-header}
-use Rattle.session.specs.Running.{Placed, Onward}
+use Rattle.session.specs.bridge.Running.{Placed, Onward}
 use Rattle.session.proofs.Laws.Turning.{onward-after, beyond-join}
 use Rattle.session.proofs.run.advance.Statement.{statement}
 use Rattle.session.proofs.run.advance.Tie as tie

@@ -10,7 +10,7 @@ use lib.ListN.{length}
 use Rattle.meaning.specs.Block.{at}
 use Rattle.automaton.specs.Sound.{blockAt}
 use Rattle.automaton.proofs.Laws.Words.{sound-header}
-use Rattle.session.specs.Running.{Between}
+use Rattle.session.specs.bridge.Running.{Between}
 use Rattle.session.proofs.Laws.Running.{turn-room, shallow}
 use Rattle.session.proofs.Laws.Turning.{emit-moves}
 use Rattle.session.proofs.run.emit_rule.Statement.{statement}

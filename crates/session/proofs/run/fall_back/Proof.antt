@@ -6,7 +6,7 @@ use mathlib.Core.Path.{_≡_, sym, subst, _∙_}
 use Prim.Native.Nat.{ℕ, _<_}
 use native.Mathlib.Omega.{arith}
 use borrow.Author.Needs.{needs}
-use Rattle.session.specs.Running.{Move, Back, Wait, Close, Decides, Stands, acceptNow}
+use Rattle.session.specs.bridge.Running.{Move, Back, Wait, Close, Decides, Stands, acceptNow}
 use Rattle.session.proofs.Laws.Running.{of-not-true, of-not-false}
 use Rattle.session.proofs.Laws.Turning.{stuck-backs, pause-waits, end-backs, end-closes, wait-moves, close-moves}
 use Rattle.session.proofs.run.fall_back.Statement.{statement}

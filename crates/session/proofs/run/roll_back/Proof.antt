@@ -11,7 +11,7 @@ use Rattle.meaning.specs.Table.{defaultNumber}
 use Rattle.meaning.specs.Block.{at, blockOutput}
 use Rattle.automaton.specs.Sound.{blockAt}
 use Rattle.automaton.proofs.Laws.Words.{sound-header}
-use Rattle.session.specs.Running.{Between}
+use Rattle.session.specs.bridge.Running.{Between}
 use Rattle.session.proofs.Laws.Running.{of-not-true, of-not-false, turn-room, default-words, default-block}
 use Rattle.session.proofs.Laws.Reading.{part-some, part-one}
 use Rattle.session.proofs.Laws.Turning.{stop-moves, default-moves}

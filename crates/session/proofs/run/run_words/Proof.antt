@@ -9,7 +9,7 @@ use lib.ListN.{length, take, drop}
 use lib.Seq.{length-take-le}
 use Rattle.automaton.specs.Automaton.{fromWords}
 use Rattle.reckoning.specs.Machine.{Ended, start, run}
-use Rattle.session.specs.Running.{Classed}
+use Rattle.session.specs.bridge.Running.{Classed}
 use Rattle.session.proofs.Laws.Running.{of-not-true, of-not-false, Stage, toGo, stage-on, finished-over, beyond-on, begins}
 use Rattle.session.proofs.Laws.Turning.{few-places, front-classed}
 use Rattle.session.proofs.run.run_words.Statement.{statement}

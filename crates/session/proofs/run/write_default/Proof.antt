@@ -7,10 +7,11 @@ use native.Mathlib.Omega.{arith}
 use borrow.Author.Needs.{needs}
 use lib.ListN.{length, take, drop, set, length-set}
 use lib.Seq.{paste, paste-zero}
-use Rattle.meaning.specs.Block.{at}
+use Rattle.meaning.specs.Block.{at, blockSize}
 use Rattle.session.proofs.Laws.Reading.{default-count, defaultText, default-sum, default-more, default-all}
 use Rattle.session.proofs.run.write_default.Statement.{statement}
 use Rattle.session.proofs.run.write_default.Tie as tie
+use Rattle.automaton.specs.Layout.{blocksFrom}
 
 -- what the default writes for the character at the place
 abbrev one : List ℕ → List ℕ → ℕ → List ℕ
@@ -24,10 +25,10 @@ abbrev μ-loop : tie.MeasureT-loop
 μ-loop words text place output₀ count number j₀ output j = number - j
 
 -- the default writes at most eight characters, and there is room for each
-outputs : (s : tie.Start Inv-loop μ-loop) → at (s .args .words .now) 19624 ≤ 8
+outputs : (s : tie.Start Inv-loop μ-loop) → at (s .args .words .now) (blocksFrom + 32 * blockSize + 2) ≤ 8
 outputs s = omega (arith, s .pre .1 .0, default-count (s .args .words .now))
 
-room : (s : tie.Start Inv-loop μ-loop) (j : ℕ) → j < at (s .args .words .now) 19624 → s .args .count + j < length (s .args .output .now)
+room : (s : tie.Start Inv-loop μ-loop) (j : ℕ) → j < at (s .args .words .now) (blocksFrom + 32 * blockSize + 2) → s .args .count + j < length (s .args .output .now)
 room s j h = omega (arith, h, s .pre .1 .1, default-count (s .args .words .now))
 
 shared-slice-read-number : tie.Need-shared-slice-read-number Inv-loop μ-loop
@@ -99,7 +100,7 @@ loop-again c =
 add-result : tie.Need-add-result Inv-loop μ-loop
 add-result c =
     let s = c .before .before .before .before .before .before in
-    let h : s .args .count + at (s .args .words .now) 19624 ≤ length (s .args .output .now) = omega (arith, s .pre .1 .1, default-count (s .args .words .now)) in
+    let h : s .args .count + at (s .args .words .now) (blocksFrom + 32 * blockSize + 2) ≤ length (s .args .output .now) = omega (arith, s .pre .1 .1, default-count (s .args .words .now)) in
     search needs
 
 same-length : tie.Need-same-length Inv-loop μ-loop
@@ -110,7 +111,7 @@ returns c =
     let a = c .before .before .before .before .before .before .args in
     let l = c .before .loop in
     let w = a .words .now in
-    let e : l .j ≡ at w 19624 = omega (arith, l .inv .0, c .loop-test .left) in (
+    let e : l .j ≡ at w (blocksFrom + 32 * blockSize + 2) = omega (arith, l .inv .0, c .loop-test .left) in (
       ap (λ k. a .count + k) (sym (default-count w)),
       l .inv .2 ∙ default-all w (take 1 (drop (a .place) (a .text .now))) (a .output .now) (a .count) (l .j) e,
     )

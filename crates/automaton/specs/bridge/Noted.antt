@@ -8,9 +8,9 @@ use Rattle.meaning.specs.Table.{Table}
 use Rattle.meaning.specs.Block.{at}
 use Rattle.automaton.specs.Classes.{starts}
 use Rattle.automaton.specs.States.{State, initial, states, acceptAtEndOf, acceptOf}
-use Rattle.automaton.specs.Layout.{wordCount, targetWords}
+use Rattle.automaton.specs.Layout.{wordCount, targetWords, blocksFrom, classesFrom, statesFrom, targetsFrom, targetsSize}
 use Rattle.automaton.specs.Sound.{depthWord, acceptAtEndWord, acceptWord}
-use Rattle.automaton.specs.Build.{stateOf, addedFrom}
+use Rattle.automaton.specs.bridge.Build.{stateOf, addedFrom}
 
 -- the list when the states before number s are done
 unfoldable pub doneAt : Table → ℕ → List State
@@ -34,7 +34,7 @@ pub record Noted (t : Table) (n : ℕ) (qs : List State) (e a m : ℕ) (w sets :
   pub room : wordCount ≤ length w
   pub places : length sets ≡ 256
   pub narrow : length (starts t) ≤ 64
-  pub class-starts : (k : ℕ) → k < length (starts t) → at w (6 + k) ≡ getD (starts t) k 0
+  pub class-starts : (k : ℕ) → k < length (starts t) → at w (classesFrom + k) ≡ getD (starts t) k 0
   pub counted : length qs ≡ count
   pub few : count ≤ 256
   pub met : (i : ℕ) → i < count → stateOf n (depthWord w i) (at sets i) ≡ getD qs i (initial t)
@@ -44,7 +44,7 @@ pub record Noted (t : Table) (n : ℕ) (qs : List State) (e a m : ℕ) (w sets :
   pub unmet : (i : ℕ) → count ≤ i → i < 256 → depthWord w i ≡ 0
   pub ends : Filled (acceptAtEndWord w) (λ i. acceptAtEndOf t (getD (states t) i (initial t))) e 256
   pub accepts : Filled (acceptWord w) (λ i. acceptOf t (getD (states t) i (initial t))) a 256
-  pub targets : Filled (λ i. at w (838 + i)) (at (flatMap (targetWords t) (states t))) m 16384
+  pub targets : Filled (λ i. at w (targetsFrom + i)) (at (flatMap (targetWords t) (states t))) m targetsSize
 
 -- when the accepts of the first a states are noted, and the targets of the states before s and of the first k classes of state s
 abbrev pub NotedAt : Table → ℕ → ℕ → ℕ → ℕ → List ℕ → List ℕ → ℕ → Type 0
@@ -53,8 +53,8 @@ NotedAt t n a s k w sets count = Noted t n (reachedAt t s k) a a (64 * s + k) w 
 -- the words of neither states nor targets are as they were
 pub record Kept (w w' : List ℕ) : Type 0 where
   pub size : length w' ≡ length w
-  pub front : take 70 w' ≡ take 70 w
-  pub back : drop 17222 w' ≡ drop 17222 w
+  pub front : take statesFrom w' ≡ take statesFrom w
+  pub back : drop blocksFrom w' ≡ drop blocksFrom w
 
 -- a step on the way, which answers the new count, or 257 where there are more states than 256
 pub record Onward (t : Table) (n a s k : ℕ) (w w' sets : List ℕ) (count : ℕ) : Type 0 where

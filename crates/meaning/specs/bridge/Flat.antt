@@ -11,7 +11,7 @@ use Rattle.lists.specs.Lists.{flatMap, tabFrom, pad, optional}
 use Rattle.lists.specs.Decide.{forBelow, implies, select}
 use Rattle.meaning.specs.Table.{Range, Output, sum, Group, Table, defaultNumber}
 use Rattle.meaning.specs.Reader.{signed}
-use Rattle.meaning.specs.Block.{at, block, blockOutput}
+use Rattle.meaning.specs.Block.{at, block, blockOutput, blockSize, blocksSize, entrySize}
 use Rattle.meaning.specs.Value.{safeOutput}
 use Rattle.meaning.specs.Refusal.{refused, accepted}
 use Rattle.meaning.specs.Meaning.{Emission, textOf, covered, Conversion, convert}
@@ -30,7 +30,7 @@ unfoldable pub rangeWords : Table → List ℕ
 rangeWords t = rows 64 (λ g. flatMap (λ rs. pad 8 (flatMap (λ r. r .lowest ∷ r .highest ∷ []) rs)) (g .ranges)) t
 
 unfoldable pub blockWords : Table → List ℕ
-blockWords t = rows 75 block t
+blockWords t = rows blockSize block t
 
 -- an output character's constant in 32 bits
 abbrev pub bits : ℤ → ℕ
@@ -54,8 +54,8 @@ patternAt slots ranges g size = tabFrom 0 size (λ p. rangesAt slots ranges (8 *
 -- a group without its output characters
 unfoldable pub groupAt : List ℕ → List ℕ → List ℕ → ℕ → Group
 groupAt slots ranges blocks g =
-    let size = at blocks (75 * g) in
-    record { size = size; anchored = eqb (at blocks (75 * g + 1)) 1; ranges = patternAt slots ranges g size; outputs = [] }
+    let size = at blocks (blockSize * g) in
+    record { size = size; anchored = eqb (at blocks (blockSize * g + 1)) 1; ranges = patternAt slots ranges g size; outputs = [] }
 
 -- the first n groups as rules, and group 32 as the default if there is one
 unfoldable pub tableAt : List ℕ → List ℕ → List ℕ → ℕ → Bool → Table
@@ -68,12 +68,12 @@ tableAt slots ranges blocks n defaulted =
 -- output character j of group g: its constant of 32 bits, and its coefficients of 16 bits below the group's length
 unfoldable pub outputAt : List ℕ → List ℕ → ℕ → ℕ → Output
 outputAt blocks constants g j =
-    sum (signed 32 (at constants (8 * g + j))) (map (signed 16) (take (at blocks (75 * g)) (drop (75 * g + 4 + 9 * j) blocks)))
+    sum (signed 32 (at constants (8 * g + j))) (map (signed 16) (take (at blocks (blockSize * g)) (drop (blockSize * g + 4 + entrySize * j) blocks)))
 
 -- refusal 7's test on the arrays: each output character of a group, each group
 unfoldable pub safeGroupAt : List ℕ → List ℕ → List ℕ → List ℕ → ℕ → Bool
 safeGroupAt slots ranges blocks constants g =
-    forBelow (at blocks (75 * g + 2)) (λ j. safeOutput (patternAt slots ranges g (at blocks (75 * g))) (outputAt blocks constants g j))
+    forBelow (at blocks (blockSize * g + 2)) (λ j. safeOutput (patternAt slots ranges g (at blocks (blockSize * g))) (outputAt blocks constants g j))
 
 unfoldable pub safeAt : List ℕ → List ℕ → List ℕ → List ℕ → ℕ → Bool → Bool
 safeAt slots ranges blocks constants n defaulted =
@@ -82,17 +82,17 @@ safeAt slots ranges blocks constants n defaulted =
 -- E by the arrays
 unfoldable pub expansionFrom : List ℕ → ℕ → ℕ → ℕ
 expansionFrom blocks zero most = most
-expansionFrom blocks (suc n) most = max (expansionFrom blocks n most) (at blocks (75 * n + 2))
+expansionFrom blocks (suc n) most = max (expansionFrom blocks n most) (at blocks (blockSize * n + 2))
 
 abbrev pub expansionAt : List ℕ → ℕ → Bool → ℕ
-expansionAt blocks n defaulted = expansionFrom blocks n (cond defaulted (at blocks 2402) 0)
+expansionAt blocks n defaulted = expansionFrom blocks n (cond defaulted (at blocks (32 * blockSize + 2)) 0)
 
 -- Definition 7 by the arrays, and the text that the blocks write
 abbrev pub flatConversion : List ℕ → List ℕ → List ℕ → ℕ → Bool → List ℕ → Conversion
 flatConversion slots ranges blocks n defaulted input = convert (tableAt slots ranges blocks n defaulted) input
 
 abbrev pub flatText : List ℕ → List Emission → List ℕ
-flatText blocks log = textOf (λ g w. blockOutput (drop (75 * g) blocks) w) log
+flatText blocks log = textOf (λ g w. blockOutput (drop (blockSize * g) blocks) w) log
 
 -- "14, 15", then the conversion into the buffer
 unfoldable pub flatDirect : List ℕ → List ℕ → List ℕ → ℕ → Bool → List ℕ → List ℕ → DirectOutcome
@@ -108,7 +108,7 @@ flatDirect slots ranges blocks n defaulted input buffer =
 pub record Flat (slots ranges blocks : List ℕ) : Type 0 where
   pub slots-length : length slots ≡ 264
   pub ranges-length : length ranges ≡ 2112
-  pub blocks-length : length blocks ≡ 2475
+  pub blocks-length : length blocks ≡ blocksSize
   pub few : (p : ℕ) → p < 264 → at slots p ≤ 4
-  pub size : (g : ℕ) → g < 33 → at blocks (75 * g) ≤ 8
-  pub outputs : (g : ℕ) → g < 33 → at blocks (75 * g + 2) ≤ 8
+  pub size : (g : ℕ) → g < 33 → at blocks (blockSize * g) ≤ 8
+  pub outputs : (g : ℕ) → g < 33 → at blocks (blockSize * g + 2) ≤ 8

@@ -9,7 +9,7 @@ use lib.ListN.{length, take, drop, set}
 use Rattle.lists.specs.Decide.{select}
 use Rattle.meaning.specs.Refusal.{Outcome, refused, accepted}
 use Rattle.meaning.specs.Table.{Range, defaultNumber}
-use Rattle.meaning.specs.Block.{bit}
+use Rattle.meaning.specs.Block.{bit, blockSize, entrySize}
 use Rattle.meaning.specs.Record.{Record, rule, range, output, term, default, decode}
 use Rattle.rules.specs.declared.reader.Reader.{Reader}
 
@@ -128,12 +128,12 @@ rangesBy r (term p a) l = l
 rangesBy r default l = set l 2049 65535
 
 abbrev pub blocksBy : Reader → Record → List ℕ → List ℕ
-blocksBy r (rule k a) l = set (set l (75 * r .rules) k) (75 * r .rules + 1) (bit a)
+blocksBy r (rule k a) l = set (set l (blockSize * r .rules) k) (blockSize * r .rules + 1) (bit a)
 blocksBy r (range p c) l = l
 blocksBy r (output c) l =
-    set (set l (75 * groupNumber r + 2) (r .outputs + 1)) (75 * groupNumber r + 3 + 9 * r .outputs) (c % 65536)
-blocksBy r (term p a) l = set l (75 * groupNumber r + 4 + 9 * pred (r .outputs) + p) a
-blocksBy r default l = set l 2400 1
+    set (set l (blockSize * groupNumber r + 2) (r .outputs + 1)) (blockSize * groupNumber r + 3 + entrySize * r .outputs) (c % 65536)
+blocksBy r (term p a) l = set l (blockSize * groupNumber r + 4 + entrySize * pred (r .outputs) + p) a
+blocksBy r default l = set l (32 * blockSize) 1
 
 abbrev pub constantsBy : Reader → Record → List ℕ → List ℕ
 constantsBy r (rule k a) l = l

@@ -9,6 +9,7 @@ use Rattle.lists.specs.Lists.{pad}
 use Rattle.meaning.specs.Table.{Range}
 use Rattle.meaning.specs.Block.{at}
 use Rattle.automaton.specs.Classes.{insert}
+use Rattle.automaton.specs.Layout.{classesFrom, statesFrom}
 
 -- how many numbers stand before the first that is not below x: x's place in a rising list
 abbrev pub placeIn : ℕ → List ℕ → ℕ
@@ -27,12 +28,12 @@ rangeFrom ranges i = record { lowest = at ranges i; highest = at ranges (i + 1) 
 -- the words hold the starts, and n is their number; past 64 of them n is 65, and nothing is said of the words
 pub record Held (ss w : List ℕ) (n : ℕ) : Type 0 where
   pub number : n ≡ min 65 (length ss)
-  pub kept : length ss ≤ 64 → take 64 (drop 6 w) ≡ pad 64 ss
+  pub kept : length ss ≤ 64 → take 64 (drop classesFrom w) ≡ pad 64 ss
 
 -- The words change only from word 6 to word 69, and where they held starts, n of them, they hold these and the new ones, m of them.
 pub record Gathers (es before : List ℕ) (n : ℕ) (after : List ℕ) (m : ℕ) : Type 0 where
-  pub front : take 6 after ≡ take 6 before
-  pub back : drop 70 after ≡ drop 70 before
+  pub front : take classesFrom after ≡ take classesFrom before
+  pub back : drop statesFrom after ≡ drop statesFrom before
   pub size : length after ≡ length before
   pub few : m ≤ 65
   pub held : (ss : List ℕ) → Held ss before n → Held (insertAll es ss) after m
@@ -40,7 +41,7 @@ pub record Gathers (es before : List ℕ) (n : ℕ) (after : List ℕ) (m : ℕ)
 -- The starts are put into words, n of them, and 65 for more than 64.
 pub record Gathered (ss before after : List ℕ) (n : ℕ) : Type 0 where
   pub number : n ≡ min 65 (length ss)
-  pub filled : length ss ≤ 64 → after ≡ take 6 before ++ pad 64 ss ++ drop 70 before
-  pub front : take 6 after ≡ take 6 before
-  pub back : drop 70 after ≡ drop 70 before
+  pub filled : length ss ≤ 64 → after ≡ take classesFrom before ++ pad 64 ss ++ drop statesFrom before
+  pub front : take classesFrom after ≡ take classesFrom before
+  pub back : drop statesFrom after ≡ drop statesFrom before
   pub size : length after ≡ length before

@@ -9,6 +9,7 @@ use Rattle.lists.specs.Lists.{findFrom, tabFrom, isSome, orElse}
 use Rattle.meaning.specs.Table.{Table}
 use Rattle.meaning.specs.Block.{at}
 use Rattle.automaton.specs.States.{State, initial, successor, sameState, inhabited}
+use Rattle.automaton.specs.Layout.{statesFrom}
 
 -- the rules of a set that is kept as a number, numbered from i: bit by bit, the lowest first
 unfoldable pub membersFrom : ℕ → ℕ → ℕ → List ℕ
@@ -39,4 +40,4 @@ explored t ss (suc n) s qs = cond (ltb s (length qs)) (explored t ss n (suc s) (
 
 -- the states that the words' depths and the sets hold, `count` of them
 unfoldable pub statesAt : List ℕ → List ℕ → ℕ → ℕ → List State
-statesAt words sets n count = tabFrom 0 count (λ i. stateOf n (at words (70 + 3 * i)) (at sets i))
+statesAt words sets n count = tabFrom 0 count (λ i. stateOf n (at words (statesFrom + 3 * i)) (at sets i))

@@ -17,6 +17,7 @@ use Rattle.machine.specs.declared.numbers.StateNo.{StateNo}
 use Rattle.session.specs.declared.kept.Status.the-variants as Kept
 use Rattle.session.specs.declared.run.Ran.{Ran}
 use Rattle.session.specs.declared.run.Ahead.{Ahead}
+use Rattle.automaton.specs.Layout.{classesFrom}
 
 -- what the machine does next: it writes a rule, reads into a state, rolls back, waits or closes
 pub data Move : Type 0 where
@@ -107,7 +108,7 @@ Beyond old before new after = (old .count ≤ new .count) × (drop (new .count) 
 
 -- the classes of the first characters, as many as there are places
 abbrev pub Classed : List ℕ → List ℕ → Type 0
-Classed w classes = (c : ℕ) → c < length classes → getD classes c 0 ≡ classOf (take (classCount w) (drop 6 w)) c
+Classed w classes = (c : ℕ) → c < length classes → getD classes c 0 ≡ classOf (take (classCount w) (drop classesFrom w)) c
 
 -- the run keeps its bounds for some room
 abbrev pub SomewherePlaced : List ℕ → List ℕ → Ran → Type 0
