@@ -1,4 +1,4 @@
--- Demand 3, one field a sentence, and for the outcome functions; and demand 1 for feed and finish.
+-- Demand 3, one field a sentence, and for the outcome functions; demand 1 for feed and finish, and that accepted calls keep a session sound.
 use mathlib.Core.Bool.{Bool, true, false, _||_}
 use mathlib.Core.List.{List, [], _∷_, _++_}
 use mathlib.Core.Logic.{_↔_}

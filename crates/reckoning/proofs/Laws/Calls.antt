@@ -3,7 +3,7 @@
 use mathlib.Core.Bool.{Bool, true, false, not}
 use mathlib.Core.List.{List, [], _∷_, _++_, append-nil}
 use mathlib.Core.Path.{_≡_, refl, sym, ap, subst, _∙_}
-use Prim.Native.Nat.{ℕ, _+_, _-_, _*_, _≤_, _<_}
+use Prim.Native.Nat.{ℕ, _+_, _*_, _≤_, _<_}
 use native.Mathlib.Omega.{arith}
 use lib.Dec.{T, ltb}
 use lib.ListN.{length, drop, length-append}
@@ -188,9 +188,10 @@ module _ (t : Table) (w : List ℕ) (K : Compiled t w) where
       let a : length before + length text ≡ length (textOf (machine .write) (logOf (trace machine e₂ 0 u₂))) = sym (length-append before text) ∙ ap length out in
       let b = ap length (ran-text u e c) in
       let d = ap length (ran-text u₂ e₂ c₂) in
-      let more : length text ≡ length (ranText t (ran t u₂ e₂)) - length (ranText t (ran t u e)) = omega arith in
-      let ends-so : status ≡ ran t u₂ e₂ .status = st ∙ ap statusOf (sym (same-trace u₂ e₂ c₂)) ∙ sym (ran-tells u₂ e₂ .status) in
-      λ j. record { count = more j; status = ends-so j }
+      let answer = answerBy t (ran t u e) (ran t u₂ e₂) in
+      let more : length text ≡ answer .count = omega arith in
+      let so : status ≡ answer .status = st ∙ ap statusOf (sym (same-trace u₂ e₂ c₂)) ∙ sym (ran-tells u₂ e₂ .status) in
+      λ j. record { count = more j; status = so j }
 
   -- one call, whose outcome is o both ways
   module _ (v : Served) (i : Input) (S : Standing v i) (c : Call) (chars : Characters (piece c)) where
