@@ -14,8 +14,8 @@ sessionOf s =
       status = statusOf (s .status);
       state = s .state .0;
       held = s .held;
-      count = s .count;
+      count = s .«held_count»;
       received = s .received;
-      produced = s .produced;
-      steps = s .steps;
+      produced = s .tally .produced;
+      steps = s .tally .steps;
     }
