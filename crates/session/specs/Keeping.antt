@@ -1,12 +1,12 @@
 -- The code's session as the definitions' session.
 use Rattle.session.specs.declared.kept.Status.{Status}
-use Rattle.session.specs.declared.kept.Status.the-variants as Kept
+use Rattle.session.specs.declared.kept.Status.the-variants as Code
 use Rattle.session.specs.declared.kept.Session.{Session}
 
 abbrev pub statusOf : Status → Rattle.reckoning.specs.Machine.Status
-statusOf Kept.Open = Rattle.reckoning.specs.Machine.Open
-statusOf Kept.Closed = Rattle.reckoning.specs.Machine.Closed
-statusOf Kept.Stopped = Rattle.reckoning.specs.Machine.Stopped
+statusOf Code.Open = Rattle.reckoning.specs.Machine.Open
+statusOf Code.Closed = Rattle.reckoning.specs.Machine.Closed
+statusOf Code.Stopped = Rattle.reckoning.specs.Machine.Stopped
 
 abbrev pub sessionOf : Session → Rattle.reckoning.specs.Session.Session
 sessionOf s =

@@ -23,7 +23,7 @@ use Rattle.reckoning.specs.Session.{Session, store, isOpen, soundSession
 use Rattle.reckoning.specs.Calls.{Answer, CallOutcome, admits, resumed, callBy, feed, finish}
 use Rattle.reckoning.specs.Reckoning.{Call, ofFeed, ofFinish, piece, bufferOf, room, ends, called}
 use Rattle.reckoning.specs.Claims.{CallAnswers, CallsAnswer}
-use Rattle.reckoning.proofs.Laws.Trace.{trace, logOf, statusOf}
+use Rattle.reckoning.proofs.Laws.Trace.{trace, logOf, traceStatus}
 use Rattle.reckoning.proofs.Laws.Rounds.{bounded, counted-most}
 use Rattle.reckoning.proofs.Laws.Kept.{trace-few, call-tells, kept-sound}
 
@@ -94,7 +94,7 @@ module _ (w : List ℕ) (s : Session) (c : Call) where
       let tells = call-tells w (a .sound-words) s (piece c) (ends c) (a .sound-session) (a .passed .0) in
       let few : length (textOf (A .write) (logOf t)) ≤ E * covered (logOf t) =
       trace-few A (longestWord w) E (stateCount w) G (sound-short w (a .sound-words)) (ends c) 0 u in
-      let all : covered (logOf t) ≤ length u = counted-most (statusOf t) _ _ _ (bounded A (longestWord w) (stateCount w) G (ends c) u .counted) in
+      let all : covered (logOf t) ≤ length u = counted-most (traceStatus t) _ _ _ (bounded A (longestWord w) (stateCount w) G (ends c) u .counted) in
       let held : covered (logOf t) ≤ s .count + length (piece c) = omega (arith, length-append (store s) (piece c), length-take (s .count) (s .held)) in
       let most = mul-le-mul-left E held in
       let enough = a .passed .2 in

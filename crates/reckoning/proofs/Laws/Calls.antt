@@ -28,7 +28,7 @@ use Rattle.reckoning.specs.Machine.{Status, Open, Closed, Stopped, Ended
 use Rattle.reckoning.specs.Session.{Session, fresh, consumed, isOpen, soundSession}
 use Rattle.reckoning.specs.Calls.{CallOutcome, admits, receivedBy, resumed, later, callBy}
 use Rattle.reckoning.specs.Reckoning.{Call, piece, bufferOf, room, ends, Served, unserved, verdict, outputBy, serveCall, serve, Input, noInput, ran, reckoned, inputBy, reckonCall, reckon}
-use Rattle.reckoning.proofs.Laws.Trace.{Trace, trace, cost, logOf, heldOf, stateOf, statusOf}
+use Rattle.reckoning.proofs.Laws.Trace.{Trace, trace, cost, logOf, heldOf, stateOf, traceStatus}
 use Rattle.reckoning.proofs.Laws.Rounds.{Joined, trace-graft, graft-open, not-open, rests-open, trace-rests, Counted, bounded, trace-ended}
 use Rattle.reckoning.proofs.Laws.Run.{Tells, run-tells}
 use Rattle.reckoning.proofs.Laws.Swap.{trace-alike}
@@ -41,21 +41,21 @@ use Rattle.reckoning.proofs.Laws.Answers.{called-by, Passed, pass-cases
 abbrev pub told : Automaton → Trace → ℕ → Session
 told B t m =
     record {
-      status = statusOf t;
+      status = traceStatus t;
       state = stateOf t;
       held = pad 8 (heldOf t);
       count = length (heldOf t);
-      received = receivedBy (statusOf t) m (covered (logOf t));
+      received = receivedBy (traceStatus t) m (covered (logOf t));
       produced = length (textOf (B .write) (logOf t));
       steps = cost t;
     }
 
 fresh-told : (B : Automaton) → fresh ≡ told B (trace B false 0 []) 0
-unfolding fresh trace statusOf stateOf heldOf logOf cost textOf covered
+unfolding fresh trace traceStatus stateOf heldOf logOf cost textOf covered
 fresh-told B = refl
 
 -- One accepted call.
-module _ (B : Automaton) (L n : ℕ) (H : Good B L n) (small : L ≤ 8) (e : Bool) (u p : List ℕ) (o : statusOf (trace B false 0 u) ≡ Open)
+module _ (B : Automaton) (L n : ℕ) (H : Good B L n) (small : L ≤ 8) (e : Bool) (u p : List ℕ) (o : traceStatus (trace B false 0 u) ≡ Open)
     (few : length (heldOf (trace B false 0 u)) ≤ 8) where
   abbrev before : Trace
   before = trace B false 0 u
@@ -88,16 +88,16 @@ module _ (B : Automaton) (L n : ℕ) (H : Good B L n) (small : L ≤ 8) (e : Boo
 
   session-later : later session (length p) (length (textOf (B .write) (ended-as .final .log))) ended-as ≡ told B after-call (length (u ++ p))
   session-later =
-      let b : Counted (statusOf before) (length u) (covered (logOf before)) (length (heldOf before)) = bounded B L n H false u .counted in
+      let b : Counted (traceStatus before) (length u) (covered (logOf before)) (length (heldOf before)) = bounded B L n H false u .counted in
       let k : covered (logOf before) + length (heldOf before) ≡ length u =
       subst (λ z. Counted z (length u) (covered (logOf before)) (length (heldOf before))) o b in
-      let m : receivedBy (statusOf before) (length u) (covered (logOf before)) ≡ length u = ap (λ z. receivedBy z (length u) (covered (logOf before))) o in
-      let st : ended-as .status ≡ statusOf after-call = tells .status ∙ sym (joined .status) in
+      let m : receivedBy (traceStatus before) (length u) (covered (logOf before)) ≡ length u = ap (λ z. receivedBy z (length u) (covered (logOf before))) o in
+      let st : ended-as .status ≡ traceStatus after-call = tells .status ∙ sym (joined .status) in
       let hd : ended-as .final .store ≡ heldOf after-call = tells .store ∙ sym (joined .held) in
       let lg : covered (ended-as .final .log) ≡ covered (logOf rest) = ap covered (tells .log) in
       let cv : covered (logOf after-call) ≡ covered (logOf before) + covered (logOf rest) = ap covered (joined .log) ∙ covered-append (logOf before) (logOf rest) in
       let co : consumed session + covered (ended-as .final .log) ≡ covered (logOf after-call) = omega arith in
-      let rc : receivedBy (statusOf before) (length u) (covered (logOf before)) + length p ≡ length (u ++ p) = omega (arith, length-append u p) in
+      let rc : receivedBy (traceStatus before) (length u) (covered (logOf before)) + length p ≡ length (u ++ p) = omega (arith, length-append u p) in
       let sp : cost before + ended-as .final .steps ≡ cost after-call = let a = tells .steps in let j = joined .costs in omega arith in
       let pr : length (textOf (B .write) (logOf before)) + length (textOf (B .write) (ended-as .final .log)) ≡ length (textOf (B .write) (logOf after-call)) =
       sym (length-append (textOf (B .write) (logOf before)) (textOf (B .write) (ended-as .final .log))) ∙ ap length text-later in
@@ -163,10 +163,10 @@ module _ (t : Table) (w : List ℕ) (K : Compiled t w) where
       let T′ = trace machine e 0 u in
       let r = ran-tells u e in
       let q = same-trace u e ch in
-      let st : ran t u e .status ≡ statusOf T′ = r .status ∙ ap statusOf q in
+      let st : ran t u e .status ≡ traceStatus T′ = r .status ∙ ap traceStatus q in
       let hd : ran t u e .final .store ≡ heldOf T′ = r .store ∙ ap heldOf q in
       rw (of-T (sound w) (K .sound-words), of-T (soundSession w (told machine T′ (length u))) sd, K .expands, st, hd)
-      (same-refusals (statusOf T′) (receivedBy (statusOf T′) (length u) (covered (logOf T′))) (length u) (length (piece c)) (length (heldOf T′)) (expansion t) (room c)
+      (same-refusals (traceStatus T′) (receivedBy (traceStatus T′) (length u) (covered (logOf T′))) (length u) (length (piece c)) (length (heldOf T′)) (expansion t) (room c)
       (λ o. ap (λ z. receivedBy z (length u) (covered (logOf T′))) o))
 
   -- one call, whose outcome is o both ways
@@ -182,13 +182,13 @@ module _ (t : Table) (w : List ℕ) (K : Compiled t w) where
           session = result o .session;
         }
 
-    accepted-stands : (e : Bool) → i .ended ≡ e → statusOf (trace machine (i .ended) 0 (i .characters)) ≡ Open → length (i .characters) + length (piece c) ≤ limit →
+    accepted-stands : (e : Bool) → i .ended ≡ e → traceStatus (trace machine (i .ended) 0 (i .characters)) ≡ Open → length (i .characters) + length (piece c) ≤ limit →
         Standing (served-by (accepted tt)) (inputBy (accepted tt) i c)
-    accepted-stands true p o l = absurd (not-open _ (trace-ended machine 0 (i .characters)) (subst (λ e. statusOf (trace machine e 0 (i .characters)) ≡ Open) p o))
+    accepted-stands true p o l = absurd (not-open _ (trace-ended machine 0 (i .characters)) (subst (λ e. traceStatus (trace machine e 0 (i .characters)) ≡ Open) p o))
     accepted-stands false p o l =
         let u = i .characters in
         let before = trace machine false 0 u in
-        let open-before : statusOf before ≡ Open = subst (λ e. statusOf (trace machine e 0 u) ≡ Open) p o in
+        let open-before : traceStatus before ≡ Open = subst (λ e. traceStatus (trace machine e 0 u) ≡ Open) p o in
         let is : v .session ≡ told machine before (length u) = subst (λ e. v .session ≡ told machine (trace machine e 0 u) (length u)) p (S .session) in
         let few : length (heldOf before) ≤ 8 = subst (λ (s : Session). s .count ≤ 8) is (sound-facts w (v .session) (S .kept) .places) in
         let h : v .session .received ≡ length u = ap (λ (s : Session). s .received) is ∙ ap (λ z. receivedBy z (length u) (covered (logOf before))) open-before in
@@ -239,7 +239,7 @@ module _ (t : Table) (w : List ℕ) (K : Compiled t w) where
     stands-by (accepted x) e =
         let u = i .characters in
         let r = ran-tells u (i .ended) in
-        accepted-stands (i .ended) refl (ap statusOf (sym (same-trace u (i .ended) (S .characters))) ∙ sym (r .status) ∙ e .0) (e .1)
+        accepted-stands (i .ended) refl (ap traceStatus (sym (same-trace u (i .ended) (S .characters))) ∙ sym (r .status) ∙ e .0) (e .1)
 
     stands-one : Standing (serveCall w v c) (reckonCall t i c)
     stands-one =

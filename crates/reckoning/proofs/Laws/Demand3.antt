@@ -31,21 +31,21 @@ use Rattle.reckoning.specs.Session.{Session, consumed}
 use Rattle.reckoning.specs.Calls.{receivedBy}
 use Rattle.reckoning.specs.Reckoning.{Call, piece, Served, unserved, serve, acceptedPieces, Input, noInput, ran, reckoned, inputBy, reckonCall, reckon}
 use Rattle.reckoning.specs.Claims.{isStopped, Agrees, OutcomesAgree}
-use Rattle.reckoning.proofs.Laws.Trace.{trace, cost, logOf, heldOf, statusOf}
+use Rattle.reckoning.proofs.Laws.Trace.{trace, cost, logOf, heldOf, traceStatus}
 use Rattle.reckoning.proofs.Laws.Rounds.{NotOpen, not-open, trace-graft, graft-stopped, ended-empty, Counted, Bounded, bounded}
 use Rattle.reckoning.proofs.Laws.Meaning.{ending, meaning-law}
 use Rattle.reckoning.proofs.Laws.Swap.{trace-emits, text-same}
 use Rattle.reckoning.proofs.Laws.Calls.{told, Compiled, Standing, calls-stand, ran-tells, same-trace}
 
 -- a trace that stopped without the end is the trace of every longer input, ended or not
-pub stopped-firm : (A : Automaton) (u more : List ℕ) (e : Bool) → statusOf (trace A false 0 u) ≡ Stopped → trace A e 0 (u ++ more) ≡ trace A false 0 u
+pub stopped-firm : (A : Automaton) (u more : List ℕ) (e : Bool) → traceStatus (trace A false 0 u) ≡ Stopped → trace A e 0 (u ++ more) ≡ trace A false 0 u
 stopped-firm A u more e s = trace-graft A e more 0 u (omega arith) ∙ graft-stopped (trace A false 0 u) (λ h. trace A e 0 (h ++ more)) (not-open _ (subst NotOpen (sym s) tt))
 
 -- a trace that ended, or stopped, is the trace of the ended input
-over-trace : (A : Automaton) (u : List ℕ) (e : Bool) → T (e || isStopped (statusOf (trace A e 0 u))) → trace A e 0 u ≡ trace A true 0 u
+over-trace : (A : Automaton) (u : List ℕ) (e : Bool) → T (e || isStopped (traceStatus (trace A e 0 u))) → trace A e 0 u ≡ trace A true 0 u
 over-trace A u true h = refl
 over-trace A u false h =
-    sym (subst (λ v. trace A true 0 v ≡ trace A false 0 u) (append-nil u) (stopped-firm A u [] true (is-stopped (statusOf (trace A false 0 u)) h)))
+    sym (subst (λ v. trace A true 0 v ≡ trace A false 0 u) (append-nil u) (stopped-firm A u [] true (is-stopped (traceStatus (trace A false 0 u)) h)))
   where
     is-stopped : (s : Status) → T (isStopped s) → s ≡ Stopped
     is-stopped Open t = absurd t
@@ -119,7 +119,7 @@ module _ (t : Table) (w : List ℕ) (K : Compiled t w) where
 
   -- Definition 7 of an input is the trace with the end known
   meaning-trace : (u : List ℕ) → Characters u →
-      (logOf (trace (fromTable t) true 0 u) ≡ convert t u .log) × (statusOf (trace (fromTable t) true 0 u) ≡ ending (convert t u .closed))
+      (logOf (trace (fromTable t) true 0 u) ≡ convert t u .log) × (traceStatus (trace (fromTable t) true 0 u) ≡ ending (convert t u .closed))
   unfolding convert
   meaning-trace u c = meaning-law (fromTable t) t (K .shaped) (K .reads) default-is 0 u c
 
@@ -141,16 +141,16 @@ module _ (t : Table) (w : List ℕ) (K : Compiled t w) where
       let p : x ≡ y = same-trace t w K u e (S .characters) in
       let s : v .session ≡ told M x (length u) = S .session ∙ ap (λ z. told M z (length u)) (sym p) in
       let steps-are : r .final .steps ≡ cost x = let a = tells .steps in omega arith in
-      let st : v .session .status ≡ statusOf x = ap (λ (z : Session). z .status) s in
+      let st : v .session .status ≡ traceStatus x = ap (λ (z : Session). z .status) s in
       let text-both : textOf (A .write) (logOf x) ≡ textOf (M .write) (logOf x) = text-same A M t (K .writes) x (trace-emits A t (K .reads) e 0 u (S .characters)) in
       let out : v .output ≡ textOf (A .write) (logOf x) = S .output ∙ ap (λ z. textOf (M .write) (logOf z)) (sym p) ∙ sym text-both in
       let b : Bounded (longest t) u x = bounded A (longest t) (length (states t)) (K .good) e u in
       let con : consumed (v .session) ≡ covered (logOf x) =
-      ap consumed s ∙ consumed-is (statusOf x) (length u) (covered (logOf x)) (length (heldOf x)) (b .counted) (λ n. ap length (ended-empty x n .1)) in
+      ap consumed s ∙ consumed-is (traceStatus x) (length u) (covered (logOf x)) (length (heldOf x)) (b .counted) (λ n. ap length (ended-empty x n .1)) in
       let over : T (e || isStopped (v .session .status)) → x ≡ trace A true 0 u = λ h. over-trace A u e (subst (λ z. T (e || isStopped z)) st h) in
       let D = meaning-trace u (S .characters) in
       let log-is : T (e || isStopped (v .session .status)) → logOf x ≡ convert t u .log = λ h. ap logOf (over h) ∙ D .0 in
-      let end-is : T (e || isStopped (v .session .status)) → v .session .status ≡ ending (convert t u .closed) = λ h. st ∙ ap statusOf (over h) ∙ D .1 in
+      let end-is : T (e || isStopped (v .session .status)) → v .session .status ≡ ending (convert t u .closed) = λ h. st ∙ ap traceStatus (over h) ∙ D .1 in
       record {
         verdicts = S .verdicts;
         input = pieces ∙ ap (acceptedPieces cs) (sym (S .verdicts));
@@ -170,7 +170,7 @@ module _ (t : Table) (w : List ℕ) (K : Compiled t w) where
         closed = λ h. closed-iff (v .session .status) (convert t u .closed) (end-is h);
         stopped = λ h c. (end-is h ∙ ap ending c, con ∙ ap covered (log-is h));
         firm = λ ne h more cm e′.
-            let sx : statusOf (trace A false 0 u) ≡ Stopped = subst (λ z. statusOf (trace A z 0 u) ≡ Stopped) ne (sym st ∙ h) in
+            let sx : traceStatus (trace A false 0 u) ≡ Stopped = subst (λ z. traceStatus (trace A z 0 u) ≡ Stopped) ne (sym st ∙ h) in
             let c₂ = each-append (λ z. z < 65536) u more (S .characters) cm in
             let D₂ = meaning-trace (u ++ more) c₂ in
             let D₁ = meaning-trace u (S .characters) in
