@@ -9,7 +9,7 @@ use Rattle.cobbletwill.specs.Sessions.{sessionFrom, numbersOf, CalledFac
 use Rattle.cobbletwill.specs.declared.sessions.SessionNumbers.{SessionNumbers}
 
 abbrev pub zeros : SessionNumbers
-zeros = record { received = 0; produced = 0; steps = 0; status = 0; state = 0; count = 0; held = pad 8 [] }
+zeros = record { received = 0; tally = record { produced = 0; steps = 0 }; status = 0; state = 0; «held_count» = 0; held = pad 8 [] }
 
 pub record Faithful : Type 0 where
   -- "Fresh: open, all 0."
@@ -18,7 +18,7 @@ pub record Faithful : Type 0 where
   pub sessions : (s : Session) → sessionFrom (numbersOf s) ≡ s
   pub numbers : (n : SessionNumbers) → n .status ≤ 2 → numbersOf (sessionFrom n) ≡ n
 
--- Demand 1 for a call that found the numbers n, the buffer and the count, and came to o: "an accepted answer or one of the numbered
+-- Demand 1 for a call that found the numbers n, the buffer and the number written, and came to o: "an accepted answer or one of the numbered
 -- refusals"; "every other refusal changes nothing."
 pub record FaceAnswers (n : SessionNumbers) (buffer : List ℕ) (found : ℕ) (o : CalledFace) : Type 0 where
   pub numbered : T (any (eqb (o .answer)) (0 ∷ 64 ∷ 65 ∷ 11 ∷ 12 ∷ 13 ∷ 14 ∷ 15 ∷ []))

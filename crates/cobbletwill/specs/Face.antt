@@ -20,9 +20,9 @@ placeOf (refused n) found = found
 placeOf (accepted c) found = c .place
 
 -- "the output count", or what was found
-abbrev pub countOf : Outcome Converted → ℕ → ℕ
-countOf (refused n) found = found
-countOf (accepted c) found = c .count
+abbrev pub writtenOf : Outcome Converted → ℕ → ℕ
+writtenOf (refused n) found = found
+writtenOf (accepted c) found = c .count
 
 -- 1 for "Sound words", 0 for words that are not
 abbrev pub soundCode : Bool → ℕ

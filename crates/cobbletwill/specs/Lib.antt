@@ -1,3 +1,4 @@
 pub mod Face
 pub mod Sessions
 pub mod Claims
+pub mod bridge

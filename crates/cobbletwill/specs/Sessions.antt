@@ -28,21 +28,20 @@ sessionFrom n =
       status = statusFrom (n .status);
       state = n .state;
       held = n .held;
-      count = n .count;
+      count = n .«held_count»;
       received = n .received;
-      produced = n .produced;
-      steps = n .steps;
+      produced = n .tally .produced;
+      steps = n .tally .steps;
     }
 
 abbrev pub numbersOf : Session → SessionNumbers
 numbersOf s =
     record {
       received = s .received;
-      produced = s .produced;
-      steps = s .steps;
+      tally = record { produced = s .produced; steps = s .steps };
       status = statusNumber (s .status);
       state = s .state;
-      count = s .count;
+      «held_count» = s .count;
       held = s .held;
     }
 
@@ -58,23 +57,23 @@ answerCode (refused n) = n
 answerCode (accepted a) = statusCode (a .status)
 
 -- "its count", or what was found: "every other refusal changes nothing"
-abbrev pub countAfter : Outcome Answer → ℕ → ℕ
-countAfter (refused n) found = found
-countAfter (accepted a) found = a .count
+abbrev pub writtenAfter : Outcome Answer → ℕ → ℕ
+writtenAfter (refused n) found = found
+writtenAfter (accepted a) found = a .count
 
 -- what a call answers and leaves
 pub record CalledFace : Type 0 where
   pub answer : ℕ
   pub session : SessionNumbers
   pub output : List ℕ
-  pub count : ℕ
+  pub written : ℕ
 
 abbrev pub left : ℕ → SessionNumbers → List ℕ → ℕ → CalledFace
-left answer session output count = record { answer = answer; session = session; output = output; count = count }
+left answer session output written = record { answer = answer; session = session; output = output; written = written }
 
--- a call's outcome, where the count was found so
+-- a call's outcome, where the number written was found so
 abbrev pub faceOf : CallOutcome → ℕ → CalledFace
-faceOf o found = left (answerCode (o .answer)) (numbersOf (o .session)) (o .output) (countAfter (o .answer) found)
+faceOf o found = left (answerCode (o .answer)) (numbersOf (o .session)) (o .output) (writtenAfter (o .answer) found)
 
 -- numbers with a status above 2 are no session's: "12 session not sound", after "11 under 19,697 words or not sound"
 abbrev pub noSession : Bool → ℕ
@@ -84,7 +83,7 @@ noSession soundWords = cond soundWords 12 11
 abbrev pub calledBy : (Session → CallOutcome) → List ℕ → SessionNumbers → List ℕ → ℕ → CalledFace
 calledBy call w n buffer found = cond (ltb 2 (n .status)) (left (noSession (sound w)) n buffer found) (faceOf (call (sessionFrom n)) found)
 
--- words, session, piece, output buffer and count as found
+-- words, session, piece, output buffer and number written as found
 unfoldable pub feed : List ℕ → SessionNumbers → List ℕ → List ℕ → ℕ → CalledFace
 feed w n piece buffer found = calledBy (λ s. Call.feed w s piece buffer) w n buffer found
 

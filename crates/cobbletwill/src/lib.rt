@@ -1,11 +1,11 @@
-// The C face: each answer as a number, place and count through pointers. include/cobbletwill.h declares these functions.
+// The C face: each answer as a number, the place and the number of characters written through pointers. include/cobbletwill.h declares these functions.
 pub mod sessions;
 
 ghost use mathlib.Core.Path.{_≡_};
 ghost use Rattle.meaning.specs.Direct.{checked, direct};
 ghost use Rattle.automaton.specs.Compile as Spec;
 ghost use Rattle.automaton.specs.Sound.{sound};
-ghost use Rattle.cobbletwill.specs.Face.{checkCode, codeOf, placeOf, countOf, soundCode};
+ghost use Rattle.cobbletwill.specs.Face.{checkCode, codeOf, placeOf, writtenOf, soundCode};
 use machine::compile::Compiled;
 use machine::compile::compile;
 use machine::sound_words::is_sound;
@@ -26,36 +26,36 @@ pub extern "C" fn cobbletwill_check(table: &[u8]) -> u32
     }
 }
 
-// 0 for closed and 64 for stopped, with the place and the output count set; else the number of the refusal, 1 to 7, 14 or 15, and nothing changed.
+// 0 for closed and 64 for stopped, with the place and the number of characters written set; else the number of the refusal, 1 to 7, 14 or 15, and nothing changed.
 #[no_mangle]
 pub extern "C" fn cobbletwill_convert(
     table: &[u8],
     input: &[u16],
     output: &mut [u16],
     place: &mut u64,
-    count: &mut u64,
+    written: &mut u64,
 ) -> u32
     ensures answer { λ r. ⌜ r ≡ codeOf (direct (now (table .entry)) (now (input .entry)) (now (output .entry)) .answer) ⌝ }
     ensures output { λ _. ⌜ now (output .exit) ≡ direct (now (table .entry)) (now (input .entry)) (now (output .entry)) .output ⌝ }
     ensures place { λ _. ⌜ now (place .exit) ≡ placeOf (direct (now (table .entry)) (now (input .entry)) (now (output .entry)) .answer) (now (place .entry)) ⌝ }
-    ensures count { λ _. ⌜ now (count .exit) ≡ countOf (direct (now (table .entry)) (now (input .entry)) (now (output .entry)) .answer) (now (count .entry)) ⌝ }
+    ensures written { λ _. ⌜ now (written .exit) ≡ writtenOf (direct (now (table .entry)) (now (input .entry)) (now (output .entry)) .answer) (now (written .entry)) ⌝ }
 {
     let conversion = convert(table, input, output);
     match conversion {
         Conversion::Closed {
             place: reached,
-            count: written,
+            count,
         } => {
             *place = reached as u64;
-            *count = written as u64;
+            *written = count as u64;
             0
         }
         Conversion::Stopped {
             place: reached,
-            count: written,
+            count,
         } => {
             *place = reached as u64;
-            *count = written as u64;
+            *written = count as u64;
             64
         }
         Conversion::Refused(number) => number as u32,

@@ -7,34 +7,36 @@ use session::call::feed_by_value;
 use session::call::finish_by_value;
 use session::kept::Session;
 use session::kept::Status;
+use session::tally::Tally;
 ghost use mathlib.Core.Path.{_≡_};
 ghost use Rattle.automaton.specs.Sound.{sound};
-ghost use Rattle.session.specs.Keeping.{statusOf, sessionOf};
+ghost use Rattle.session.specs.Keeping.{meantStatus, sessionOf};
 ghost use Rattle.session.specs.Contracts.{answerOf};
 ghost use Rattle.cobbletwill.specs.Sessions as Spec;
+ghost use Rattle.cobbletwill.specs.bridge.Lent.{Unchanged};
 
-// A session of plain numbers, so that no value of any field is undefined. All 0 is fresh.
+// A session of plain numbers, so that no value of any field is undefined: 48 bytes without gaps. All 0 is fresh.
 #[repr(C)]
 pub struct SessionNumbers {
     pub received: u64,
-    pub produced: u64,
-    pub steps: u64,
+    pub tally: Tally,
     // 0 open, 1 closed, 2 stopped; a number above 2 is no session's.
-    pub status: u16,
+    pub status: u32,
     pub state: u16,
-    pub count: u16,
+    pub held_count: u16,
     pub held: [u16; 8],
 }
 
-// What a call by value comes to: its answer as a number, and the session as it leaves it.
+// What a call by value comes to: its answer as a number, whether it was accepted, and the session as it leaves it.
 pub struct CalledNumbers {
     pub answer: u32,
+    pub accepted: bool,
     pub session: SessionNumbers,
 }
 
 // The status of a number up to 2.
-fn status_from(number: u16) -> Status
-    ensures { λ r. ⌜ statusOf r ≡ Spec.statusFrom number ⌝ }
+fn status_from(number: u32) -> Status
+    ensures { λ r. ⌜ meantStatus r ≡ Spec.statusFrom number ⌝ }
 {
     match number {
         0 => Status::Open,
@@ -44,8 +46,8 @@ fn status_from(number: u16) -> Status
 }
 
 // A session's status as it is kept.
-fn status_number(status: Status) -> u16
-    ensures { λ r. ⌜ r ≡ Spec.statusNumber (statusOf status) ⌝ }
+fn status_number(status: Status) -> u32
+    ensures { λ r. ⌜ r ≡ Spec.statusNumber (meantStatus status) ⌝ }
 {
     match status {
         Status::Open => 0,
@@ -56,7 +58,7 @@ fn status_number(status: Status) -> u16
 
 // A session's status as an accepted call answers it.
 fn status_code(status: Status) -> u32
-    ensures { λ r. ⌜ r ≡ Spec.statusCode (statusOf status) ⌝ }
+    ensures { λ r. ⌜ r ≡ Spec.statusCode (meantStatus status) ⌝ }
 {
     match status {
         Status::Open => 65,
@@ -70,14 +72,14 @@ fn session_from(numbers: SessionNumbers) -> Session
     ensures { λ r. ⌜ sessionOf r ≡ Spec.sessionFrom numbers ⌝ }
 {
     let held = numbers.held;
+    let tally = numbers.tally;
     Session {
         status: status_from(numbers.status),
         state: StateNo(numbers.state),
         held,
-        count: numbers.count,
+        held_count: numbers.held_count,
         received: numbers.received,
-        produced: numbers.produced,
-        steps: numbers.steps,
+        tally,
     }
 }
 
@@ -85,15 +87,15 @@ fn session_from(numbers: SessionNumbers) -> Session
 fn numbers_of(session: Session) -> SessionNumbers
     ensures { λ r. ⌜ r ≡ Spec.numbersOf (sessionOf session) ⌝ }
 {
+    let tally = session.tally;
     let status = session.status;
     let held = session.held;
     SessionNumbers {
         received: session.received,
-        produced: session.produced,
-        steps: session.steps,
+        tally,
         status: status_number(status),
         state: session.state.0,
-        count: session.count,
+        held_count: session.held_count,
         held,
     }
 }
@@ -108,27 +110,28 @@ fn no_session(words: &[u16]) -> u32
     11
 }
 
-// What C gets of a call. The count is written where the call was accepted.
-fn hand_over(called: Called, count: &mut u64) -> CalledNumbers
+// What C gets of a call. The number of characters written is told where the call was accepted.
+fn hand_over(called: Called, written: &mut u64) -> CalledNumbers
+    ensures accepted { λ r. ⌜ r .accepted ≡ called .accepted ⌝ }
     ensures answer { λ r. ⌜ r .answer ≡ Spec.answerCode (answerOf (called .answer)) ⌝ }
     ensures session { λ r. ⌜ r .session ≡ Spec.numbersOf (sessionOf (called .session)) ⌝ }
-    ensures count { λ _. ⌜ now (count .exit) ≡ Spec.countAfter (answerOf (called .answer)) (now (count .entry)) ⌝ }
+    ensures written { λ _. ⌜ now (written .exit) ≡ Spec.writtenAfter (answerOf (called .answer)) (now (written .entry)) ⌝ }
 {
     let answer = called.answer;
+    let accepted = called.accepted;
     let session = numbers_of(called.session);
     match answer {
-        Answer::Accepted {
-            count: written,
-            status,
-        } => {
-            *count = written as u64;
+        Answer::Accepted { count, status } => {
+            *written = count as u64;
             CalledNumbers {
                 answer: status_code(status),
+                accepted,
                 session,
             }
         }
         Answer::Refused(number) => CalledNumbers {
             answer: number as u32,
+            accepted,
             session,
         },
     }
@@ -140,19 +143,21 @@ fn feed_numbers(
     numbers: SessionNumbers,
     piece: &[u16],
     output: &mut [u16],
-    count: &mut u64,
+    written: &mut u64,
 ) -> CalledNumbers
-    ensures { λ r. ⌜ Spec.left (r .answer) (r .session) (now (output .exit)) (now (count .exit))
-        ≡ Spec.feed (now (words .entry)) numbers (now (piece .entry)) (now (output .entry)) (now (count .entry)) ⌝ }
+    ensures { λ r. ⌜ Unchanged r numbers ⌝ }
+    ensures { λ r. ⌜ Spec.left (r .answer) (r .session) (now (output .exit)) (now (written .exit))
+        ≡ Spec.feed (now (words .entry)) numbers (now (piece .entry)) (now (output .entry)) (now (written .entry)) ⌝ }
 {
     if numbers.status > 2 {
         return CalledNumbers {
             answer: no_session(words),
+            accepted: false,
             session: numbers,
         };
     }
     let called = feed_by_value(words, session_from(numbers), piece, output);
-    hand_over(called, count)
+    hand_over(called, written)
 }
 
 // A finish of the session that the numbers are.
@@ -160,36 +165,41 @@ fn finish_numbers(
     words: &[u16],
     numbers: SessionNumbers,
     output: &mut [u16],
-    count: &mut u64,
+    written: &mut u64,
 ) -> CalledNumbers
-    ensures { λ r. ⌜ Spec.left (r .answer) (r .session) (now (output .exit)) (now (count .exit))
-        ≡ Spec.finish (now (words .entry)) numbers (now (output .entry)) (now (count .entry)) ⌝ }
+    ensures { λ r. ⌜ Unchanged r numbers ⌝ }
+    ensures { λ r. ⌜ Spec.left (r .answer) (r .session) (now (output .exit)) (now (written .exit))
+        ≡ Spec.finish (now (words .entry)) numbers (now (output .entry)) (now (written .entry)) ⌝ }
 {
     if numbers.status > 2 {
         return CalledNumbers {
             answer: no_session(words),
+            accepted: false,
             session: numbers,
         };
     }
     let called = finish_by_value(words, session_from(numbers), output);
-    hand_over(called, count)
+    hand_over(called, written)
 }
 
-// 0 closed, 64 stopped, 65 open, with the output count set; else the number of the refusal, 11 to 15, and nothing changed.
+// 0 closed, 64 stopped, 65 open, with the session and the number of characters written set; else the number of the refusal, 11 to 15, and
+// nothing is written.
 #[no_mangle]
 pub extern "C" fn cobbletwill_feed(
     words: &[u16],
     session: &mut SessionNumbers,
     piece: &[u16],
     output: &mut [u16],
-    count: &mut u64,
+    written: &mut u64,
 ) -> u32
-    ensures { λ r. ⌜ Spec.left r (now (session .exit)) (now (output .exit)) (now (count .exit))
-        ≡ Spec.feed (now (words .entry)) (now (session .entry)) (now (piece .entry)) (now (output .entry)) (now (count .entry)) ⌝ }
+    ensures { λ r. ⌜ Spec.left r (now (session .exit)) (now (output .exit)) (now (written .exit))
+        ≡ Spec.feed (now (words .entry)) (now (session .entry)) (now (piece .entry)) (now (output .entry)) (now (written .entry)) ⌝ }
 {
     let found = *session;
-    let called = feed_numbers(words, found, piece, output, count);
-    *session = called.session;
+    let called = feed_numbers(words, found, piece, output, written);
+    if called.accepted {
+        *session = called.session;
+    }
     called.answer
 }
 
@@ -199,13 +209,15 @@ pub extern "C" fn cobbletwill_finish(
     words: &[u16],
     session: &mut SessionNumbers,
     output: &mut [u16],
-    count: &mut u64,
+    written: &mut u64,
 ) -> u32
-    ensures { λ r. ⌜ Spec.left r (now (session .exit)) (now (output .exit)) (now (count .exit))
-        ≡ Spec.finish (now (words .entry)) (now (session .entry)) (now (output .entry)) (now (count .entry)) ⌝ }
+    ensures { λ r. ⌜ Spec.left r (now (session .exit)) (now (output .exit)) (now (written .exit))
+        ≡ Spec.finish (now (words .entry)) (now (session .entry)) (now (output .entry)) (now (written .entry)) ⌝ }
 {
     let found = *session;
-    let called = finish_numbers(words, found, output, count);
-    *session = called.session;
+    let called = finish_numbers(words, found, output, written);
+    if called.accepted {
+        *session = called.session;
+    }
     called.answer
 }

@@ -40,7 +40,7 @@ fn widen(bytes: &[u8], characters: &mut [u16])
 fn consumed(session: Session) -> u64
     ensures { λ r. ⌜ r ≡ Spec.consumed (sessionOf session) ⌝ }
 {
-    let held = session.count as u64;
+    let held = session.held_count as u64;
     if session.received < held {
         return 0;
     }
@@ -52,7 +52,7 @@ fn print_accepted(written: &[u16], status: Status, session: Session) -> bool {
     if !print_characters(written) {
         return false;
     }
-    print_status(status, consumed(session), session.steps)
+    print_status(status, consumed(session), session.tally.steps)
 }
 
 // Prints what a call came to.

@@ -3,3 +3,4 @@ pub mod Reading
 pub mod Turning
 pub mod InTurn
 pub mod Resuming
+pub mod Lending

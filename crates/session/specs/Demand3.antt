@@ -24,14 +24,14 @@ pub record Made : Type 0 where
   pub output : List ℕ
 
 -- the contract of the function that was called
-abbrev pub Kept : List ℕ → Session → Call → Made → Type 0
-Kept w s (ofFeed piece buffer) m = Feeds w s piece buffer (m .answer) (m .session) (m .output)
-Kept w s (ofFinish buffer) m = Finishes w s buffer (m .answer) (m .session) (m .output)
+abbrev pub MeetsContract : List ℕ → Session → Call → Made → Type 0
+MeetsContract w s (ofFeed piece buffer) m = Feeds w s piece buffer (m .answer) (m .session) (m .output)
+MeetsContract w s (ofFinish buffer) m = Finishes w s buffer (m .answer) (m .session) (m .output)
 
 -- "Each call is lent the compiled words and the session as the last call left it"
 unfoldable pub InTurn : List ℕ → Session → List Made → Type 0
 InTurn w s [] = Unit {0}
-InTurn w s (m ∷ ms) = Kept w s (m .call) m × InTurn w (m .session) ms
+InTurn w s (m ∷ ms) = MeetsContract w s (m .call) m × InTurn w (m .session) ms
 
 unfoldable pub callsOf : List Made → List Call
 callsOf [] = []

@@ -5,6 +5,8 @@ use crate::kept::is_sound_session;
 use crate::run::Ran;
 use crate::run::gather;
 use crate::run::run_words;
+use crate::tally::add;
+use crate::tally::of_run;
 use machine::read::expansion;
 use machine::sound_words::is_sound;
 use rules::convert::Verdict;
@@ -20,8 +22,8 @@ ghost use Rattle.meaning.specs.Direct.{limit};
 ghost use Rattle.rules.specs.Answers.{checkOf};
 ghost use Rattle.automaton.specs.Automaton.{fromWords};
 ghost use Rattle.reckoning.specs.Calls.{admits, callBy, receivedBy};
-ghost use Rattle.session.specs.Keeping.{statusOf, sessionOf};
-ghost use Rattle.session.specs.Contracts.{outcomeOf, Feeds, Finishes};
+ghost use Rattle.session.specs.Keeping.{meantStatus, sessionOf};
+ghost use Rattle.session.specs.Contracts.{outcomeOf, Feeds, Finishes, Told};
 ghost use Rattle.session.specs.bridge.Later.{laterOf, Small};
 
 // "Feed and finish write output from the buffer's start and answer its count and the status", or a refusal's number.
@@ -30,9 +32,10 @@ pub enum Answer {
     Refused(u8),
 }
 
-// What a call by value comes to: its answer, and the session as it leaves it.
+// What a call by value comes to: its answer, whether it was accepted, and the session as it leaves it.
 pub struct Called {
     pub answer: Answer,
+    pub accepted: bool,
     pub session: Session,
 }
 
@@ -66,13 +69,13 @@ fn admit(words: &[u16], session: Session, size: usize, room: usize) -> Verdict
         return Verdict::Refused(13);
     };
     let most = expansion(words) as u64;
-    let held = session.count as u64;
+    let held = session.held_count as u64;
     admit_open(most, session.received, held, size as u64, room as u64)
 }
 
 // "When stopped, nothing is held and received equals consumed."
 fn received_by(status: Status, received: u64, gone: u64) -> u64
-    ensures { λ r. ⌜ r ≡ receivedBy (statusOf status) received gone ⌝ }
+    ensures { λ r. ⌜ r ≡ receivedBy (meantStatus status) received gone ⌝ }
 {
     match status {
         Status::Open => received,
@@ -86,30 +89,31 @@ fn later(session: Session, size: usize, ran: Ran, held: [u16; 8]) -> Session
     requires { ⌜ Small (sessionOf session) size ran ⌝ }
     ensures { λ r. ⌜ sessionOf r ≡ laterOf (sessionOf session) size ran held ⌝ }
 {
-    let consumed = session.received - session.count as u64;
+    let consumed = session.received - session.held_count as u64;
     let gone = consumed + ran.from as u64;
     let received = session.received + size as u64;
     let status = ran.status;
     let state = ran.state;
+    let before = session.tally;
     Session {
         status,
         state,
         held,
-        count: (ran.at - ran.from) as u16,
+        held_count: (ran.at - ran.from) as u16,
         received: received_by(status, received, gone),
-        produced: session.produced + ran.count as u64,
-        steps: session.steps + ran.steps,
+        tally: add(before, of_run(ran)),
     }
 }
 
 // The machine goes on from an admitted session over the piece.
 fn resume(words: &[u16], session: Session, piece: &[u16], ended: bool, output: &mut [u16]) -> Called
     requires { ⌜ admits (now words) (sessionOf session) (length (now piece)) (length (now output)) ≡ accepted tt ⌝ }
+    ensures { λ r. ⌜ Told r session ⌝ }
     ensures { λ r. ⌜ outcomeOf (r .answer) (r .session) (now (output .exit))
         ≡ callBy (accepted tt) (fromWords (now (words .entry))) (sessionOf session) (now (piece .entry)) ended (now (output .entry)) ⌝ }
 {
     let held = session.held;
-    let count = session.count as usize;
+    let count = session.held_count as usize;
     let state = session.state;
     let ran = run_words(words, &held[..count], piece, state, ended, output);
     let mut store = [0u16; 8];
@@ -121,12 +125,14 @@ fn resume(words: &[u16], session: Session, piece: &[u16], ended: bool, output: &
             count: written,
             status,
         },
+        accepted: true,
         session: later(session, piece.len(), ran, store),
     }
 }
 
 // A feed of the piece, or a finish, of a session by value.
 fn call(words: &[u16], session: Session, piece: &[u16], ended: bool, output: &mut [u16]) -> Called
+    ensures { λ r. ⌜ Told r session ⌝ }
     ensures { λ r. ⌜ outcomeOf (r .answer) (r .session) (now (output .exit))
         ≡ callBy (admits (now (words .entry)) (sessionOf session) (length (now (piece .entry))) (length (now (output .entry))))
         (fromWords (now (words .entry))) (sessionOf session) (now (piece .entry)) ended (now (output .entry)) ⌝ }
@@ -135,6 +141,7 @@ fn call(words: &[u16], session: Session, piece: &[u16], ended: bool, output: &mu
         Verdict::Refused(number) => {
             Called {
                 answer: Answer::Refused(number),
+                accepted: false,
                 session,
             }
         }
@@ -144,6 +151,7 @@ fn call(words: &[u16], session: Session, piece: &[u16], ended: bool, output: &mu
 
 // A feed, for callers that can't lend their session.
 pub fn feed_by_value(words: &[u16], session: Session, piece: &[u16], output: &mut [u16]) -> Called
+    ensures { λ r. ⌜ Told r session ⌝ }
     ensures { λ r. ⌜ Feeds (now (words .entry)) session (now (piece .entry)) (now (output .entry)) (r .answer) (r .session) (now (output .exit)) ⌝ }
 {
     call(words, session, piece, false, output)
@@ -151,27 +159,32 @@ pub fn feed_by_value(words: &[u16], session: Session, piece: &[u16], output: &mu
 
 // A finish, for callers that can't lend their session.
 pub fn finish_by_value(words: &[u16], session: Session, output: &mut [u16]) -> Called
+    ensures { λ r. ⌜ Told r session ⌝ }
     ensures { λ r. ⌜ Finishes (now (words .entry)) session (now (output .entry)) (r .answer) (r .session) (now (output .exit)) ⌝ }
 {
     call(words, session, &words[..0], true, output)
 }
 
-// "Feed": the session is lent, and left as the call leaves it.
+// "Feed": the session is lent, and left as the call leaves it. It is written where the call is accepted, and else only read.
 pub fn feed(words: &[u16], session: &mut Session, piece: &[u16], output: &mut [u16]) -> Answer
     ensures { λ r. ⌜ Feeds (now (words .entry)) (now (session .entry)) (now (piece .entry)) (now (output .entry)) r (now (session .exit)) (now (output .exit)) ⌝ }
 {
     let found = *session;
     let called = feed_by_value(words, found, piece, output);
-    *session = called.session;
+    if called.accepted {
+        *session = called.session;
+    }
     called.answer
 }
 
-// "Finish": the session is lent, and left as the call leaves it.
+// "Finish", likewise.
 pub fn finish(words: &[u16], session: &mut Session, output: &mut [u16]) -> Answer
     ensures { λ r. ⌜ Finishes (now (words .entry)) (now (session .entry)) (now (output .entry)) r (now (session .exit)) (now (output .exit)) ⌝ }
 {
     let found = *session;
     let called = finish_by_value(words, found, output);
-    *session = called.session;
+    if called.accepted {
+        *session = called.session;
+    }
     called.answer
 }

@@ -1,4 +1,6 @@
 // What is kept between calls, and the test of it.
+use crate::tally::Tally;
+use crate::tally::zero;
 use machine::numbers::StateNo;
 use machine::read::class_of;
 use machine::read::expansion;
@@ -30,10 +32,9 @@ pub struct Session {
     pub status: Status,
     pub state: StateNo,
     pub held: [u16; 8],
-    pub count: u16,
+    pub held_count: u16,
     pub received: u64,
-    pub produced: u64,
-    pub steps: u64,
+    pub tally: Tally,
 }
 
 // Where characters lead from state 0 by targets, "neither through nor to a state whose go equals its end".
@@ -50,10 +51,9 @@ pub fn fresh() -> Session
         status: Status::Open,
         state: StateNo(0),
         held: [0; 8],
-        count: 0,
+        held_count: 0,
         received: 0,
-        produced: 0,
-        steps: 0,
+        tally: zero(),
     }
 }
 
@@ -147,17 +147,17 @@ fn cost(words: &[u16]) -> u64
 
 // "open, the held characters lead from state 0 to the state, and steps are at most (L + 3) times consumed plus held"
 fn open_sound(words: &[u16], session: Session, consumed: u64) -> bool
-    requires { ⌜ T (sound (now words)) × (session .count ≤ 8) × (consumed ≤ limit) ⌝ }
+    requires { ⌜ T (sound (now words)) × (session .«held_count» ≤ 8) × (consumed ≤ limit) ⌝ }
     ensures { λ r.
-        ⌜ r ≡ allOf (isAt (session .state .0) (path (fromWords (now (words .entry))) 0 (take (session .count) (session .held)))
-        ∷ leb (session .steps) ((longestWord (now (words .entry)) + 3) * consumed + session .count)
+        ⌜ r ≡ allOf (isAt (session .state .0) (path (fromWords (now (words .entry))) 0 (take (session .«held_count») (session .held)))
+        ∷ leb (session .tally .steps) ((longestWord (now (words .entry)) + 3) * consumed + session .«held_count»)
         ∷ []) ⌝ }
 {
-    let count = session.count;
+    let count = session.held_count;
     if !leads_to(words, &session.held, count as usize, session.state) {
         return false;
     }
-    session.steps <= cost(words) * consumed + count as u64
+    session.tally.steps <= cost(words) * consumed + count as u64
 }
 
 // "closed or stopped, state 0, nothing held, steps at most (L + 3) times (consumed + 1)"
@@ -165,17 +165,17 @@ fn ended_sound(words: &[u16], session: Session, consumed: u64) -> bool
     requires { ⌜ T (sound (now words)) × (consumed ≤ limit) ⌝ }
     ensures { λ r.
         ⌜ r ≡ allOf (eqb (session .state .0) 0
-        ∷ eqb (session .count) 0
-        ∷ leb (session .steps) ((longestWord (now (words .entry)) + 3) * (consumed + 1))
+        ∷ eqb (session .«held_count») 0
+        ∷ leb (session .tally .steps) ((longestWord (now (words .entry)) + 3) * (consumed + 1))
         ∷ []) ⌝ }
 {
     if session.state.0 != 0 {
         return false;
     }
-    if session.count != 0 {
+    if session.held_count != 0 {
         return false;
     }
-    session.steps <= cost(words) * (consumed + 1)
+    session.tally.steps <= cost(words) * (consumed + 1)
 }
 
 // A session as a call finds it is sound.
@@ -183,12 +183,12 @@ pub fn is_sound_session(words: &[u16], session: Session) -> bool
     requires { ⌜ T (sound (now words)) ⌝ }
     ensures { λ r. ⌜ r ≡ soundSession (now (words .entry)) (sessionOf session) ⌝ }
 {
-    let count = session.count as u64;
+    let count = session.held_count as u64;
     if !counts_sound(
         expansion(words) as u64,
         count,
         session.received,
-        session.produced,
+        session.tally.produced,
     ) {
         return false;
     }

@@ -2,3 +2,4 @@
 pub mod call;
 pub mod kept;
 pub mod run;
+pub mod tally;

@@ -25,10 +25,10 @@ ghost use Rattle.automaton.specs.Sound.{classCount, blockAt, expansionWord, sou
 ghost use Rattle.automaton.specs.Automaton.{fromWords};
 ghost use Rattle.reckoning.specs.Machine.{start, run};
 ghost use Rattle.reckoning.specs.Session.{path, isAt};
-ghost use Rattle.session.specs.Keeping.{statusOf};
+ghost use Rattle.session.specs.Keeping.{meantStatus};
 ghost use Rattle.automaton.specs.Classes.{classOf};
 ghost use Rattle.machine.specs.bridge.Readings.{wordOf};
-ghost use Rattle.session.specs.bridge.Running.{firstOf, Classed, SomewherePlaced, ReadsOn, Passes, Moves, Emit, Back, Between, Halted, Waits, Stands, acceptNow, Fits, Placed, Finished, Onward, Beyond};
+ghost use Rattle.session.specs.bridge.Running.{firstOf, Classed, SomewherePlaced, ReadsOn, Passes, Moves, Emit, Back, Between, Halted, Waits, Stands, acceptNow, Fits, Placed, EndsAs, Advances, Beyond};
 use rules::layout::ENTRY;
 
 // A run: the store is the text from `from` on and below `at`; whether it is done, and how.
@@ -289,7 +289,7 @@ fn emit_rule<'a>(
 // The run has ended with an empty store: *stop*, after *back*, or *close*.
 fn halted(status: Status, run: Ran, steps: u64) -> Ran
     requires { ⌜ run .steps + steps < 18446744073709551616 ⌝ }
-    ensures { λ r. ⌜ Halted (statusOf status) (run .steps + steps) run r ⌝ }
+    ensures { λ r. ⌜ Halted (meantStatus status) (run .steps + steps) run r ⌝ }
 {
     let from = run.from;
     Ran {
@@ -353,7 +353,7 @@ fn fall_back<'a>(
 ) -> Ran
     requires { ⌜ T (sound (now words)) × Placed (now words) (now given ++ now piece) (length (now output)) run ⌝ }
     requires { ⌜ Stands (now words) (now given ++ now piece) stuck (run .state .0) (run .at) × (acceptNow (now words) (run .state .0) stuck ended ≡ 0) ⌝ }
-    ensures { λ r. ⌜ Onward (now (words .entry)) (now (given .entry) ++ now (piece .entry)) ended (length (now (output .entry)))
+    ensures { λ r. ⌜ Advances (now (words .entry)) (now (given .entry) ++ now (piece .entry)) ended (length (now (output .entry)))
         run (now (output .entry)) (r .done) r (now (output .exit)) ⌝ }
     ensures { λ r. ⌜ Beyond run (now (output .entry)) r (now (output .exit)) ⌝ }
 {
@@ -381,7 +381,7 @@ fn turn<'a>(
 ) -> Ran
     requires { ⌜ T (sound (now words)) × Classed (now words) (now classes) ⌝ }
     requires { ⌜ Placed (now words) (now given ++ now piece) (length (now output)) run ⌝ }
-    ensures { λ r. ⌜ Onward (now (words .entry)) (now (given .entry) ++ now (piece .entry)) ended (length (now (output .entry)))
+    ensures { λ r. ⌜ Advances (now (words .entry)) (now (given .entry) ++ now (piece .entry)) ended (length (now (output .entry)))
         run (now (output .entry)) (r .done) r (now (output .exit)) ⌝ }
     ensures { λ r. ⌜ Beyond run (now (output .entry)) r (now (output .exit)) ⌝ }
 {
@@ -417,7 +417,7 @@ fn advance<'a>(
 ) -> Ran
     requires { ⌜ T (sound (now words)) × Classed (now words) (now classes) ⌝ }
     requires { ⌜ Placed (now words) (now given ++ now piece) (length (now output)) run ⌝ }
-    ensures { λ r. ⌜ Onward (now (words .entry)) (now (given .entry) ++ now (piece .entry)) ended (length (now (output .entry)))
+    ensures { λ r. ⌜ Advances (now (words .entry)) (now (given .entry) ++ now (piece .entry)) ended (length (now (output .entry)))
         run (now (output .entry)) (r .done) r (now (output .exit)) ⌝ }
     ensures { λ r. ⌜ Beyond run (now (output .entry)) r (now (output .exit)) ⌝ }
 {
@@ -441,7 +441,7 @@ pub fn run_words<'a>(
     requires { ⌜ T (sound (now words)) × T (isAt (state .0) (path (fromWords (now words)) 0 (now given))) ⌝ }
     requires { ⌜ (length (now given) ≤ 8) × (length (now given) + length (now piece) ≤ 1099511627784) ⌝ }
     requires { ⌜ expansionWord (now words) * (length (now given) + length (now piece)) ≤ length (now output) ⌝ }
-    ensures { λ r. ⌜ Finished (now (words .entry)) (now (given .entry) ++ now (piece .entry))
+    ensures { λ r. ⌜ EndsAs (now (words .entry)) (now (given .entry) ++ now (piece .entry))
         (run (fromWords (now (words .entry))) ended (start (now (given .entry)) (now (piece .entry)) (state .0))) r (now (output .exit)) ⌝ }
     ensures { λ _. ⌜ now (output .exit)
         ≡ over
@@ -453,7 +453,7 @@ pub fn run_words<'a>(
     let known = known_classes(piece.len());
     fill_classes(words, &mut table[..known]);
     let mut ran = Ran {
-        done: false,
+        done: false, // a run begins
         status: Status::Open,
         state,
         from: 0,

@@ -18,7 +18,7 @@ use Rattle.reckoning.specs.Calls.{Answer, CallOutcome}
 use Rattle.reckoning.specs.Reckoning.{ofFeed, ofFinish}
 use Rattle.reckoning.specs.Claims.{CallAnswers, CallsAnswer}
 use Rattle.reckoning.proofs.Laws.Answers.{calls-answer}
-use Rattle.cobbletwill.specs.Sessions.{statusNumber, statusFrom, statusCode, sessionFrom, numbersOf, answerCode, countAfter, left, faceOf}
+use Rattle.cobbletwill.specs.Sessions.{statusNumber, statusFrom, statusCode, sessionFrom, numbersOf, answerCode, writtenAfter, left, faceOf}
 use Rattle.cobbletwill.specs.Sessions.{noSession, calledBy, feed, finish}
 use Rattle.cobbletwill.specs.Claims.{Faithful, FaceAnswers, FeedsAnswer, FinishesAnswer}
 use Rattle.cobbletwill.specs.declared.sessions.SessionNumbers.{SessionNumbers}
@@ -46,15 +46,14 @@ sessions-same s =
       steps = s .steps;
     }
 
-numbers-same : (n : SessionNumbers) → n .status ≤ 2 → numbersOf (sessionFrom n) ≡ n
+pub numbers-same : (n : SessionNumbers) → n .status ≤ 2 → numbersOf (sessionFrom n) ≡ n
 numbers-same n l =
     λ i. record {
       received = n .received;
-      produced = n .produced;
-      steps = n .steps;
+      tally = n .tally;
       status = number-same (n .status) l i;
       state = n .state;
-      count = n .count;
+      «held_count» = n .«held_count»;
       held = n .held;
     }
 
@@ -91,7 +90,7 @@ module _ (w : List ℕ) (n : SessionNumbers) (buffer : List ℕ) (found : ℕ) w
       let same = h .unchanged k e in
       record {
         numbered = rw e (refusal-numbered k (rw e at (h .numbered)));
-        unchanged = λ low high i. left (answerCode (o .answer)) ((ap numbersOf (same .0) ∙ numbers-same n small) i) (same .1 i) (countAfter (e i) found);
+        unchanged = λ low high i. left (answerCode (o .answer)) ((ap numbersOf (same .0) ∙ numbers-same n small) i) (same .1 i) (writtenAfter (e i) found);
       }
   handed o small h (accepted a) e =
       record {

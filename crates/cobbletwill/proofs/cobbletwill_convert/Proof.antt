@@ -7,13 +7,13 @@ use borrow.Author.Needs.{needs}
 use Rattle.meaning.specs.Refusal.{Outcome}
 use Rattle.meaning.specs.Direct.{Converted}
 use Rattle.rules.specs.Answers.{conversionOf}
-use Rattle.cobbletwill.specs.Face.{codeOf, placeOf, countOf}
+use Rattle.cobbletwill.specs.Face.{codeOf, placeOf, writtenOf}
 use Rattle.cobbletwill.proofs.cobbletwill_convert.Statement.{statement}
 use Rattle.cobbletwill.proofs.cobbletwill_convert.Tie as tie
 
 -- the three numbers of an outcome, from an outcome that equals it
-numbers : {o p : Outcome Converted} (place count : ℕ) → o ≡ p → (codeOf o ≡ codeOf p) × (placeOf o place ≡ placeOf p place) × (countOf o count ≡ countOf p count)
-numbers place count same = (ap codeOf same, ap (λ o. placeOf o place) same, ap (λ o. countOf o count) same)
+numbers : {o p : Outcome Converted} (place count : ℕ) → o ≡ p → (codeOf o ≡ codeOf p) × (placeOf o place ≡ placeOf p place) × (writtenOf o count ≡ writtenOf p count)
+numbers place count same = (ap codeOf same, ap (λ o. placeOf o place) same, ap (λ o. writtenOf o count) same)
 
 convert-requires : tie.Need-convert-requires
 convert-requires c κs = search needs
@@ -38,7 +38,7 @@ returns c =
     let s = c .before .before .before .before .before .before .before .before .before .before in
     let done = c .before .before .before .before .before .convert .ensures in
     let known = c .before .conversion .given in
-    let n = numbers (now (s .args .place)) (now (s .args .count)) (ap conversionOf (sym (known .1)) ∙ done .0) in
+    let n = numbers (now (s .args .place)) (now (s .args .written)) (ap conversionOf (sym (known .1)) ∙ done .0) in
     (n .0, (done .1, (n .1, n .2)))
 
 same-length-2 : tie.Need-same-length-2
@@ -49,7 +49,7 @@ returns-2 c =
     let s = c .before .before .before .before .before .before .before .before .before .before in
     let done = c .before .before .before .before .before .convert .ensures in
     let known = c .before .conversion2 .given in
-    let n = numbers (now (s .args .place)) (now (s .args .count)) (ap conversionOf (sym (known .1)) ∙ done .0) in
+    let n = numbers (now (s .args .place)) (now (s .args .written)) (ap conversionOf (sym (known .1)) ∙ done .0) in
     (n .0, (done .1, (n .1, n .2)))
 
 same-length-3 : tie.Need-same-length-3
@@ -60,7 +60,7 @@ returns-3 c =
     let s = c .before .before .before .before .before .before .before .before .before .before in
     let done = c .before .before .before .before .before .convert .ensures in
     let known = c .before .conversion3 .given in
-    let n = numbers (now (s .args .place)) (now (s .args .count)) (ap conversionOf (sym (known .1)) ∙ done .0) in
+    let n = numbers (now (s .args .place)) (now (s .args .written)) (ap conversionOf (sym (known .1)) ∙ done .0) in
     (n .0, (done .1, (n .1, n .2)))
 
 pub cobbletwill-convert-spec : {M : Type 1} → statement M

@@ -1,25 +1,25 @@
 -- Demand 3 of the code: what a caller sees of calls that keep their contracts is what the outcome functions serve.
 -- Each contract is an equation with its outcome function, so one call after the other is served as it was seen.
 use mathlib.Core.List.{List, [], _∷_, _++_}
-use mathlib.Core.Path.{_≡_, refl, sym, ap, subst, _∙_}
+use mathlib.Core.Path.{_≡_, refl, sym, ap, _∙_}
 use Prim.Native.Nat.{ℕ}
 use Rattle.lists.specs.Lists.{Each}
 use Rattle.meaning.specs.Table.{Characters}
 use Rattle.reckoning.specs.Calls.{CallOutcome}
-use Rattle.reckoning.specs.Reckoning.{Call, ofFeed, ofFinish, piece, Served, unserved, called, outputBy, serveCall, serve, noInput, ran, reckon}
+use Rattle.reckoning.specs.Reckoning.{Call, ofFeed, ofFinish, piece, Served, unserved, called, outputBy, serveCall, serve, noInput, reckon}
 use Rattle.reckoning.specs.Claims.{OutcomesAgree}
 use Rattle.session.specs.Keeping.{sessionOf}
 use Rattle.session.specs.Contracts.{outcomeOf}
-use Rattle.session.specs.Demand3.{Made, Kept, InTurn, callsOf, seenCall, seen, unseen, Demand3}
+use Rattle.session.specs.Demand3.{Made, MeetsContract, InTurn, callsOf, seenCall, seen, unseen, Demand3}
 use Rattle.session.specs.declared.kept.Session.{Session}
 use Rattle.reckoning.proofs.Laws.Demand3.{outcomes-agree}
 
 -- one call: what came back is its outcome
-kept-outcome : (w : List ℕ) (s : Session) (c : Call) (m : Made) → Kept w s c m → outcomeOf (m .answer) (m .session) (m .output) ≡ called w (sessionOf s) c
+kept-outcome : (w : List ℕ) (s : Session) (c : Call) (m : Made) → MeetsContract w s c m → outcomeOf (m .answer) (m .session) (m .output) ≡ called w (sessionOf s) c
 kept-outcome w s (ofFeed p buffer) m k = k
 kept-outcome w s (ofFinish buffer) m k = k
 
-seen-served : (w : List ℕ) (s : Session) (v : Served) (m : Made) → v .session ≡ sessionOf s → Kept w s (m .call) m → seenCall v m ≡ serveCall w v (m .call)
+seen-served : (w : List ℕ) (s : Session) (v : Served) (m : Made) → v .session ≡ sessionOf s → MeetsContract w s (m .call) m → seenCall v m ≡ serveCall w v (m .call)
 seen-served w s v m e k =
     ap
     (λ (o : CallOutcome). record {

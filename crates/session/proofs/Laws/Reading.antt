@@ -18,12 +18,11 @@ use Rattle.automaton.specs.Classes.{classOf}
 use Rattle.automaton.specs.Automaton.{fromWords}
 use Rattle.machine.specs.declared.numbers.StateNo.{StateNo}
 use Rattle.automaton.proofs.Laws.Words.{sound-state, sound-class, sound-good}
-use Rattle.reckoning.specs.Machine.{Ended}
-use Rattle.session.specs.bridge.Running.{firstOf, standing, storeOf, Placed, Going, left, Onward, Beyond, Passes, Stands, Between, ReadsOn, readTo, Read, Back}
-use Rattle.session.specs.declared.kept.Status.the-variants as Kept
+use Rattle.session.specs.bridge.Running.{firstOf, Placed, Advances, Beyond, Passes, Between, ReadsOn, readTo, Read, Back}
+use Rattle.session.specs.declared.kept.Status.the-variants as Code
 use Rattle.session.specs.declared.run.Ran.{Ran}
 use Rattle.session.specs.declared.run.Ahead.{Ahead}
-use Rattle.session.proofs.Laws.Running.{first-at, character-backs, character-reads, decides-character, turn-room, default-words, onward-read, onward-default, beyond-on}
+use Rattle.session.proofs.Laws.Running.{first-at, character-backs, character-reads, decides-character, turn-room, default-words, advances-read, advances-default, beyond-on}
 use Rattle.automaton.specs.Layout.{blocksFrom, classesFrom}
 
 -- one more place of a table is filled
@@ -37,7 +36,7 @@ filled f table n x h e k i l =
 
 -- The text beyond those given back is the piece's.
 
-pub beyond-given : (given piece : List ℕ) (n : ℕ) → length given ≤ n → drop n (given ++ piece) ≡ drop (n - length given) piece
+beyond-given : (given piece : List ℕ) (n : ℕ) → length given ≤ n → drop n (given ++ piece) ≡ drop (n - length given) piece
 beyond-given given piece n h =
     let e : n ≡ length given + (n - length given) = omega arith in
     ap (λ k. drop k (given ++ piece)) e ∙ drop-append-add given piece (n - length given)
@@ -113,7 +112,7 @@ module _ (w word : List ℕ) where
 
 -- A run that leads on, and then on again.
 
-pub passes-same : (w u : List ℕ) (room : ℕ) (old new : Ran) (output : List ℕ) → Placed w u room old → new .state .0 ≡ old .state .0 → new .from ≡ old .from →
+passes-same : (w u : List ℕ) (room : ℕ) (old new : Ran) (output : List ℕ) → Placed w u room old → new .state .0 ≡ old .state .0 → new .from ≡ old .from →
     new .at ≡ old .at → new .count ≡ old .count → new .steps ≡ old .steps → Passes w u room old output new output
 passes-same w u room old new output P e₁ e₂ e₃ e₄ e₅ =
     let i₁ = P .order in
@@ -141,12 +140,12 @@ passes-same w u room old new output P e₁ e₂ e₃ e₄ e₅ =
       },
     )
 
-pub passes-on : (w u : List ℕ) (room : ℕ) (old mid new : Ran) (before between after : List ℕ) → Passes w u room old before mid between →
-    ((ended : Bool) → Onward w u ended room mid between false new after) → Passes w u room old before new after
+passes-on : (w u : List ℕ) (room : ℕ) (old mid new : Ran) (before between after : List ℕ) → Passes w u room old before mid between →
+    ((ended : Bool) → Advances w u ended room mid between false new after) → Passes w u room old before new after
 passes-on w u room old mid new before between after p f =
     (f false .0, omega (arith, p .1, f false .1), λ ended r G. f ended .2 r (p .2 ended r G))
 
-pub passes-both : (w u : List ℕ) (room : ℕ) (old mid new : Ran) (before between after : List ℕ) → Passes w u room old before mid between →
+passes-both : (w u : List ℕ) (room : ℕ) (old mid new : Ran) (before between after : List ℕ) → Passes w u room old before mid between →
     Passes w u room mid between new after → Passes w u room old before new after
 passes-both w u room old mid new before between after p f = (f .0, omega (arith, p .1, f .1), λ ended r G. f .2 ended r (p .2 ended r G))
 
@@ -181,7 +180,7 @@ module _ (w u : List ℕ) (q : StateNo) (n : ℕ) where
             let mid = readTo now (ahead p m) in
             let l = r .1 now output s a P in
             passes-on w u (length output) now mid (readTo now (ahead t k)) output output output l
-            (λ ended. onward-read w u ended W mid output (l .0) (readTo now (ahead t k)) t
+            (λ ended. advances-read w u ended W mid output (l .0) (readTo now (ahead t k)) t
             (decides-character w u ended (p .0) (mid .from) m (Read t) x some refl (c .0)) (c .1) some refl refl z refl (omega arith)),
       )
 
@@ -221,8 +220,8 @@ unfolding fromWords
 first-accept w W = sound-good w W .accept-0
 
 -- the run between two words, in the state where it is
-abbrev pub betweenAt : Ran → ℕ → ℕ → ℕ → Ran
-betweenAt now place written made = record { done = false; status = Kept.Open; state = now .state; from = place; at = place; count = written; steps = made }
+abbrev betweenAt : Ran → ℕ → ℕ → ℕ → Ran
+betweenAt now place written made = record { done = false; status = Code.Open; state = now .state; from = place; at = place; count = written; steps = made }
 
 -- a run with an empty store at place n, with a count and steps, writes defaults up to another place
 abbrev pub Defaulted : List ℕ → List ℕ → ℕ → ℕ → ℕ → List ℕ → ℕ → ℕ → ℕ → List ℕ → Type 0
@@ -250,9 +249,9 @@ module _ (w u : List ℕ) (n count made : ℕ) (before : List ℕ) where
       let placed : Placed w u (length between) old = subst (λ room. Placed w u room old) (sym size) (l .0 .0) in
       let back = character-backs w W q (P .state) x (sym (ap (acceptWord w) z ∙ first-accept w W)) (ap (λ s. targetWord w s (classIn w x)) z ∙ none) in
       let default : fromWords w .default ≡ true = default-words w true (sym (ap (λ k. eqb k 1) one)) in
-      let on : (ended : Bool) → Onward w u ended (length between) old between false new after × Beyond old between new after =
-      λ ended. onward-default w u ended W old between placed new (decides-character w u ended q m m Back x some refl back) some after default z p₁ p₁ p₂ p₃ wrote in (
-        passes-on w u (length before) now old new before between after (l .0) (λ ended. subst (λ room. Onward w u ended room old between false new after) size (on ended .0)),
+      let on : (ended : Bool) → Advances w u ended (length between) old between false new after × Beyond old between new after =
+      λ ended. advances-default w u ended W old between placed new (decides-character w u ended q m m Back x some refl back) some after default z p₁ p₁ p₂ p₃ wrote in (
+        passes-on w u (length before) now old new before between after (l .0) (λ ended. subst (λ room. Advances w u ended room old between false new after) size (on ended .0)),
         (omega (arith, l .1 .0, on false .1 .0), beyond-on old new before between after (l .1 .1) (on false .1)),
       )
 

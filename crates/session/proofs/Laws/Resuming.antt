@@ -20,10 +20,10 @@ use Rattle.reckoning.specs.Machine.{Status, Open, Closed, Stopped, Ended}
 use Rattle.reckoning.specs.Session.{Session, consumed, store, path, isAt}
 use Rattle.reckoning.specs.Calls.{admits, receivedBy, resumed, later, callBy}
 use Rattle.session.specs.Keeping.{sessionOf}
-use Rattle.session.specs.bridge.Running.{storeOf, Finished}
+use Rattle.session.specs.bridge.Running.{storeOf, EndsAs}
 use Rattle.session.specs.Contracts.{outcomeOf}
 use Rattle.session.specs.bridge.Later.{laterOf, Small}
-use Rattle.session.specs.declared.kept.Session as Kept
+use Rattle.session.specs.declared.kept.Session as Code
 use Rattle.session.specs.declared.run.Ran.{Ran}
 use Rattle.session.specs.declared.call.Answer.the-variants.{Accepted}
 use Rattle.reckoning.proofs.Laws.Kept.{Stands, SoundFacts, sound-facts, kept-sound}
@@ -95,7 +95,7 @@ module _ (w : List ℕ) (s : Session) (piece : List ℕ) (ended : Bool) (room : 
   left-facts : SoundFacts w left
   left-facts = sound-facts w left (kept-sound w (a .sound-words) s piece ended (a .sound-session) (a .passed .0) eight (a .passed .1))
 
-  module _ (ran : Ran) (output : List ℕ) (f : Finished w (store s ++ piece) r ran output) where
+  module _ (ran : Ran) (output : List ℕ) (f : EndsAs w (store s ++ piece) r ran output) where
     held-count : ran .at - ran .from ≡ length (r .final .store)
     held-count =
         let n : ran .at - ran .from ≤ length (drop (ran .from) (store s ++ piece)) = omega (arith, length-drop (ran .from) (store s ++ piece), f .inside) in
@@ -131,7 +131,7 @@ module _ (w : List ℕ) (s : Session) (piece : List ℕ) (ended : Bool) (room : 
         }
 
     -- what the code leaves is what the definition leaves
-    pub same-outcome : (buffer held : List ℕ) (after : Kept.Session) → output ≡ over text buffer → held ≡ over (storeOf (store s ++ piece) ran) (pad 8 []) →
+    pub same-outcome : (buffer held : List ℕ) (after : Code.Session) → output ≡ over text buffer → held ≡ over (storeOf (store s ++ piece) ran) (pad 8 []) →
         sessionOf after ≡ laterOf s (length piece) ran held →
         outcomeOf (Accepted (ran .count) (ran .status)) after output ≡ callBy (accepted tt) (fromWords w) s piece ended buffer
     same-outcome buffer held after e₁ e₂ e₃ =

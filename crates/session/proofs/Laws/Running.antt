@@ -25,8 +25,8 @@ use Rattle.automaton.proofs.Laws.Good.{after, Leads}
 use Rattle.automaton.proofs.Laws.Words.{Names, sound-header, sound-rule, sound-default, sound-state, sound-class, sound-good, sound-longest, length-blockOutput}
 use Rattle.reckoning.specs.Machine.{Configuration, Status, Open, Closed, Stopped, onward, halt, step, Ended, steps, run, start}
 use Rattle.reckoning.specs.Session.{path, isAt}
-use Rattle.session.specs.Keeping.{statusOf}
-use Rattle.session.specs.bridge.Running.{firstOf, standing, stepOf, Fits, Decides, storeOf, Placed, Going, Finished, left, Onward, Beyond, Move, Emit, Read, Back, Wait, Close}
+use Rattle.session.specs.Keeping.{meantStatus}
+use Rattle.session.specs.bridge.Running.{firstOf, standing, stepBy, Fits, Decides, storeOf, Placed, Going, EndsAs, left, Advances, Beyond, Move, Emit, Read, Back, Wait, Close}
 use Rattle.session.specs.declared.run.Ran.{Ran}
 use Rattle.reckoning.proofs.Laws.Run.{step-accept, step-read, step-back, due-read, due-stop, due-emit, steps-onward, steps-halt, fuel-enough}
 use Rattle.reckoning.proofs.Laws.Kept.{path-leads}
@@ -82,7 +82,7 @@ gathered u found store n m h e = ap (take m) e ∙ take-at (take m (drop n u)) _
 abbrev OnCharacter : Automaton → ℕ → ℕ → Move → Type 0
 OnCharacter m q x v =
     (ended : Bool) (store rest : List ℕ) (log : List Emission) (n : ℕ) →
-    step m ended (standing store (x ∷ rest) q log n) ≡ stepOf v (standing store (x ∷ rest) q log n)
+    step m ended (standing store (x ∷ rest) q log n) ≡ stepBy v (standing store (x ∷ rest) q log n)
 
 module _ (w : List ℕ) (W : T (sound w)) (q : ℕ) (b : q < stateCount w) where
   pub rule-fits : (g : RuleNo) (n : ℕ) → suc (g .0) ≡ n → (n ≢ 0 → Names w (depthWord w q) n) → Fits w q (Emit g)
@@ -124,7 +124,7 @@ module _ (w u : List ℕ) (ended : Bool) (q before after : ℕ) (v : Move) where
   decides-character x h e f log n =
       let store = take (after - before) (drop before u) in
       let p : x ∷ drop (suc after) u ≡ drop after u = ap (λ y. y ∷ drop (suc after) u) e ∙ sym (drop-cons u after 0 h) in
-      subst (λ z. step (fromWords w) ended (standing store z q log n) ≡ stepOf v (standing store z q log n)) p (f ended store (drop (suc after) u) log n)
+      subst (λ z. step (fromWords w) ended (standing store z q log n) ≡ stepBy v (standing store z q log n)) p (f ended store (drop (suc after) u) log n)
 
 -- A run with fuel enough: a step that leads on changes nothing, and one that halts is its end.
 module _ (A : Automaton) (ended : Bool) (most : ℕ) (r : Ended) where
@@ -222,11 +222,11 @@ module _ (w u : List ℕ) (ended : Bool) (W : T (sound w)) (old : Ran) (before :
   shallow = omega (arith, P .depth, sound-state w W (old .state .0) (P .state) .shallow, sound-header w W .longest)
 
   -- the run ended with the old log
-  ended-as : (r : Ended) (G : Going w u ended r old before) (b : Status) (f : Configuration) → r ≡ record { status = b; final = f } → statusOf (new .status) ≡ b →
+  ended-as : (r : Ended) (G : Going w u ended r old before) (b : Status) (f : Configuration) → r ≡ record { status = b; final = f } → meantStatus (new .status) ≡ b →
       new .state .0 ≡ f .state → storeOf u new ≡ f .store → new .from ≡ old .from → new .count ≡ old .count → new .steps ≡ f .steps → f .log ≡ G .log →
-      new .from ≤ new .at → new .at ≤ old .at → Finished w u r new before
+      new .from ≤ new .at → new .at ≤ old .at → EndsAs w u r new before
   ended-as r G b f e e₀ e₁ e₂ e₃ e₄ e₅ e₆ p₁ p₂ =
-      subst (λ z. Finished w u z new before) (sym e) (record {
+      subst (λ z. EndsAs w u z new before) (sym e) (record {
         status = e₀;
         state = e₁;
         order = p₁;
@@ -239,7 +239,7 @@ module _ (w u : List ℕ) (ended : Bool) (W : T (sound w)) (old : Ran) (before :
       })
 
   -- *take*
-  module _ (p : StateNo) (st : (log : List Emission) (n : ℕ) → step A ended (stood log n) ≡ stepOf (Read p) (stood log n)) (fits : Fits w (old .state .0) (Read p))
+  module _ (p : StateNo) (st : (log : List Emission) (n : ℕ) → step A ended (stood log n) ≡ stepBy (Read p) (stood log n)) (fits : Fits w (old .state .0) (Read p))
       (some : old .at < length u) (e₁ : new .state .0 ≡ p .0) (e₂ : new .from ≡ old .from) (e₃ : new .at ≡ old .at + 1) (e₄ : new .count ≡ old .count)
       (e₅ : new .steps ≡ old .steps + 1) where
     read-runs : (r : Ended) (log : List Emission) → Runs A ended most r (stood log (old .steps)) →
@@ -252,8 +252,8 @@ module _ (w u : List ℕ) (ended : Bool) (W : T (sound w)) (old : Ran) (before :
         let q : d ≡ standing (storeOf u new) (drop (new .at) u) (new .state .0) log (new .steps) = λ i. standing (s i) (t i) (sym e₁ i) log (sym e₅ i) in
         subst (Runs A ended most r) q (runs-on A ended most r (stood log (old .steps)) d (st log (old .steps)) h)
 
-    pub onward-read : Onward w u ended (length before) old before false new before
-    onward-read =
+    pub advances-read : Advances w u ended (length before) old before false new before
+    advances-read =
         let i₁ = P .order in
         let i₂ = P .depth in
         let i₃ = P .few in
@@ -341,11 +341,11 @@ module _ (w u : List ℕ) (ended : Bool) (W : T (sound w)) (old : Ran) (before :
           text = ap (λ x. take x after) e₄ ∙ text-put .0 ∙ ap (λ l. l ++ blockOutput (blockAt w g) word) (G .text) ∙ sym t;
         }
 
-    onward-put : Onward w u ended (length before) old before false new after
-    onward-put = (emit-placed, omega (arith, P .order, P .inside), emit-going)
+    advances-put : Advances w u ended (length before) old before false new after
+    advances-put = (emit-placed, omega (arith, P .order, P .inside), emit-going)
 
   -- *emit*
-  module _ (g : RuleNo) (after : List ℕ) (st : (log : List Emission) (n : ℕ) → step A ended (stood log n) ≡ stepOf (Emit g) (stood log n))
+  module _ (g : RuleNo) (after : List ℕ) (st : (log : List Emission) (n : ℕ) → step A ended (stood log n) ≡ stepBy (Emit g) (stood log n))
       (fits : Fits w (old .state .0) (Emit g)) (e₁ : new .state .0 ≡ 0) (e₂ : new .from ≡ old .at) (e₃ : new .at ≡ old .at)
       (e₄ : new .count ≡ old .count + at (blockAt w (g .0)) 2) (e₅ : new .steps ≡ old .steps + 1)
       (wrote : after ≡ take (old .count) before ++ blockOutput (blockAt w (g .0)) (storeOf u old) ++ drop (old .count + at (blockAt w (g .0)) 2) before) where
@@ -360,8 +360,8 @@ module _ (w u : List ℕ) (ended : Bool) (W : T (sound w)) (old : Ran) (before :
         subst (Runs A ended most r) (λ i. standing [] (drop (sym to-end i) u) 0 later (old .steps + 1))
         (runs-on A ended most r (stood log (old .steps)) d (st log (old .steps)) h)
 
-    pub onward-emit : Onward w u ended (length before) old before false new after
-    onward-emit =
+    pub advances-emit : Advances w u ended (length before) old before false new after
+    advances-emit =
         let i₁ = fits .2 in
         let i₂ = P .depth in
         let n : ℕ = old .at - old .from in
@@ -371,10 +371,10 @@ module _ (w u : List ℕ) (ended : Bool) (W : T (sound w)) (old : Ran) (before :
         let p₄ : n < 9 * n = omega arith in
         let p₅ : new .from ≡ old .from + n = e₂ ∙ sym to-end in
         let p₆ : new .at ≡ old .from + n = e₃ ∙ sym to-end in
-        onward-put (g .0) n after 1 e₁ p₅ p₆ e₄ e₅ p₁ p₂ p₃ p₄ (fits .3) wrote emit-leads
+        advances-put (g .0) n after 1 e₁ p₅ p₆ e₄ e₅ p₁ p₂ p₃ p₄ (fits .3) wrote emit-leads
 
   -- *back*, where something stands before the end
-  module _ (st : (log : List Emission) (n : ℕ) → step A ended (stood log n) ≡ stepOf Back (stood log n)) (some : old .from < length u) where
+  module _ (st : (log : List Emission) (n : ℕ) → step A ended (stood log n) ≡ stepBy Back (stood log n)) (some : old .from < length u) where
     abbrev y : ℕ
     y = getD u (old .from) 0
 
@@ -414,17 +414,17 @@ module _ (w u : List ℕ) (ended : Bool) (W : T (sound w)) (old : Ran) (before :
       unfolding fromWords
       few-default = sound-default w W (eqb→eq (at w 5) 1 (to-T (eqb (at w 5) 1) d)) .outputs
 
-      pub onward-default : Onward w u ended (length before) old before false new after × Beyond old before new after
-      onward-default =
+      pub advances-default : Advances w u ended (length before) old before false new after × Beyond old before new after
+      advances-default =
           let p₁ : 0 < 1 = omega arith in
           let p₂ : old .from + 1 ≤ length u = omega arith in
           let p₃ : old .at - old .from + 3 ≤ 11 * 1 = omega (arith, shallow) in
           let p₄ : old .at - old .from < 9 * 1 = omega (arith, shallow) in
-          (onward-put defaultNumber 1 after 3 e₁ e₂ e₃ e₄ e₅ p₁ p₂ p₃ p₄ few-default wrote default-leads, beyond-put w u old before P new defaultNumber (take 1 (drop (old .from) u)) after e₄ wrote)
+          (advances-put defaultNumber 1 after 3 e₁ e₂ e₃ e₄ e₅ p₁ p₂ p₃ p₄ few-default wrote default-leads, beyond-put w u old before P new defaultNumber (take 1 (drop (old .from) u)) after e₄ wrote)
 
-    pub onward-stop : A .default ≡ false → statusOf (new .status) ≡ Stopped → new .state .0 ≡ 0 → new .from ≡ old .from → new .at ≡ old .from →
-        new .count ≡ old .count → new .steps ≡ old .steps + 2 → Onward w u ended (length before) old before true new before
-    onward-stop d e₀ e₁ e₂ e₃ e₄ e₅ r G =
+    pub advances-stop : A .default ≡ false → meantStatus (new .status) ≡ Stopped → new .state .0 ≡ 0 → new .from ≡ old .from → new .at ≡ old .from →
+        new .count ≡ old .count → new .steps ≡ old .steps + 2 → Advances w u ended (length before) old before true new before
+    advances-stop d e₀ e₁ e₂ e₃ e₄ e₅ r G =
         let s : ℕ = old .steps in
         let c₁ : Configuration = due [] (y ∷ v) (G .log) (s + 1) in
         let f : Configuration = standing [] [] 0 (G .log) (s + 1 + 1) in
@@ -433,18 +433,18 @@ module _ (w u : List ℕ) (ended : Bool) (W : T (sound w)) (old : Ran) (before :
         ended-as r G Stopped f e e₀ e₁ (none-of u (new .at) (new .from) (e₃ ∙ sym e₂)) e₂ e₄ (omega arith) refl (omega arith) (omega (arith, P .order))
 
   -- the run waits, or closes
-  pub onward-wait : ((log : List Emission) (n : ℕ) → step A ended (stood log n) ≡ stepOf Wait (stood log n)) → statusOf (new .status) ≡ Open →
+  pub advances-wait : ((log : List Emission) (n : ℕ) → step A ended (stood log n) ≡ stepBy Wait (stood log n)) → meantStatus (new .status) ≡ Open →
       new .state .0 ≡ old .state .0 → new .from ≡ old .from → new .at ≡ old .at → new .count ≡ old .count → new .steps ≡ old .steps →
-      Onward w u ended (length before) old before true new before
-  onward-wait st e₀ e₁ e₂ e₃ e₄ e₅ r G =
+      Advances w u ended (length before) old before true new before
+  advances-wait st e₀ e₁ e₂ e₃ e₄ e₅ r G =
       let f : Configuration = stood (G .log) (old .steps) in
       let s : storeOf u new ≡ storeOf u old = λ i. take (e₃ i - e₂ i) (drop (e₂ i) u) in
       ended-as r G Open f (runs-halt A ended most r f f Open (st (G .log) (old .steps)) (G .runs)) e₀ e₁ s e₂ e₄ e₅ refl (omega (arith, P .order)) (omega arith)
 
-  pub onward-close : ((log : List Emission) (n : ℕ) → step A ended (stood log n) ≡ stepOf Close (stood log n)) → statusOf (new .status) ≡ Closed →
+  pub advances-close : ((log : List Emission) (n : ℕ) → step A ended (stood log n) ≡ stepBy Close (stood log n)) → meantStatus (new .status) ≡ Closed →
       new .state .0 ≡ 0 → new .from ≡ old .from → new .at ≡ old .from → new .count ≡ old .count → new .steps ≡ old .steps + 1 →
-      Onward w u ended (length before) old before true new before
-  onward-close st e₀ e₁ e₂ e₃ e₄ e₅ r G =
+      Advances w u ended (length before) old before true new before
+  advances-close st e₀ e₁ e₂ e₃ e₄ e₅ r G =
       let f : Configuration = standing [] [] 0 (G .log) (old .steps + 1) in
       ended-as r G Closed f (runs-halt A ended most r (stood (G .log) (old .steps)) f Closed (st (G .log) (old .steps)) (G .runs)) e₀ e₁
       (none-of u (new .at) (new .from) (e₃ ∙ sym e₂)) e₂ e₄ e₅ refl (omega arith) (omega (arith, P .order))
@@ -452,7 +452,7 @@ module _ (w u : List ℕ) (ended : Bool) (W : T (sound w)) (old : Ran) (before :
 -- A whole run: done, or placed and going on.
 
 abbrev pub Stage : List ℕ → List ℕ → Bool → ℕ → Ended → Bool → Ran → List ℕ → Type 0
-Stage w u ended room r true now output = Finished w u r now output
+Stage w u ended room r true now output = EndsAs w u r now output
 Stage w u ended room r false now output = Placed w u room now × Going w u ended r now output
 
 -- turns that are left at most
@@ -460,15 +460,15 @@ abbrev pub toGo : List ℕ → Bool → Ran → ℕ
 toGo u true now = 0
 toGo u false now = suc (left u now)
 
-pub stage-on : (w u : List ℕ) (ended : Bool) (room : ℕ) (r : Ended) (old new : Ran) (before after : List ℕ) (b : Bool) → Onward w u ended room old before b new after →
+pub stage-on : (w u : List ℕ) (ended : Bool) (room : ℕ) (r : Ended) (old new : Ran) (before after : List ℕ) (b : Bool) → Advances w u ended room old before b new after →
     Going w u ended r old before → Stage w u ended room r b new after × (toGo u b new < suc (left u old))
 stage-on w u ended room r old new before after true f G = (f r G, omega arith)
 stage-on w u ended room r old new before after false f G = ((f .0, f .2 r G), omega (arith, f .1))
 
 -- what a finished run has written
-pub finished-over : (w u : List ℕ) (r : Ended) (now : Ran) (output found : List ℕ) → Finished w u r now output → drop (now .count) output ≡ drop (now .count) found →
+pub ends-over : (w u : List ℕ) (r : Ended) (now : Ran) (output found : List ℕ) → EndsAs w u r now output → drop (now .count) output ≡ drop (now .count) found →
     output ≡ over (textOf (fromWords w .write) (r .final .log)) found
-finished-over w u r now output found F e =
+ends-over w u r now output found F e =
     sym (take-append-drop (now .count) output) ∙ ap (λ l. l ++ drop (now .count) output) (F .text) ∙ ap (λ l. textOf (fromWords w .write) (r .final .log) ++ l) e
     ∙ ap (λ k. textOf (fromWords w .write) (r .final .log) ++ drop k found) (F .count)
 

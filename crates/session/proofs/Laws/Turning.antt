@@ -19,12 +19,12 @@ use Rattle.machine.specs.declared.numbers.RuleNo.{RuleNo}
 use Rattle.automaton.proofs.Laws.Words.{sound-state}
 use Rattle.reckoning.specs.Machine.{Stopped, Closed, step}
 use Rattle.reckoning.specs.Session.{settled}
-use Rattle.session.specs.bridge.Running.{Move, Emit, Back, Wait, Close, standing, stepOf, Fits, Decides, storeOf, Placed, Onward, Beyond, Classed, Between, Halted, Waits, readTo, Passes, Stands, ReadsOn, Moves, acceptNow}
+use Rattle.session.specs.bridge.Running.{Move, Emit, Back, Wait, Close, standing, stepBy, Fits, Decides, storeOf, Placed, Advances, Beyond, Classed, Between, Halted, Waits, readTo, Passes, Stands, ReadsOn, Moves, acceptNow}
 use Rattle.session.specs.declared.run.Ran.{Ran}
 use Rattle.session.specs.declared.run.Ahead.{Ahead}
 use Rattle.reckoning.proofs.Laws.Walk.{settled-both}
 use Rattle.reckoning.proofs.Laws.Run.{step-settled, step-wait, step-end, step-close, step-giveBack}
-use Rattle.session.proofs.Laws.Running.{rule-fits, character-emits, character-backs, decides-character, beyond-put, onward-emit, onward-default, onward-stop, onward-wait, onward-close, beyond-on}
+use Rattle.session.proofs.Laws.Running.{rule-fits, character-emits, character-backs, decides-character, beyond-put, advances-emit, advances-default, advances-stop, advances-wait, advances-close, beyond-on}
 
 -- The machine's step where the run stands.
 module _ (w u : List ℕ) (W : T (sound w)) (q : ℕ) (b : q < stateCount w) (before after : ℕ) where
@@ -33,10 +33,10 @@ module _ (w u : List ℕ) (W : T (sound w)) (q : ℕ) (b : q < stateCount w) (be
 
   -- nothing is unread at the text's end
   at-end : (ended : Bool) (v : Move) → after ≡ length u →
-      ((log : List Emission) (n : ℕ) → step (fromWords w) ended (standing store [] q log n) ≡ stepOf v (standing store [] q log n)) → Decides w u ended q before after v
+      ((log : List Emission) (n : ℕ) → step (fromWords w) ended (standing store [] q log n) ≡ stepBy v (standing store [] q log n)) → Decides w u ended q before after v
   at-end ended v h f log n =
       let i : length u ≤ after = omega arith in
-      subst (λ z. step (fromWords w) ended (standing store z q log n) ≡ stepOf v (standing store z q log n)) (sym (drop-of-length-le u i)) (f log n)
+      subst (λ z. step (fromWords w) ended (standing store z q log n) ≡ stepBy v (standing store z q log n)) (sym (drop-of-length-le u i)) (f log n)
 
   pause-emits : (g : RuleNo) → after ≡ length u → settled (fromWords w) q ≡ true → suc (g .0) ≡ acceptWord w q → Decides w u false q before after (Emit g)
   unfolding fromWords
@@ -88,7 +88,7 @@ module _ (w u : List ℕ) (W : T (sound w)) (q : ℕ) (b : q < stateCount w) (be
       let s : getD u before 0 ∷ take (after - before - 1) (drop (suc before) u) ≡ store =
       sym (ap (λ k. take k (drop before u)) z ∙ ap (take (suc (after - before - 1))) (drop-cons u before 0 (omega arith))) in
       at-end true Back h (λ log n.
-      subst (λ l. step (fromWords w) true (standing l [] q log n) ≡ stepOf Back (standing l [] q log n)) s
+      subst (λ l. step (fromWords w) true (standing l [] q log n) ≡ stepBy Back (standing l [] q log n)) s
       (step-giveBack (fromWords w) q log n (getD u before 0) (take (after - before - 1) (drop (suc before) u)) e))
 
   pub end-closes : after ≡ length u → after ≤ before → acceptAtEndWord w q ≡ 0 → Decides w u true q before after Close
@@ -97,20 +97,20 @@ module _ (w u : List ℕ) (W : T (sound w)) (q : ℕ) (b : q < stateCount w) (be
       let z : 0 ≡ after - before = omega arith in
       let s : [] ≡ store = ap (λ k. take k (drop before u)) z in
       at-end true Close h (λ log n.
-      subst (λ l. step (fromWords w) true (standing l [] q log n) ≡ stepOf Close (standing l [] q log n)) s (step-close (fromWords w) q log n e))
+      subst (λ l. step (fromWords w) true (standing l [] q log n) ≡ stepBy Close (standing l [] q log n)) s (step-close (fromWords w) q log n e))
 
 -- What is done, where the machine's step is known.
 module _ (w u : List ℕ) (W : T (sound w)) (old : Ran) (before : List ℕ) (P : Placed w u (length before) old) (new : Ran) where
   -- a run that goes on, or is done
-  on-as : (ended : Bool) (after : List ℕ) (b : Bool) → new .done ≡ b → Onward w u ended (length before) old before b new after →
-      Onward w u ended (length before) old before (new .done) new after
-  on-as ended after b e f = subst (λ d. Onward w u ended (length before) old before d new after) (sym e) f
+  on-as : (ended : Bool) (after : List ℕ) (b : Bool) → new .done ≡ b → Advances w u ended (length before) old before b new after →
+      Advances w u ended (length before) old before (new .done) new after
+  on-as ended after b e f = subst (λ d. Advances w u ended (length before) old before d new after) (sym e) f
 
   pub emit-moves : (g : RuleNo) (after : List ℕ) → Fits w (old .state .0) (Emit g) → Between (old .at) (old .count + at (blockAt w (g .0)) 2) (old .steps + 1) new →
       after ≡ take (old .count) before ++ blockOutput (blockAt w (g .0)) (storeOf u old) ++ drop (old .count + at (blockAt w (g .0)) 2) before →
       Moves w u (length before) old before (Emit g) new after × Beyond old before new after
   emit-moves g after f B e = (
-    λ ended d. on-as ended after false (B .going) (onward-emit w u ended W old before P new g after d f (B .state) (B .from) (B .at) (B .count) (B .steps) e),
+    λ ended d. on-as ended after false (B .going) (advances-emit w u ended W old before P new g after d f (B .state) (B .from) (B .at) (B .count) (B .steps) e),
     beyond-put w u old before P new (g .0) (storeOf u old) after (B .count) e,
   )
 
@@ -119,28 +119,28 @@ module _ (w u : List ℕ) (W : T (sound w)) (old : Ran) (before : List ℕ) (P :
       after ≡ take (old .count) before ++ blockOutput (blockAt w defaultNumber) (take 1 (drop (old .from) u)) ++ drop (old .count + at (blockAt w defaultNumber) 2) before →
       Moves w u (length before) old before Back new after × Beyond old before new after
   default-moves after some d B e = (
-    λ ended st. on-as ended after false (B .going) (onward-default w u ended W old before P new st some after d (B .state) (B .from) (B .at) (B .count) (B .steps) e .0),
+    λ ended st. on-as ended after false (B .going) (advances-default w u ended W old before P new st some after d (B .state) (B .from) (B .at) (B .count) (B .steps) e .0),
     beyond-put w u old before P new defaultNumber (take 1 (drop (old .from) u)) after (B .count) e,
   )
 
   pub stop-moves : old .from < length u → fromWords w .default ≡ false → Halted Stopped (old .steps + 2) old new →
       Moves w u (length before) old before Back new before × Beyond old before new before
   stop-moves some d H = (
-    λ ended st. on-as ended before true (H .done) (onward-stop w u ended W old before P new st some d (H .status) (H .state) (H .from) (H .at) (H .count) (H .steps)),
+    λ ended st. on-as ended before true (H .done) (advances-stop w u ended W old before P new st some d (H .status) (H .state) (H .from) (H .at) (H .count) (H .steps)),
     (omega (arith, H .count), refl),
   )
 
   pub wait-moves : (ended : Bool) → Decides w u ended (old .state .0) (old .from) (old .at) Wait → Waits old new →
-      Onward w u ended (length before) old before (new .done) new before × Beyond old before new before
+      Advances w u ended (length before) old before (new .done) new before × Beyond old before new before
   wait-moves ended st H = (
-    on-as ended before true (H .done) (onward-wait w u ended W old before P new st (H .status) (H .state) (H .from) (H .at) (H .count) (H .steps)),
+    on-as ended before true (H .done) (advances-wait w u ended W old before P new st (H .status) (H .state) (H .from) (H .at) (H .count) (H .steps)),
     (omega (arith, H .count), refl),
   )
 
   pub close-moves : (ended : Bool) → Decides w u ended (old .state .0) (old .from) (old .at) Close → Halted Closed (old .steps + 1) old new →
-      Onward w u ended (length before) old before (new .done) new before × Beyond old before new before
+      Advances w u ended (length before) old before (new .done) new before × Beyond old before new before
   close-moves ended st H = (
-    on-as ended before true (H .done) (onward-close w u ended W old before P new st (H .status) (H .state) (H .from) (H .at) (H .count) (H .steps)),
+    on-as ended before true (H .done) (advances-close w u ended W old before P new st (H .status) (H .state) (H .from) (H .at) (H .count) (H .steps)),
     (omega (arith, H .count), refl),
   )
 
@@ -153,17 +153,17 @@ stands w u now a R false e f h = let k = f refl in omega arith
 
 -- something was read, and the text is not at its end
 pub read-more : (w u : List ℕ) (ended : Bool) (now : Ran) (output : List ℕ) (a : Ahead) → ReadsOn w u now a → Placed w u (length output) now →
-    a .stuck ≡ false → a .at < length u → Onward w u ended (length output) now output false (readTo now a) output
+    a .stuck ≡ false → a .at < length u → Advances w u ended (length output) now output false (readTo now a) output
 read-more w u ended now output a R P e h =
     let p = R .passes output P in
     let k = R .free e h in
     (p .0, omega (arith, P .order, h), p .2 ended)
 
 -- what leads on after a passage leads on from before it
-pub onward-after : (w u : List ℕ) (ended : Bool) (room : ℕ) (old mid new : Ran) (before between after : List ℕ) (b : Bool) →
-    Passes w u room old before mid between → Onward w u ended room mid between b new after → Onward w u ended room old before b new after
-onward-after w u ended room old mid new before between after true p f = λ r G. f r (p .2 ended r G)
-onward-after w u ended room old mid new before between after false p f = (f .0, omega (arith, p .1, f .1), λ r G. f .2 r (p .2 ended r G))
+pub advances-after : (w u : List ℕ) (ended : Bool) (room : ℕ) (old mid new : Ran) (before between after : List ℕ) (b : Bool) →
+    Passes w u room old before mid between → Advances w u ended room mid between b new after → Advances w u ended room old before b new after
+advances-after w u ended room old mid new before between after true p f = λ r G. f r (p .2 ended r G)
+advances-after w u ended room old mid new before between after false p f = (f .0, omega (arith, p .1, f .1), λ r G. f .2 r (p .2 ended r G))
 
 pub beyond-join : (old mid new : Ran) (before between after : List ℕ) → Beyond old before mid between → Beyond mid between new after → Beyond old before new after
 beyond-join old mid new before between after a b = (omega (arith, a .0, b .0), beyond-on mid new before between after (a .1) b)

@@ -4,7 +4,7 @@ use mathlib.Core.Option.{Option, none, some}
 use Prim.Native.Nat.{ℕ, _+_, _*_, _-_, _≤_}
 use Rattle.meaning.specs.Direct.{limit}
 use Rattle.reckoning.specs.Calls.{receivedBy}
-use Rattle.session.specs.Keeping.{statusOf}
+use Rattle.session.specs.Keeping.{meantStatus}
 use Rattle.session.specs.declared.kept.Path.{Path}
 use Rattle.session.specs.declared.kept.Path.the-variants.{To, Nowhere}
 use Rattle.session.specs.declared.run.Ran.{Ran}
@@ -17,11 +17,11 @@ pathOf Nowhere = none
 abbrev pub laterOf : Rattle.reckoning.specs.Session.Session → ℕ → Ran → List ℕ → Rattle.reckoning.specs.Session.Session
 laterOf s n ran held =
     record {
-      status = statusOf (ran .status);
+      status = meantStatus (ran .status);
       state = ran .state .0;
       held = held;
       count = ran .at - ran .from;
-      received = receivedBy (statusOf (ran .status)) (s .received + n) (s .received - s .count + ran .from);
+      received = receivedBy (meantStatus (ran .status)) (s .received + n) (s .received - s .count + ran .from);
       produced = s .produced + ran .count;
       steps = s .steps + ran .steps;
     }

@@ -11,10 +11,10 @@ use Rattle.automaton.specs.Classes.{classOf}
 use Rattle.automaton.specs.Sound.{expansionWord, classCount, stateCount, depthWord, acceptWord, acceptAtEndWord, used, blockAt}
 use Rattle.automaton.specs.Automaton.{fromWords}
 use Rattle.reckoning.specs.Machine.{Configuration, Step, Status, Open, Closed, halt, emit, read, rollBack, end, step, Ended, steps}
-use Rattle.session.specs.Keeping.{statusOf}
+use Rattle.session.specs.Keeping.{meantStatus}
 use Rattle.machine.specs.declared.numbers.RuleNo.{RuleNo}
 use Rattle.machine.specs.declared.numbers.StateNo.{StateNo}
-use Rattle.session.specs.declared.kept.Status.the-variants as Kept
+use Rattle.session.specs.declared.kept.Status.the-variants as Code
 use Rattle.session.specs.declared.run.Ran.{Ran}
 use Rattle.session.specs.declared.run.Ahead.{Ahead}
 use Rattle.automaton.specs.Layout.{classesFrom}
@@ -35,12 +35,12 @@ abbrev pub standing : List ℕ → List ℕ → ℕ → List Emission → ℕ �
 standing store unread q log n = record { store = store; unread = unread; state = q; due = false; log = log; steps = n }
 
 -- the step that a move is
-abbrev pub stepOf : Move → Configuration → Step
-stepOf (Emit g) c = emit c (g .0)
-stepOf (Read q) c = read c (q .0)
-stepOf Back c = rollBack c
-stepOf Wait c = halt Open c
-stepOf Close c = end Closed c
+abbrev pub stepBy : Move → Configuration → Step
+stepBy (Emit g) c = emit c (g .0)
+stepBy (Read q) c = read c (q .0)
+stepBy Back c = rollBack c
+stepBy Wait c = halt Open c
+stepBy Close c = end Closed c
 
 -- a rule that is written takes as many characters as state q is deep, and a state that is read into lies one deeper
 abbrev pub Fits : List ℕ → ℕ → Move → Type 0
@@ -55,7 +55,7 @@ abbrev pub Decides : List ℕ → List ℕ → Bool → ℕ → ℕ → ℕ → 
 Decides w u ended q before after v =
     (log : List Emission) (n : ℕ) →
     step (fromWords w) ended (standing (take (after - before) (drop before u)) (drop after u) q log n)
-    ≡ stepOf v (standing (take (after - before) (drop before u)) (drop after u) q log n)
+    ≡ stepBy v (standing (take (after - before) (drop before u)) (drop after u) q log n)
 
 -- the store of a run over the text u
 abbrev pub storeOf : List ℕ → Ran → List ℕ
@@ -81,8 +81,8 @@ pub record Going (w u : List ℕ) (ended : Bool) (r : Ended) (now : Ran) (output
   pub text : take (now .count) output ≡ textOf (fromWords w .write) log
 
 -- the run ended as r
-pub record Finished (w u : List ℕ) (r : Ended) (now : Ran) (output : List ℕ) : Type 0 where
-  pub status : statusOf (now .status) ≡ r .status
+pub record EndsAs (w u : List ℕ) (r : Ended) (now : Ran) (output : List ℕ) : Type 0 where
+  pub status : meantStatus (now .status) ≡ r .status
   pub state : now .state .0 ≡ r .final .state
   pub order : now .from ≤ now .at
   pub inside : now .at ≤ length u
@@ -97,9 +97,9 @@ abbrev pub left : List ℕ → Ran → ℕ
 left u now = 9 * (length u - now .from) - (now .at - now .from)
 
 -- a turn led on or, where it is done, ended the run
-abbrev pub Onward : List ℕ → List ℕ → Bool → ℕ → Ran → List ℕ → Bool → Ran → List ℕ → Type 0
-Onward w u ended room old before true new after = (r : Ended) → Going w u ended r old before → Finished w u r new after
-Onward w u ended room old before false new after =
+abbrev pub Advances : List ℕ → List ℕ → Bool → ℕ → Ran → List ℕ → Bool → Ran → List ℕ → Type 0
+Advances w u ended room old before true new after = (r : Ended) → Going w u ended r old before → EndsAs w u r new after
+Advances w u ended room old before false new after =
     Placed w u room new × (left u new < left u old) × ((r : Ended) → Going w u ended r old before → Going w u ended r new after)
 
 -- what stands beyond the characters written is as found
@@ -126,7 +126,7 @@ pub record Between (place written made : ℕ) (now : Ran) : Type 0 where
 -- the run ended with an empty store after so many steps
 pub record Halted (how : Status) (made : ℕ) (old new : Ran) : Type 0 where
   pub done : new .done ≡ true
-  pub status : statusOf (new .status) ≡ how
+  pub status : meantStatus (new .status) ≡ how
   pub state : new .state .0 ≡ 0
   pub from : new .from ≡ old .from
   pub at : new .at ≡ old .from
@@ -136,7 +136,7 @@ pub record Halted (how : Status) (made : ℕ) (old new : Ran) : Type 0 where
 -- the run waits as it stands
 pub record Waits (old new : Ran) : Type 0 where
   pub done : new .done ≡ true
-  pub status : statusOf (new .status) ≡ Open
+  pub status : meantStatus (new .status) ≡ Open
   pub state : new .state .0 ≡ old .state .0
   pub from : new .from ≡ old .from
   pub at : new .at ≡ old .at
@@ -148,7 +148,7 @@ abbrev pub readTo : Ran → Ahead → Ran
 readTo now a =
     record {
       done = false;
-      status = Kept.Open;
+      status = Code.Open;
       state = a .state;
       from = now .from;
       at = a .at;
@@ -176,7 +176,7 @@ pub record ReadsOn (w u : List ℕ) (now : Ran) (a : Ahead) : Type 0 where
 -- what is done where the machine's next step is this move
 abbrev pub Moves : List ℕ → List ℕ → ℕ → Ran → List ℕ → Move → Ran → List ℕ → Type 0
 Moves w u room old before v new after =
-    (ended : Bool) → Decides w u ended (old .state .0) (old .from) (old .at) v → Onward w u ended room old before (new .done) new after
+    (ended : Bool) → Decides w u ended (old .state .0) (old .from) (old .at) v → Advances w u ended room old before (new .done) new after
 
 -- the word of the rule that is emitted where the machine has read on
 abbrev pub acceptNow : List ℕ → ℕ → Bool → Bool → ℕ

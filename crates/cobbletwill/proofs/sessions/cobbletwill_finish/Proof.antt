@@ -19,7 +19,7 @@ use contract.Monad.{Fun, fact}
 use contract.Running.{givenOf, tables, tablesOf}
 use types.Kit.{Given, Item, ‵, raw, some, later, ⋆, _⊛_, _$_, _∵_, !, qed, by, move, keep, drop, use1, use3, split, join, pick, rewrite, suffices, frame, await, done}
 use types.Kit.{fsplit, fsplit3, fjoin, fjoin3, feqL, feqI}
-use types.Run.{look, look-raw, init, store-raw, forget, stop, hop, fld, from, load, addr, of-opd, and-then, no-more, assigns, land, returns}
+use types.Run.{look, look-raw, init, forget, stop, hop, fld, from, load, addr, of-opd, and-then, no-more, assigns, land, returns}
 use types.Run.{enter, alloc1, alloc0, params1, pass1, pass0, free1, free0}
 use types.Part.{agg, whole, sub, look-in}
 use types.SemTy.{Body}
@@ -32,7 +32,7 @@ use denote.Builtin.{u16, u32, u64}
 use denote.Ref.{RefT, MutRef, ptr-vals, mut-tells}
 use denote.Slice.{slice-vals, sliceVal, ShrSlice, MutSlice, Room, finally, shr-slice-tells, mut-slice-tells}
 use denote.Signature.{Slot, plain, shrSliceOf}
-use denote.Steps.{only, opens, closes, owned, peeks, heard, nothing}
+use denote.Steps.{only, opens, owned, peeks, heard, nothing}
 use denote.Struct.Steps.{spelt}
 use denote.Struct.Laws as LL
 use denote.Triple.Entry.{onEntry}
@@ -45,8 +45,10 @@ use denote.Triple.Walked.{says, Stays, stay-ref, stay-dropped, gave-ref, gave-sl
 use denote.Triple.Walked.{AllGo, goes-ref, goes-dropped, goes-gave-ref, goes-gave-slice}
 use denote.Exit.{yes}
 use Rattle.cobbletwill.specs.Sessions as Spec
+use Rattle.cobbletwill.specs.bridge.Lent.{Unchanged}
 use Rattle.cobbletwill.specs.declared.sessions.SessionNumbers.{SessionNumbers}
 use Rattle.cobbletwill.specs.declared.sessions.CalledNumbers.{CalledNumbers}
+use Rattle.session.proofs.Laws.Lending.{stores-accepted}
 use Rattle.cobbletwill.proofs.sessions.SessionNumbers as T
 use Rattle.cobbletwill.proofs.sessions.SessionNumbers.Laws as T′
 use Rattle.cobbletwill.proofs.sessions.CalledNumbers as F
@@ -90,7 +92,7 @@ Core 𝓤 H A at-mem run = tripleOf 𝓤 H A core.signature (core.spec 𝓤 H A 
 
 -- the session within what `finish_numbers` returned
 session-is : (r : CalledNumbers) (w : Val) → Is F.the-row r (w ∷ []) → Is R (r .session) (vals (r .session))
-session-is r w is = LL.owed F.the-type F′.the-laws r _ is .1 .0
+session-is r w is = LL.owed F.the-type F′.the-laws r _ is .1 .1 .0
 
 module _ {M : Type 1} (𝓤 : URA M) (H : Heap 𝓤) (A : Atoms 𝓤) (W : Given 𝓤 H A) (at-mem : Memory → SProp 𝓤) (run : Routine → Fun 𝓤)
     (κ₀ κ₁ κ₂ κ₃ : Lft) (q₀ q₁ q₂ q₃ : Share) (ws : RefT (List ℕ)) (b o : ℕ) (γ : GName) (h : SessionNumbers) (y : RefT (List ℕ)) (k : RefT ℕ) where
@@ -142,7 +144,7 @@ module _ {M : Type 1} (𝓤 : URA M) (H : Heap 𝓤) (A : Atoms 𝓤) (W : Given
       owned ! R (Is R) (LL.makes T.the-type T′.the-plain 𝓤 H A) h _ g $
       move ! (0 ∷ 3 ∷ []) $ fjoin ! $ move ! (2 ∷ 0 ∷ []) $ fjoin ! $ move ! (1 ∷ 0 ∷ []) $ join ! $ frame ! $ done !
 
-  -- what `finish_numbers` ensures
+  -- what `finish_numbers` ensures, beside that the session is unchanged where the call is not accepted
   abbrev Ensured : CalledNumbers → List ℕ → ℕ → Type 0
   Ensured r zs n = Spec.left (r .answer) (r .session) zs n ≡ Spec.finish (ws .now) h (y .now) (k .now)
 
@@ -179,56 +181,53 @@ module _ {M : Type 1} (𝓤 : URA M) (H : Heap 𝓤) (A : Atoms 𝓤) (W : Given
         ∷ []) ∵
         enter ! C Λ code.function passed _ $
         alloc1 ! (λ l₀. alloc1 ! (λ l₁. alloc1 ! (λ l₂. alloc1 ! (λ l₃. alloc1 ! (λ l₄. alloc1 ! (λ l₅. alloc1 ! (λ l₆. alloc1 ! (λ l₇. alloc1 ! (λ l₈.
-        alloc1 ! (λ l₉. alloc0 ! $
-        params1 ! $ pass1 ! (init ! 16 refl (tt, (tt, (record { fits = room-ws .0 }, tt)))) $ pass1 ! (init ! 14 refl (tt, tt)) $
-        pass1 ! (init ! 12 refl (tt, (tt, (record { fits = room-y .0 }, tt)))) $
-        pass1 ! (init ! 10 refl (tt, tt)) $ pass0 ! $
-        -- [_9; …; _0; …; the tokens; what the parameters own]: the borrow of the session is opened
-        move ! (21 ∷ []) $ fsplit ! $ move ! (1 ∷ []) $ fsplit ! $ fsplit3 ! $ drop ! $
-        move ! (24 ∷ []) $ split ! $ move ! (1 ∷ []) $ split ! $ move ! (3 ∷ 4 ∷ 0 ∷ []) $
+        alloc1 ! (λ l₉. alloc1 ! (λ l₁₀. alloc0 ! $
+        params1 ! $ pass1 ! (init ! 18 refl (tt, (tt, (record { fits = room-ws .0 }, tt)))) $ pass1 ! (init ! 16 refl (tt, tt)) $
+        pass1 ! (init ! 14 refl (tt, (tt, (record { fits = room-y .0 }, tt)))) $
+        pass1 ! (init ! 12 refl (tt, tt)) $ pass0 ! $
+        -- [_10; …; _0; …; the tokens; what the parameters own]: the borrow of the session is opened
+        move ! (23 ∷ []) $ fsplit ! $ move ! (1 ∷ []) $ fsplit ! $ fsplit3 ! $ drop ! $
+        move ! (26 ∷ []) $ split ! $ move ! (1 ∷ []) $ split ! $ move ! (3 ∷ 4 ∷ 0 ∷ []) $
         opens ! tt R {h = h} b o (λ vs. spelt ! R (Is R) (shows 𝓤 H A R) vals (LL.tells T.the-type T′.the-laws) fullShare h vs b o $
         move ! (1 ∷ []) $ peeks ! R (Is R) (shows 𝓤 H A R) h (vals h) (λ g. move ! (1 ∷ 0 ∷ []) $
         -- [the cell; what the session owns; the open borrow; obs; auth; the tokens 2 and 3; the token 0; what output and count own;
-        -- what words owns; _9 at 9; …; _0 at 27; …]: the session is copied out, output and count are lent on
-        assigns ! (of-opd ! (load ! (from ! (hop ! (look ! 23 refl) (stop !))) (look-raw ! 0 refl))) (from ! (stop !))
-        (init ! 17 refl (LL.lawful T.the-type T′.the-laws 𝓤 H A W .typed h _ g .0)) $
-        assigns ! (addr ! (from ! (fld ! refl (hop ! (look-in ! 21 (sub ! 0 refl (whole !))) (stop !))))) (from ! (stop !)) (init ! 13 refl (tt, tt)) $
-        assigns ! (agg ! (and-then ! (load ! (from ! (stop !)) (look ! 13 refl))
-        (and-then ! (load ! (from ! (fld ! refl (stop !))) (look-in ! 21 (sub ! 1 refl (whole !)))) (no-more !)))) (from ! (stop !))
-        (init ! 11 refl (tt, (tt, (record { fits = room-y .0 }, tt)))) $
-        assigns ! (addr ! (from ! (hop ! (look ! 19 refl) (stop !)))) (from ! (stop !)) (init ! 9 refl (tt, tt)) $
+        -- what words owns; _10 at 9; …; _0 at 29; …]: the session is copied out, output and count are lent on
+        assigns ! (of-opd ! (load ! (from ! (hop ! (look ! 25 refl) (stop !))) (look-raw ! 0 refl))) (from ! (stop !))
+        (init ! 19 refl (LL.lawful T.the-type T′.the-laws 𝓤 H A W .typed h _ g .0)) $
+        assigns ! (addr ! (from ! (fld ! refl (hop ! (look-in ! 23 (sub ! 0 refl (whole !))) (stop !))))) (from ! (stop !)) (init ! 15 refl (tt, tt)) $
+        assigns ! (agg ! (and-then ! (load ! (from ! (stop !)) (look ! 15 refl))
+        (and-then ! (load ! (from ! (fld ! refl (stop !))) (look-in ! 23 (sub ! 1 refl (whole !)))) (no-more !)))) (from ! (stop !))
+        (init ! 13 refl (tt, (tt, (record { fits = room-y .0 }, tt)))) $
+        assigns ! (addr ! (from ! (hop ! (look ! 21 refl) (stop !)))) (from ! (stop !)) (init ! 11 refl (tt, tt)) $
         -- the call
         move ! (6 ∷ 5 ∷ []) $ join ! $ move ! (0 ∷ 7 ∷ 6 ∷ []) $ use3 W (raw (Core 𝓤 H A at-mem run .pre to-core)) (goes g) $
         calls-at ! fm (Core 𝓤 H A at-mem run) known to-core
-        (and-then ! (load ! (from ! (stop !)) (look ! 22 refl)) (and-then ! (load ! (from ! (stop !)) (look ! 14 refl))
-        (and-then ! (load ! (from ! (stop !)) (look ! 8 refl)) (and-then ! (load ! (from ! (stop !)) (look ! 6 refl)) (no-more !))))) (λ w.
+        (and-then ! (load ! (from ! (stop !)) (look ! 24 refl)) (and-then ! (load ! (from ! (stop !)) (look ! 16 refl))
+        (and-then ! (load ! (from ! (stop !)) (look ! 10 refl)) (and-then ! (load ! (from ! (stop !)) (look ! 8 refl)) (no-more !))))) (λ w.
         use1 W (later (some (λ (r : CalledNumbers). (toks ⊛ ‵ (F.the-row .own r (w ∷ [])))
         ⊛ raw (ensured 𝓤 H A core.ended (core.clauses 𝓤 H A at-mem run) cκs cx tt r)))) (id⊢ 𝓤 _) $ await ! tt $ pick ! (λ r.
         split ! $ move ! (1 ∷ []) $
         use1 W (some (λ (zs : Unit {0} × (Unit {0} × (List ℕ × (ℕ × Unit {0})))).
-        ‵ (lasts core.ended cκs cx zs) ⊛ raw (fact 𝓤 (Ensured r (zs .1 .1 .0) (zs .1 .1 .1 .0))))) (id⊢ 𝓤 _) $ pick ! (λ zs.
-        split ! $ move ! (1 ∷ []) $ heard ! (Ensured r (zs .1 .1 .0) (zs .1 .1 .1 .0)) (λ e.
+        ‵ (lasts core.ended cκs cx zs) ⊛ raw (fact 𝓤 (Unchanged r h)) ⊛ raw (fact 𝓤 (Ensured r (zs .1 .1 .0) (zs .1 .1 .1 .0))))) (id⊢ 𝓤 _) $ pick ! (λ zs.
+        split ! $ move ! (1 ∷ []) $ split ! $ heard ! (Unchanged r h) (λ kept. heard ! (Ensured r (zs .1 .1 .0) (zs .1 .1 .1 .0)) (λ e.
         fsplit ! $ drop ! $ fsplit ! $ drop ! $ fsplit ! $ fsplit ! $ move ! (1 ∷ []) $ feqL ! (λ l.
         move ! (1 ∷ []) $ fsplit ! $ move ! (1 ∷ []) $ drop ! $
         move ! (2 ∷ []) $ split ! $ move ! (1 ∷ []) $ peeks ! F.the-row (Is F.the-row) (shows 𝓤 H A F.the-row) r (w ∷ []) (λ is.
-        -- [the result; the tokens; the last count; the last list; the cell at 4; what the old session owns; the open borrow; obs; auth; _9 at 9; …; _0 at 27; …]
-        land ! (from ! (stop !)) (init ! 15 refl (LL.lawful F.the-type F′.the-laws 𝓤 H A W .typed r _ is .0)) $
-        rewrite ! 15 (λ (u : Val). ‵ (fat fullShare F′.mir l₆ 0 u)) (ap only (LL.tells F.the-type F′.the-laws r _ is)) refl $
-        assigns ! (of-opd ! (load ! (from ! (fld ! refl (stop !))) (look-in ! 15 (sub ! 1 refl (whole !))))) (from ! (hop ! (look ! 23 refl) (stop !)))
-        (store-raw ! 4 refl (LL.lawful T.the-type T′.the-laws 𝓤 H A W .typed (r .session) _ (session-is r _ is) .0)) $
+        -- [the result; the tokens; the last count; the last list; the open borrow's five at 4; _10 at 9; …; _0 at 29; …]
+        land ! (from ! (stop !)) (init ! 17 refl (LL.lawful F.the-type F′.the-laws 𝓤 H A W .typed r _ is .0)) $
+        rewrite ! 17 (λ (u : Val). ‵ (fat fullShare F′.mir l₆ 0 u)) (ap only (LL.tells F.the-type F′.the-laws r _ is)) refl $
+        assigns ! (of-opd ! (load ! (from ! (fld ! refl (stop !))) (look-in ! 17 (sub ! 1 refl (whole !))))) (from ! (stop !)) (init ! 9 refl (tt, tt)) $
+        -- the session is stored where the call was accepted, and the borrow is closed
+        move ! (4 ∷ 5 ∷ 6 ∷ 7 ∷ 8 ∷ []) $
+        stores-accepted ! T.the-type T′.the-laws T′.the-plain b o h (r .session) (r .accepted) kept (session-is r _ is)
+        (load ! (from ! (stop !)) (look ! 9 refl)) (load ! (from ! (fld ! refl (stop !))) (look-in ! 17 (sub ! 2 refl (whole !))))
+        (from ! (hop ! (look ! 25 refl) (stop !))) $
+        -- [the closed borrow's three; the result; the tokens; the last count; the last list; _10 at 7; …; _0 at 27; …]: the answer is returned and every local is freed
         assigns ! (of-opd ! (load ! (from ! (fld ! refl (stop !))) (look-in ! 15 (sub ! 0 refl (whole !))))) (from ! (stop !))
         (init ! 27 refl (tt, record { fits = LL.owed F.the-type F′.the-laws r _ is .0 .1 })) $
-        -- the borrow is closed at the new session
-        move ! (5 ∷ []) $ drop ! $ owned ! R (Is R) (LL.makes T.the-type T′.the-plain 𝓤 H A) (r .session) _ (session-is r _ is) $
-        move ! (5 ∷ 0 ∷ 6 ∷ 7 ∷ 8 ∷ []) $ closes ! tt R (r .session) (vals (r .session)) b o $
-        -- every local is freed: _9 at 7; …; _0 at 25
-        returns ! (look ! 25 refl) $ forget ! 7 refl $ forget ! 9 refl $ forget ! 11 refl $ forget ! 13 refl $ forget ! 15 refl $
-        forget ! 17 refl $ forget ! 19 refl $ forget ! 21 refl $ forget ! 23 refl $ forget ! 25 refl $
-        move ! (25 ∷ 26 ∷ []) $ free1 ! $
-        move ! (23 ∷ 24 ∷ []) $ free1 ! $ move ! (21 ∷ 22 ∷ []) $ free1 ! $ move ! (19 ∷ 20 ∷ []) $ free1 ! $ move ! (17 ∷ 18 ∷ []) $ free1 ! $
-        move ! (15 ∷ 16 ∷ []) $ free1 ! $ move ! (13 ∷ 14 ∷ []) $ free1 ! $ move ! (11 ∷ 12 ∷ []) $ free1 ! $ move ! (9 ∷ 10 ∷ []) $ free1 ! $
-        move ! (7 ∷ 8 ∷ []) $ free1 ! $ free0 ! $
-        keep ! (0 ∷ 1 ∷ 2 ∷ 4 ∷ 5 ∷ 6 ∷ []) $ by ! (exits r _ (zs .1 .1 .0) (zs .1 .1 .1 .0) e l (LL.owed F.the-type F′.the-laws r _ is .0))))))))))))))))))))
+        returns ! (look ! 27 refl) $ forget ! 7 refl $ forget ! 9 refl $ forget ! 11 refl $ forget ! 13 refl $ forget ! 15 refl $ forget ! 17 refl $ forget ! 19 refl $ forget ! 21 refl $ forget ! 23 refl $ forget ! 25 refl $ forget ! 27 refl $
+        move ! (27 ∷ 28 ∷ []) $ free1 ! $ move ! (25 ∷ 26 ∷ []) $ free1 ! $ move ! (23 ∷ 24 ∷ []) $ free1 ! $ move ! (21 ∷ 22 ∷ []) $ free1 ! $ move ! (19 ∷ 20 ∷ []) $ free1 ! $ move ! (17 ∷ 18 ∷ []) $ free1 ! $ move ! (15 ∷ 16 ∷ []) $ free1 ! $ move ! (13 ∷ 14 ∷ []) $ free1 ! $ move ! (11 ∷ 12 ∷ []) $ free1 ! $ move ! (9 ∷ 10 ∷ []) $ free1 ! $ move ! (7 ∷ 8 ∷ []) $ free1 ! $ free0 ! $
+        keep ! (0 ∷ 1 ∷ 2 ∷ 4 ∷ 5 ∷ 6 ∷ []) $ by ! (exits r _ (zs .1 .1 .0) (zs .1 .1 .1 .0) e l (LL.owed F.the-type F′.the-laws r _ is .0))))))))))))))))))))))
 
 module _ {M : Type 1} (𝓤 : URA M) (H : Heap 𝓤) (A : Atoms 𝓤) (W : Given 𝓤 H A) (at-mem : Memory → SProp 𝓤) (run : Routine → Fun 𝓤) where
   finish-walks : (C : Calls 𝓤 H) (Λ : Loops 𝓤 H) → FmC 𝓤 H (W .laws) C → Triple 𝓤 (C #finish-numbers) (Core 𝓤 H A at-mem run)

@@ -1,5 +1,6 @@
 -- `cobbletwill::sessions::feed_numbers` meets its contract. Numbers with a status above 2 are refused by what `no_session` answers; of others
 -- `feed_by_value` comes to what feed of their session comes to, and `hand_over` hands that over.
+use mathlib.Core.Path.{refl}
 use denote.Ref.{now}
 use borrow.Author.Needs.{needs}
 use Rattle.reckoning.specs.Session.{Session}
@@ -8,7 +9,7 @@ use Rattle.reckoning.specs.Calls.{CallOutcome}
 use Rattle.session.specs.Keeping.{sessionOf}
 use Rattle.session.specs.Contracts.{outcomeOf}
 use Rattle.cobbletwill.specs.Sessions.{feed}
-use Rattle.cobbletwill.proofs.Laws.Sessions.{refused-numbers, handed-over}
+use Rattle.cobbletwill.proofs.Laws.Sessions.{refused-numbers, handed-over, unchanged}
 use Rattle.cobbletwill.proofs.sessions.feed_numbers.Statement.{statement}
 use Rattle.cobbletwill.proofs.sessions.feed_numbers.Tie as tie
 
@@ -24,7 +25,7 @@ returns : tie.Need-returns
 unfolding feed
 returns c =
     let s = entry (c .before .before) in
-    refused-numbers (call s) _ _ _ _ _ (c .before .if1 .taken) (c .no-session .ensures)
+    (λ e. refl, refused-numbers (call s) _ _ _ _ _ (c .before .if1 .taken) (c .no-session .ensures))
 
 returns-2 : tie.Need-returns-2
 unfolding feed
@@ -34,8 +35,11 @@ returns-2 c =
     let s = entry (from .before .before) in
     let r = called .feed-by-value .result in
     let handed = c .hand-over .ensures in
-    handed-over (call s) _ _ _ _ _ _ _ (sessionOf (from .session-from .result)) (outcomeOf (r .answer) (r .session) _) (from .before .if1 .left)
-    (from .session-from .ensures) (called .feed-by-value .ensures) (handed .0) (handed .1 .0) (handed .1 .1)
+    let small = from .before .if1 .left in (
+      unchanged (s .args .numbers) (from .session-from .result) r (c .hand-over .result) small (from .session-from .ensures) (called .feed-by-value .ensures .0) (handed .0) (handed .1 .1 .0),
+      handed-over (call s) _ _ _ _ _ _ _ (sessionOf (from .session-from .result)) (outcomeOf (r .answer) (r .session) _) small
+          (from .session-from .ensures) (called .feed-by-value .ensures .1) (handed .1 .0) (handed .1 .1 .0) (handed .1 .1 .1),
+    )
 
 pub feed-numbers-spec : {M : Type 1} → statement M
 feed-numbers-spec =

@@ -12,10 +12,10 @@ use Rattle.cobbletwill.proofs.sessions.numbers_of.Tie as tie
 -- the numbers of a session but for its status
 abbrev withStatus : Session → ℕ → SessionNumbers
 withStatus s n =
-    record { received = s .received; produced = s .produced; steps = s .steps; status = n; state = s .state; count = s .count; held = s .held }
+    record { received = s .received; tally = record { produced = s .produced; steps = s .steps }; status = n; state = s .state; «held_count» = s .count; held = s .held }
 
 returns : tie.Need-returns
-returns c = ap (withStatus (sessionOf (c .before .before .args .session))) (c .status-number .ensures)
+returns c = ap (withStatus (sessionOf (c .before .before .before .args .session))) (c .status-number .ensures)
 
 pub numbers-of-spec : {M : Type 1} → statement M
 numbers-of-spec = tie.close (tie.spec (λ c κs. search needs) returns)

@@ -11,10 +11,10 @@ use Rattle.cobbletwill.proofs.sessions.session_from.Tie as tie
 -- a session of the numbers but for its status
 abbrev withStatus : SessionNumbers → Status → Session
 withStatus n s =
-    record { status = s; state = n .state; held = n .held; count = n .count; received = n .received; produced = n .produced; steps = n .steps }
+    record { status = s; state = n .state; held = n .held; count = n .«held_count»; received = n .received; produced = n .tally .produced; steps = n .tally .steps }
 
 returns : tie.Need-returns
-returns c = ap (withStatus (c .before .before .args .numbers)) (c .status-from .ensures)
+returns c = ap (withStatus (c .before .before .before .args .numbers)) (c .status-from .ensures)
 
 pub session-from-spec : {M : Type 1} → statement M
 session-from-spec = tie.close (tie.spec (λ c κs. search needs) returns)

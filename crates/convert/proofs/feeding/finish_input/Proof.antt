@@ -11,7 +11,7 @@ finish-by-value-requires c κs = search needs
 print-call-requires : tie.Need-print-call-requires
 print-call-requires c κs =
     let f = c .before .before .before .finish-by-value in
-    finish-counted _ _ (f .result .answer) (f .result .session) (f .last .1 .1 .0) _ (f .ensures)
+    finish-counted _ _ (f .result .answer) (f .result .session) (f .last .1 .1 .0) _ (f .ensures .1)
 
 same-length : tie.Need-same-length
 same-length c = search needs

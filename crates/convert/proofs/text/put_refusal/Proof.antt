@@ -1,12 +1,10 @@
 -- `text::put_refusal` meets its contract: the word, the number and the line end, each after the last.
 -- Assumes nothing.
 use mathlib.Core.List.{List, [], _∷_}
-use mathlib.Core.Path.{_≡_, refl, subst, _∙_}
-use Prim.Native.Nat.{ℕ, _+_, _<_}
-use native.Mathlib.Omega.{arith}
+use mathlib.Core.Path.{_≡_, refl, _∙_}
+use Prim.Native.Nat.{_+_, _<_}
 use borrow.Author.Needs.{needs}
 use lib.ListN.{length, take, length-set}
-use Rattle.convert.specs.Text.{Numbered}
 use Rattle.convert.proofs.Laws.Text.{put-next, counts-next}
 use Rattle.convert.proofs.text.put_refusal.Statement.{statement}
 use Rattle.convert.proofs.text.put_refusal.Tie as tie

@@ -1,6 +1,6 @@
 -- `call::call` meets its contract: a refusal changes nothing, and what was admitted goes on as `resume` ensures.
 -- Assumes nothing.
-use mathlib.Core.Path.{_≡_, sym, ap, _∙_}
+use mathlib.Core.Path.{_≡_, refl, sym, ap, _∙_}
 use borrow.Author.Needs.{needs}
 use lib.ListN.{length}
 use Rattle.meaning.specs.Refusal.{accepted}
@@ -35,10 +35,12 @@ returns : tie.Need-returns
 returns c =
     let n = c .before in
     let d = n .before .before in
-    let a = start d .args in
-    sym
-    (ap (λ o. callBy o (fromWords (a .words .now)) (sessionOf (a .session)) (a .piece .now) (a .ended) (a .output .now))
-    (sym (d .admit .ensures) ∙ ap checkOf (n .number .given .1)))
+    let a = start d .args in (
+      record { accepted = refl; unchanged = λ e. refl },
+      sym
+          (ap (λ o. callBy o (fromWords (a .words .now)) (sessionOf (a .session)) (a .piece .now) (a .ended) (a .output .now))
+          (sym (d .admit .ensures) ∙ ap checkOf (n .number .given .1))),
+    )
 
 same-length : tie.Need-same-length
 same-length c = search needs
@@ -47,9 +49,11 @@ returns-2 : tie.Need-returns-2
 returns-2 c =
     let done = c .before .before in
     let told = done .before .before in
-    let a = start (told .before .before) .args in
-    done .resume .ensures
-    ∙ sym (ap (λ o. callBy o (fromWords (a .words .now)) (sessionOf (a .session)) (a .piece .now) (a .ended) (a .output .now)) (admitted told))
+    let a = start (told .before .before) .args in (
+      done .resume .ensures .0,
+      done .resume .ensures .1
+          ∙ sym (ap (λ o. callBy o (fromWords (a .words .now)) (sessionOf (a .session)) (a .piece .now) (a .ended) (a .output .now)) (admitted told)),
+    )
 
 pub call-spec : {M : Type 1} → statement M
 call-spec =

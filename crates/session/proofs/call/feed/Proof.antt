@@ -19,7 +19,7 @@ use contract.Monad.{Fun, fact}
 use contract.Running.{givenOf, tables, tablesOf}
 use types.Kit.{Given, Item, ‵, raw, some, later, ⋆, _⊛_, _$_, _∵_, !, qed, by, move, keep, drop, use1, use3, split, join, pick, rewrite, suffices, frame, await, done}
 use types.Kit.{fsplit, fsplit3, fjoin, fjoin3, feqL, feqI}
-use types.Run.{look, look-raw, init, store-raw, forget, stop, hop, fld, from, load, addr, of-opd, and-then, no-more, assigns, land, returns}
+use types.Run.{look, look-raw, init, forget, stop, hop, fld, from, load, addr, of-opd, and-then, no-more, assigns, land, returns}
 use types.Run.{enter, alloc1, alloc0, params1, pass1, pass0, free1, free0}
 use types.Part.{agg, whole, sub, look-in}
 use types.SemTy.{Body}
@@ -31,7 +31,7 @@ use denote.Builtin.{u16}
 use denote.Ref.{RefT, MutRef, ptr-vals, mut-tells}
 use denote.Slice.{slice-vals, sliceVal, ShrSlice, MutSlice, Room, finally, shr-slice-tells, mut-slice-tells}
 use denote.Signature.{Slot, plain, shrSliceOf}
-use denote.Steps.{only, opens, closes, owned, peeks, heard, nothing}
+use denote.Steps.{only, opens, owned, peeks, heard, nothing}
 use denote.Struct.Steps.{spelt}
 use denote.Struct.Laws as LL
 use denote.Enum.Laws as EL
@@ -43,9 +43,10 @@ use denote.Triple.Clauses.{ensured, lasts}
 use denote.Triple.Table.{entered, cited}
 use denote.Triple.Walked.{says, Stays, stay-ref, stay-dropped, gave-slice, walkOf, AllGo, goes-ref, goes-dropped, goes-gave-slice, Walks, ends-at, walked, walk-meets}
 use denote.Exit.{yes}
-use Rattle.session.specs.Contracts.{Feeds}
+use Rattle.session.specs.Contracts.{Feeds, Told}
 use Rattle.session.specs.declared.kept.Session.{Session}
 use Rattle.session.specs.declared.call.Called.{Called}
+use Rattle.session.proofs.Laws.Lending.{stores-accepted}
 use Rattle.session.proofs.kept.Session as T
 use Rattle.session.proofs.kept.Session.Laws as T′
 use Rattle.session.proofs.call.Answer as N
@@ -91,7 +92,7 @@ Core 𝓤 H A at-mem run = tripleOf 𝓤 H A core.signature (core.spec 𝓤 H A 
 
 -- the session within what `feed_by_value` returned
 session-is : (r : Called) (w : Val) → Is F.the-row r (w ∷ []) → Is R (r .session) (vals (r .session))
-session-is r w is = LL.owed F.the-type F′.the-laws r _ is .1 .0
+session-is r w is = LL.owed F.the-type F′.the-laws r _ is .1 .1 .0
 
 module _ {M : Type 1} (𝓤 : URA M) (H : Heap 𝓤) (A : Atoms 𝓤) (W : Given 𝓤 H A) (at-mem : Memory → SProp 𝓤) (run : Routine → Fun 𝓤)
     (κ₀ κ₁ κ₂ κ₃ : Lft) (q₀ q₁ q₂ q₃ : Share) (ws : RefT (List ℕ)) (b o : ℕ) (γ : GName) (h : Session) (p y : RefT (List ℕ)) where
@@ -143,7 +144,7 @@ module _ {M : Type 1} (𝓤 : URA M) (H : Heap 𝓤) (A : Atoms 𝓤) (W : Given
       owned ! R (Is R) (LL.makes T.the-type T′.the-plain 𝓤 H A) h _ g $
       move ! (0 ∷ 3 ∷ []) $ fjoin ! $ move ! (2 ∷ 0 ∷ []) $ fjoin ! $ move ! (1 ∷ 0 ∷ []) $ join ! $ frame ! $ done !
 
-  -- what `feed_by_value` ensures
+  -- what `feed_by_value` ensures, beside that the session is unchanged where the call is not accepted
   abbrev Ensured : Called → List ℕ → Type 0
   Ensured r zs = Feeds (ws .now) h (p .now) (y .now) (r .answer) (r .session) zs
 
@@ -176,52 +177,53 @@ module _ {M : Type 1} (𝓤 : URA M) (H : Heap 𝓤) (A : Atoms 𝓤) (W : Given
         ∷ ‵ (owns (ShrSlice (named 0) κ₀ u16 ∷ MutRef (named 1) κ₁ R ∷ ShrSlice (named 2) κ₂ u16 ∷ MutSlice (named 3) κ₃ u16 ∷ []) x at)
         ∷ []) ∵
         enter ! C Λ code.function passed _ $
-        alloc1 ! (λ l₀. alloc1 ! (λ l₁. alloc1 ! (λ l₂. alloc1 ! (λ l₃. alloc1 ! (λ l₄. alloc1 ! (λ l₅. alloc1 ! (λ l₆. alloc1 ! (λ l₇. alloc1 ! (λ l₈. alloc0 ! $
-        params1 ! $ pass1 ! (init ! 14 refl (tt, (tt, (record { fits = room-ws .0 }, tt)))) $ pass1 ! (init ! 12 refl (tt, tt)) $
-        pass1 ! (init ! 10 refl (tt, (tt, (record { fits = room-p .0 }, tt)))) $ pass1 ! (init ! 8 refl (tt, (tt, (record { fits = room-y .0 }, tt)))) $ pass0 ! $
-        -- [_8; …; _0; …; the tokens; what the parameters own]: the borrow of the session is opened
-        move ! (19 ∷ []) $ fsplit ! $ move ! (1 ∷ []) $ fsplit ! $ fsplit3 ! $ drop ! $
-        move ! (22 ∷ []) $ split ! $ move ! (1 ∷ []) $ split ! $ move ! (3 ∷ 4 ∷ 0 ∷ []) $
+        alloc1 ! (λ l₀. alloc1 ! (λ l₁. alloc1 ! (λ l₂. alloc1 ! (λ l₃. alloc1 ! (λ l₄. alloc1 ! (λ l₅. alloc1 ! (λ l₆. alloc1 ! (λ l₇. alloc1 ! (λ l₈. alloc1 ! (λ l₉. alloc0 ! $
+        params1 ! $ pass1 ! (init ! 16 refl (tt, (tt, (record { fits = room-ws .0 }, tt)))) $ pass1 ! (init ! 14 refl (tt, tt)) $
+        pass1 ! (init ! 12 refl (tt, (tt, (record { fits = room-p .0 }, tt)))) $ pass1 ! (init ! 10 refl (tt, (tt, (record { fits = room-y .0 }, tt)))) $ pass0 ! $
+        -- [_9; …; _0; …; the tokens; what the parameters own]: the borrow of the session is opened
+        move ! (21 ∷ []) $ fsplit ! $ move ! (1 ∷ []) $ fsplit ! $ fsplit3 ! $ drop ! $
+        move ! (24 ∷ []) $ split ! $ move ! (1 ∷ []) $ split ! $ move ! (3 ∷ 4 ∷ 0 ∷ []) $
         opens ! tt R {h = h} b o (λ vs. spelt ! R (Is R) (shows 𝓤 H A R) vals (LL.tells T.the-type T′.the-laws) fullShare h vs b o $
         move ! (1 ∷ []) $ peeks ! R (Is R) (shows 𝓤 H A R) h (vals h) (λ g. move ! (1 ∷ 0 ∷ []) $
         -- [the cell; what the session owns; the open borrow; obs; auth; the tokens 2 and 3; the token 0; what piece and output own; what words owns;
-        -- _8 at 9; …; _0 at 25; …]: the session is copied out and the output lent on
-        assigns ! (of-opd ! (load ! (from ! (hop ! (look ! 21 refl) (stop !))) (look-raw ! 0 refl))) (from ! (stop !))
-        (init ! 15 refl (LL.lawful T.the-type T′.the-laws 𝓤 H A W .typed h _ g .0)) $
-        assigns ! (addr ! (from ! (fld ! refl (hop ! (look-in ! 17 (sub ! 0 refl (whole !))) (stop !))))) (from ! (stop !)) (init ! 11 refl (tt, tt)) $
-        assigns ! (agg ! (and-then ! (load ! (from ! (stop !)) (look ! 11 refl))
-        (and-then ! (load ! (from ! (fld ! refl (stop !))) (look-in ! 17 (sub ! 1 refl (whole !)))) (no-more !)))) (from ! (stop !))
-        (init ! 9 refl (tt, (tt, (record { fits = room-y .0 }, tt)))) $
+        -- _9 at 9; …; _0 at 27; …]: the session is copied out and the output lent on
+        assigns ! (of-opd ! (load ! (from ! (hop ! (look ! 23 refl) (stop !))) (look-raw ! 0 refl))) (from ! (stop !))
+        (init ! 17 refl (LL.lawful T.the-type T′.the-laws 𝓤 H A W .typed h _ g .0)) $
+        assigns ! (addr ! (from ! (fld ! refl (hop ! (look-in ! 19 (sub ! 0 refl (whole !))) (stop !))))) (from ! (stop !)) (init ! 13 refl (tt, tt)) $
+        assigns ! (agg ! (and-then ! (load ! (from ! (stop !)) (look ! 13 refl))
+        (and-then ! (load ! (from ! (fld ! refl (stop !))) (look-in ! 19 (sub ! 1 refl (whole !)))) (no-more !)))) (from ! (stop !))
+        (init ! 11 refl (tt, (tt, (record { fits = room-y .0 }, tt)))) $
         -- the call
         move ! (6 ∷ 5 ∷ []) $ join ! $ move ! (0 ∷ 7 ∷ 6 ∷ []) $ use3 W (raw (Core 𝓤 H A at-mem run .pre to-core)) (goes g) $
         calls-at ! fm (Core 𝓤 H A at-mem run) known to-core
-        (and-then ! (load ! (from ! (stop !)) (look ! 20 refl)) (and-then ! (load ! (from ! (stop !)) (look ! 12 refl))
-        (and-then ! (load ! (from ! (stop !)) (look ! 16 refl)) (and-then ! (load ! (from ! (stop !)) (look ! 6 refl)) (no-more !))))) (λ w.
+        (and-then ! (load ! (from ! (stop !)) (look ! 22 refl)) (and-then ! (load ! (from ! (stop !)) (look ! 14 refl))
+        (and-then ! (load ! (from ! (stop !)) (look ! 18 refl)) (and-then ! (load ! (from ! (stop !)) (look ! 8 refl)) (no-more !))))) (λ w.
         use1 W (later (some (λ (r : Called). (toks ⊛ ‵ (F.the-row .own r (w ∷ [])))
         ⊛ raw (ensured 𝓤 H A core.ended (core.clauses 𝓤 H A at-mem run) cκs cx tt r)))) (id⊢ 𝓤 _) $ await ! tt $ pick ! (λ r.
         split ! $ move ! (1 ∷ []) $
         use1 W (some (λ (zs : Unit {0} × (Unit {0} × (Unit {0} × (List ℕ × Unit {0})))).
-        ‵ (lasts core.ended cκs cx zs) ⊛ raw (fact 𝓤 (Ensured r (zs .1 .1 .1 .0))))) (id⊢ 𝓤 _) $ pick ! (λ zs.
-        split ! $ move ! (1 ∷ []) $ heard ! (Ensured r (zs .1 .1 .1 .0)) (λ e.
+        ‵ (lasts core.ended cκs cx zs) ⊛ raw (fact 𝓤 (Told r h)) ⊛ raw (fact 𝓤 (Ensured r (zs .1 .1 .1 .0))))) (id⊢ 𝓤 _) $ pick ! (λ zs.
+        split ! $ move ! (1 ∷ []) $ split ! $ heard ! (Told r h) (λ kept. heard ! (Ensured r (zs .1 .1 .1 .0)) (λ e.
         fsplit ! $ drop ! $ fsplit ! $ drop ! $ fsplit ! $ drop ! $ fsplit ! $ fsplit ! $ move ! (1 ∷ []) $ feqL ! (λ l.
         move ! (2 ∷ []) $ split ! $ move ! (1 ∷ []) $ peeks ! F.the-row (Is F.the-row) (shows 𝓤 H A F.the-row) r (w ∷ []) (λ is.
-        -- [the result; the tokens; the last list; …; the cell at 4; what the old session owns; the open borrow; obs; auth; _8 at 9; …; _0 at 25; …]
-        land ! (from ! (stop !)) (init ! 13 refl (LL.lawful F.the-type F′.the-laws 𝓤 H A W .typed r _ is .0)) $
-        rewrite ! 13 (λ (u : Val). ‵ (fat fullShare F′.mir l₆ 0 u)) (ap only (LL.tells F.the-type F′.the-laws r _ is)) refl $
-        assigns ! (of-opd ! (load ! (from ! (fld ! refl (stop !))) (look-in ! 13 (sub ! 1 refl (whole !))))) (from ! (hop ! (look ! 21 refl) (stop !)))
-        (store-raw ! 4 refl (LL.lawful T.the-type T′.the-laws 𝓤 H A W .typed (r .session) _ (session-is r _ is) .0)) $
+        -- [the result; the tokens; the last list; …; the open borrow's five at 4; _9 at 9; …; _0 at 27; …]
+        land ! (from ! (stop !)) (init ! 15 refl (LL.lawful F.the-type F′.the-laws 𝓤 H A W .typed r _ is .0)) $
+        rewrite ! 15 (λ (u : Val). ‵ (fat fullShare F′.mir l₆ 0 u)) (ap only (LL.tells F.the-type F′.the-laws r _ is)) refl $
+        assigns ! (of-opd ! (load ! (from ! (fld ! refl (stop !))) (look-in ! 15 (sub ! 1 refl (whole !))))) (from ! (stop !)) (init ! 9 refl (tt, tt)) $
+        -- the session is stored where the call was accepted, and the borrow is closed
+        move ! (4 ∷ 5 ∷ 6 ∷ 7 ∷ 8 ∷ []) $
+        stores-accepted ! T.the-type T′.the-laws T′.the-plain b o h (r .session) (r .accepted) (kept .unchanged) (session-is r _ is)
+        (load ! (from ! (stop !)) (look ! 9 refl)) (load ! (from ! (fld ! refl (stop !))) (look-in ! 15 (sub ! 2 refl (whole !))))
+        (from ! (hop ! (look ! 23 refl) (stop !))) $
+        -- [the closed borrow's three; the result; the tokens; the last list; …; _9 at 7; …; _0 at 25; …]: the answer is returned and every local is freed
         assigns ! (of-opd ! (load ! (from ! (fld ! refl (stop !))) (look-in ! 13 (sub ! 0 refl (whole !))))) (from ! (stop !))
         (init ! 25 refl (EL.lawful N.the-type N′.the-laws 𝓤 H A W tt .typed (r .answer) _ (LL.owed F.the-type F′.the-laws r _ is .0) .0)) $
-        -- the borrow is closed at the new session
-        move ! (5 ∷ []) $ drop ! $ owned ! R (Is R) (LL.makes T.the-type T′.the-plain 𝓤 H A) (r .session) _ (session-is r _ is) $
-        move ! (5 ∷ 0 ∷ 6 ∷ 7 ∷ 8 ∷ []) $ closes ! tt R (r .session) (vals (r .session)) b o $
-        -- every local is freed: _8 at 7; …; _0 at 23
-        returns ! (look ! 23 refl) $ forget ! 7 refl $ forget ! 9 refl $ forget ! 11 refl $ forget ! 13 refl $ forget ! 15 refl $
-        forget ! 17 refl $ forget ! 19 refl $ forget ! 21 refl $ forget ! 23 refl $
-        move ! (23 ∷ 24 ∷ []) $ free1 ! $ move ! (21 ∷ 22 ∷ []) $ free1 ! $ move ! (19 ∷ 20 ∷ []) $ free1 ! $ move ! (17 ∷ 18 ∷ []) $ free1 ! $
+        returns ! (look ! 25 refl) $ forget ! 7 refl $ forget ! 9 refl $ forget ! 11 refl $ forget ! 13 refl $ forget ! 15 refl $
+        forget ! 17 refl $ forget ! 19 refl $ forget ! 21 refl $ forget ! 23 refl $ forget ! 25 refl $
+        move ! (25 ∷ 26 ∷ []) $ free1 ! $ move ! (23 ∷ 24 ∷ []) $ free1 ! $ move ! (21 ∷ 22 ∷ []) $ free1 ! $ move ! (19 ∷ 20 ∷ []) $ free1 ! $ move ! (17 ∷ 18 ∷ []) $ free1 ! $
         move ! (15 ∷ 16 ∷ []) $ free1 ! $ move ! (13 ∷ 14 ∷ []) $ free1 ! $ move ! (11 ∷ 12 ∷ []) $ free1 ! $ move ! (9 ∷ 10 ∷ []) $ free1 ! $
         move ! (7 ∷ 8 ∷ []) $ free1 ! $ free0 ! $
-        keep ! (0 ∷ 1 ∷ 2 ∷ 4 ∷ 5 ∷ []) $ by ! (exits r _ (zs .1 .1 .1 .0) e l (LL.owed F.the-type F′.the-laws r _ is .0)))))))))))))))))))
+        keep ! (0 ∷ 1 ∷ 2 ∷ 4 ∷ 5 ∷ []) $ by ! (exits r _ (zs .1 .1 .1 .0) e l (LL.owed F.the-type F′.the-laws r _ is .0)))))))))))))))))))))
 
 module _ {M : Type 1} (𝓤 : URA M) (H : Heap 𝓤) (A : Atoms 𝓤) (W : Given 𝓤 H A) (at-mem : Memory → SProp 𝓤) (run : Routine → Fun 𝓤) where
   feed-walks : (C : Calls 𝓤 H) (Λ : Loops 𝓤 H) → FmC 𝓤 H (W .laws) C → Triple 𝓤 (C #feed-by-value) (Core 𝓤 H A at-mem run)

@@ -1,25 +1,28 @@
 -- `call::later` meets its contract: each field is the definition's, and what was received is as `received_by` answers.
 -- The numbers are so small that no sum overflows.
-use mathlib.Core.Path.{ap}
+use mathlib.Core.Path.{_≡_, sym, ap, subst, _∙_}
 use Prim.Native.Nat.{ℕ}
+use native.Mathlib.Omega.{arith}
 use borrow.Author.Needs.{needs}
 use Rattle.reckoning.specs.Session.{Session}
 use Rattle.session.specs.Keeping.{sessionOf}
 use Rattle.session.specs.bridge.Later.{laterOf}
+use Rattle.session.specs.bridge.Counting.{plus, countedBy, Addable}
+use Rattle.session.specs.declared.tally.Tally.{Tally}
 use Rattle.session.proofs.call.later.Statement.{statement}
 use Rattle.session.proofs.call.later.Tie as tie
 
--- the session, with so many characters received
-abbrev receiving : Session → ℕ → Session
-receiving s n =
+-- the session, with so many characters received and these counts
+abbrev counting : Session → ℕ → Tally → Session
+counting s n t =
     record {
       status = s .status;
       state = s .state;
       held = s .held;
       count = s .count;
       received = n;
-      produced = s .produced;
-      steps = s .steps;
+      produced = t .produced;
+      steps = t .steps;
     }
 
 cast-consumed : tie.Need-cast-consumed
@@ -34,25 +37,28 @@ add-gone c = search needs
 add-received : tie.Need-add-received
 add-received c = search needs
 
-sub-t11 : tie.Need-sub-t11
-sub-t11 c = search needs
+sub-t12 : tie.Need-sub-t12
+sub-t12 c = search needs
 
-cast-t12 : tie.Need-cast-t12
-cast-t12 c = search needs
+cast-t13 : tie.Need-cast-t13
+cast-t13 c = search needs
 
 received-by-requires : tie.Need-received-by-requires
 received-by-requires c κs = search needs
 
-add-t14 : tie.Need-add-t14
-add-t14 c = search needs
+of-run-requires : tie.Need-of-run-requires
+of-run-requires c κs = search needs
 
-add-t15 : tie.Need-add-t15
-add-t15 c = search needs
+add-requires : tie.Need-add-requires
+add-requires c κs =
+    let s = c .before .before .before .before .before .before .before .before in
+    subst (Addable (s .args .session .tally)) (sym (c .of-run .ensures)) (record { produced = omega (arith, s .pre .produced); steps = omega (arith, s .pre .steps) })
 
 returns : tie.Need-returns
 returns c =
     let a = c .before .before .before .before .before .before .before .before .before .args in
-    ap (receiving (laterOf (sessionOf (a .session)) (a .size) (a .ran) (a .held))) (c .before .before .before .received-by .ensures)
+    let t : c .add .result ≡ plus (a .session .tally) (countedBy (a .ran)) = c .add .ensures ∙ ap (plus (a .session .tally)) (c .before .of-run .ensures) in
+    λ i. counting (laterOf (sessionOf (a .session)) (a .size) (a .ran) (a .held)) (c .before .before .received-by .ensures i) (t i)
 
 pub later-spec : {M : Type 1} → statement M
 later-spec =
@@ -62,9 +68,9 @@ later-spec =
     sub-consumed
     add-gone
     add-received
-    sub-t11
-    cast-t12
+    sub-t12
+    cast-t13
     received-by-requires
-    add-t14
-    add-t15
+    of-run-requires
+    add-requires
     returns)

@@ -1,7 +1,8 @@
 -- `call::resume` meets its contract: the run from what the session holds is the definition's, and the places gathered are its store.
 -- The session was admitted, so it is sound and the call leaves a sound one: no number overflows.
+use mathlib.Core.Bool.{true≢false}
 use mathlib.Core.List.{List}
-use mathlib.Core.Path.{_≡_}
+use mathlib.Core.Path.{_≡_, refl}
 use Prim.Native.Nat.{ℕ}
 use borrow.Author.Needs.{needs}
 use lib.ListN.{length}
@@ -86,9 +87,11 @@ unfolding pad
 returns c =
     let d = c .before .before .before .before .before .before .before in
     let s = start d in
-    let ran = d .run-words in
-    same-outcome (words s) (session s) (piece s) (s .args .ended) (room s) (known s) (eight s) (ran .result) _ (ran .ensures .0)
-    (s .args .output .now) _ (c .later .result) (ran .ensures .1) (c .before .before .gather .ensures) (c .later .ensures)
+    let ran = d .run-words in (
+      record { accepted = refl; unchanged = λ e. absurd (true≢false e) },
+      same-outcome (words s) (session s) (piece s) (s .args .ended) (room s) (known s) (eight s) (ran .result) _ (ran .ensures .0)
+          (s .args .output .now) _ (c .later .result) (ran .ensures .1) (c .before .before .gather .ensures) (c .later .ensures),
+    )
 
 pub resume-spec : {M : Type 1} → statement M
 resume-spec =

@@ -43,7 +43,7 @@ add-result c = omega (arith, small c, start c .pre .1)
 returns-2 : tie.Need-returns-2
 returns-2 c =
     let a = start c .args in
-    ap (λ x. leb (a .t2 .steps) (x * a .consumed + a .t2 .count)) (c .cost .ensures)
+    ap (λ x. leb (a .t2 .tally .steps) (x * a .consumed + a .t2 .«held_count»)) (c .cost .ensures)
     ∙ sym (all-next _ (passed (c .before .before .leads-to .ensures) (c .before .if1 .left)) ∙ all-last _)
 
 pub open-sound-spec : {M : Type 1} → statement M

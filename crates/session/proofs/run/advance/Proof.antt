@@ -9,8 +9,8 @@ use lib.ListN.{length}
 use Rattle.lists.proofs.Laws.Tests.{to-T}
 use Rattle.meaning.specs.Block.{at}
 use Rattle.automaton.proofs.Laws.Words.{sound-header}
-use Rattle.session.specs.bridge.Running.{Placed, Onward}
-use Rattle.session.proofs.Laws.Turning.{onward-after, beyond-join}
+use Rattle.session.specs.bridge.Running.{Placed, Advances}
+use Rattle.session.proofs.Laws.Turning.{advances-after, beyond-join}
 use Rattle.session.proofs.run.advance.Statement.{statement}
 use Rattle.session.proofs.run.advance.Tie as tie
 
@@ -56,9 +56,9 @@ returns c =
     let mid = d .write-defaults .result in
     let after = t .last .1 .1 .1 .1 .1 .1 .0 in
     let z : length (written d) ≡ length (a .output .now) = c .before .before .before .before .before .output .given in
-    let later : Onward w (text s) (a .ended) (length (a .output .now)) mid (written d) (new .done) new after =
-    subst (λ n. Onward w (text s) (a .ended) n mid (written d) (new .done) new after) z (t .ensures .0) in (
-      onward-after w (text s) (a .ended) (length (a .output .now)) (a .run) mid new (a .output .now) (written d) after (new .done) (d .write-defaults .ensures .0) later,
+    let later : Advances w (text s) (a .ended) (length (a .output .now)) mid (written d) (new .done) new after =
+    subst (λ n. Advances w (text s) (a .ended) n mid (written d) (new .done) new after) z (t .ensures .0) in (
+      advances-after w (text s) (a .ended) (length (a .output .now)) (a .run) mid new (a .output .now) (written d) after (new .done) (d .write-defaults .ensures .0) later,
       beyond-join (a .run) mid new (a .output .now) (written d) after (d .write-defaults .ensures .1) (t .ensures .1),
     )
 

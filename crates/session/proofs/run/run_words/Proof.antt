@@ -10,7 +10,7 @@ use lib.Seq.{length-take-le}
 use Rattle.automaton.specs.Automaton.{fromWords}
 use Rattle.reckoning.specs.Machine.{Ended, start, run}
 use Rattle.session.specs.bridge.Running.{Classed}
-use Rattle.session.proofs.Laws.Running.{of-not-true, of-not-false, Stage, toGo, stage-on, finished-over, beyond-on, begins}
+use Rattle.session.proofs.Laws.Running.{of-not-true, of-not-false, Stage, toGo, stage-on, ends-over, beyond-on, begins}
 use Rattle.session.proofs.Laws.Turning.{few-places, front-classed}
 use Rattle.session.proofs.run.run_words.Statement.{statement}
 use Rattle.session.proofs.run.run_words.Tie as tie
@@ -128,7 +128,7 @@ returns c =
     let r = run (fromWords (a .words .now)) (a .ended) (start (a .given .now) (a .piece .now) (a .state .0)) in
     let f : Stage (a .words .now) u (a .ended) (length (a .output .now)) r true (l .ran) (l .output) =
     subst (λ b. Stage (a .words .now) u (a .ended) (length (a .output .now)) r b (l .ran) (l .output)) (of-not-false (l .ran .done) (c .if1 .left)) (l .inv .0) in
-    (f, finished-over (a .words .now) u r (l .ran) (l .output) (a .output .now) f (l .inv .2))
+    (f, ends-over (a .words .now) u r (l .ran) (l .output) (a .output .now) f (l .inv .2))
 
 pub run-words-spec : {M : Type 1} → statement M
 run-words-spec =

@@ -1,6 +1,6 @@
 -- `run::turn` meets its contract: what is read on leads to the same end, and what is done there is the machine's next step.
 -- Assumes nothing.
-use mathlib.Core.Bool.{true, false, false≢true}
+use mathlib.Core.Bool.{false, false≢true}
 use mathlib.Core.List.{List, _++_}
 use mathlib.Core.Logic.{⊎-elim}
 use mathlib.Core.Path.{_≡_, refl, sym, ap, _∙_}
@@ -13,7 +13,7 @@ use Rattle.machine.specs.bridge.Readings.{wordOf}
 use Rattle.automaton.proofs.Laws.Words.{sound-header}
 use Rattle.session.specs.bridge.Running.{Emit, Fits, Decides, Placed, Passes, Stands, readTo}
 use Rattle.session.proofs.Laws.Running.{of-not-true, of-not-false}
-use Rattle.session.proofs.Laws.Turning.{rule-decides, stands, read-more, onward-after}
+use Rattle.session.proofs.Laws.Turning.{rule-decides, stands, read-more, advances-after}
 use Rattle.session.proofs.run.turn.Statement.{statement}
 use Rattle.session.proofs.run.turn.Tie as tie
 
@@ -110,7 +110,7 @@ returns-2 c =
     let d = reached (c .before .before .before .before .before .before .before) in
     let s = begin d in
     let a = s .args in (
-      onward-after (a .words .now) (text s) (a .ended) (length (a .output .now)) (a .run) (readTo (a .run) (d .read-on .result)) (f .result) (a .output .now) (a .output .now) _
+      advances-after (a .words .now) (text s) (a .ended) (length (a .output .now)) (a .run) (readTo (a .run) (d .read-on .result)) (f .result) (a .output .now) (a .output .now) _
           (f .result .done) (passes d) (f .ensures .0),
       f .ensures .1,
     )
@@ -146,7 +146,7 @@ returns-3 c =
     let d = reached (r .before .before .before) in
     let s = begin d in
     let a = s .args in (
-      onward-after (a .words .now) (text s) (a .ended) (length (a .output .now)) (a .run) (readTo (a .run) (d .read-on .result)) (f .result) (a .output .now) (a .output .now) _
+      advances-after (a .words .now) (text s) (a .ended) (length (a .output .now)) (a .run) (readTo (a .run) (d .read-on .result)) (f .result) (a .output .now) (a .output .now) _
           (f .result .done) (passes d) (f .ensures .0 (a .ended) (ruled r .0)),
       f .ensures .1,
     )
