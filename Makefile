@@ -1,5 +1,5 @@
 # `make test` is the gate; `make demo` runs the main job on an example; `make tables` builds the tables; `make bench` times the library.
-.PHONY: test demo tables bench fmt
+.PHONY: test demo install tables bench fmt
 
 test:
 	@bash .ci/run
@@ -8,7 +8,20 @@ demo:
 	rt staticlib cobbletwill
 	@bash examples/demo.sh
 
-# The example in C; `rt staticlib cobbletwill` writes the library.
+# The library, proved where it is not there yet.
+target/staticlib/libcobbletwill.a:
+	rt staticlib cobbletwill
+
+# The library, its header and a file for pkg-config, below $(DESTDIR)$(PREFIX).
+PREFIX ?= /usr/local
+install: target/staticlib/libcobbletwill.a
+	install -d "$(DESTDIR)$(PREFIX)/include" "$(DESTDIR)$(PREFIX)/lib/pkgconfig"
+	install -m 644 include/cobbletwill.h "$(DESTDIR)$(PREFIX)/include"
+	install -m 644 target/staticlib/libcobbletwill.a "$(DESTDIR)$(PREFIX)/lib"
+	version=$$(sed -n 's/^#define COBBLETWILL_VERSION "\(.*\)"$$/\1/p' include/cobbletwill.h) && \
+	    sed -e "s,@PREFIX@,$(PREFIX)," -e "s,@VERSION@,$$version," include/cobbletwill.pc.in > "$(DESTDIR)$(PREFIX)/lib/pkgconfig/cobbletwill.pc"
+
+# The example in C.
 target/examples/station: examples/c/station.c include/cobbletwill.h target/staticlib/libcobbletwill.a
 	@mkdir -p $(@D)
 	cc -std=c11 -Wall -Wextra -Werror -O2 -Iinclude -o $@ $< target/staticlib/libcobbletwill.a

@@ -168,5 +168,12 @@ fn numbers_and_words() {
     }
     assert_eq!(Refusal::from_number(0), None);
     assert_eq!(Refusal::from_number(64), None);
-    assert_eq!(Refusal::Classes.to_string(), "refused 8: a 65th class");
+}
+
+/// `tests/c` holds the header to the same texts.
+#[test]
+fn texts_are_those_of_the_header() {
+    let texts = include_str!("../../../tests/c/texts.txt");
+    let words: Vec<String> = Refusal::ALL.iter().map(Refusal::to_string).collect();
+    assert_eq!(words, texts.lines().collect::<Vec<_>>());
 }
