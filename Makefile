@@ -1,12 +1,15 @@
-# `make test` is the gate; `make demo` runs the main job on an example; `make tables` builds the tables; `make bench` times the library.
-.PHONY: test demo install tables bench fmt
+# `make demo` converts two samples, unproved; `make build` proves and builds the library and the program; `make test` is the gate;
+# `make install` installs the library; `make tables` builds the tables; `make bench` times the library.
+.PHONY: demo build test install tables bench fmt
+
+demo:
+	@bash examples/demo.sh
+
+build:
+	@bash .ci/build
 
 test:
 	@bash .ci/run
-
-demo:
-	rt staticlib cobbletwill
-	@bash examples/demo.sh
 
 # The library, proved where it is not there yet.
 target/staticlib/libcobbletwill.a:
