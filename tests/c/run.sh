@@ -28,8 +28,9 @@ for compiler in c++ clang++; do
     done
 done
 
-# No static data that is written, and no functions from outside but two.
-read -r _ data bss _ < <(size "$library" | tail -n 1)
+# The size of the code, no static data that is written, and no functions from outside but two.
+read -r code data bss _ < <(size --totals "$library" | tail -n 1)
+[ "$code" -le 20480 ] || fail "the library has $code bytes of code"
 [ "$data $bss" = "0 0" ] || fail "the library has $data bytes of data and $bss of bss"
 needs=$(nm --undefined-only --format=just-symbols "$library" | grep -v -e '^$' -e ':$' | sort | xargs)
 [ "$needs" = "memcpy memset" ] || fail "the library needs: $needs"
