@@ -11,9 +11,9 @@ build:
 test:
 	@bash .ci/run
 
-# The library, proved where it is not there yet.
+# The library, where it is not there yet.
 target/staticlib/libcobbletwill.a:
-	rt staticlib cobbletwill
+	@bash .ci/build
 
 # The library, its header and a file for pkg-config, below $(DESTDIR)$(PREFIX).
 PREFIX ?= /usr/local
@@ -30,14 +30,13 @@ target/examples/station: examples/c/station.c include/cobbletwill.h target/stati
 	cc -std=c11 -Wall -Wextra -Werror -O2 -Iinclude -o $@ $< target/staticlib/libcobbletwill.a
 
 # The tables of tables/ from their sources.
-tables:
+tables: target/staticlib/libcobbletwill.a
 	@cargo build --release --offline --locked --quiet --manifest-path tools/Cargo.toml --target-dir target/cargo
 	@for folder in tables/*/; do \
 	    echo "$$folder" && target/cargo/release/build_table "$$folder/rules.txt" "$$folder/rules.tab" || exit 1; \
 	done
 
-bench:
-	rt staticlib cobbletwill
+bench: build
 	cargo run --release --offline --locked --quiet --manifest-path compare/Cargo.toml --target-dir target/cargo --features flex --bin bench
 
 fmt:
