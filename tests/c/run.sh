@@ -1,6 +1,7 @@
 #!/usr/bin/env bash
 # The library and its header for C: the header in C and C++, what the library needs and takes, refused calls, its stack, and an installed copy.
 set -euo pipefail
+trap 'echo "tests/c: line $LINENO of $0 failed" >&2' ERR
 cd "$(dirname "$0")/../.."
 
 library=target/staticlib/libcobbletwill.a

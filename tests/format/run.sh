@@ -6,6 +6,7 @@
 #   feeds TEXT, answers N, bytes     a feed to a fresh session answers so and leaves these bytes
 # usage: tests/format/run.sh [PROGRAM]
 set -euo pipefail
+trap 'echo "format: line $LINENO of $0 failed" >&2' ERR
 cd "$(dirname "$0")/../.."
 
 program=$(realpath "${1:-target/bin/convert}")
@@ -50,7 +51,11 @@ for block in "$out"/[0-9]*/; do
         { read -r kind; IFS= read -r text; } < "$command"
         found=${command%.command}.found
         case $kind in
-            input) (cd "$block" && printf %s "$text" | "$program") > "$found" ;;
+            # From a file: the program doesn't read it where it refuses the table, and a pipe would then break.
+            input)
+                printf %s "$text" > "$block/input"
+                (cd "$block" && "$program" < input) > "$found"
+                ;;
             words) "$out/show" words "$block/rules.tab" > "$found" ;;
             session) "$out/show" session "$block/rules.tab" "$text" > "$found" ;;
         esac
