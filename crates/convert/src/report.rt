@@ -41,8 +41,10 @@ fn put_accepted(written: &[u16], status: Status, session: Session, text: &mut [u
     ensures { λ r. ⌜ Counts r (now (text .exit)) ⌝ }
     ensures { λ r. ⌜ AcceptedLines (now (written .entry)) (statusOf status) (Spec.consumed (sessionOf session)) (sessionOf session .steps) (take r (now (text .exit))) ⌝ }
 {
+    let consumed = consumed(session);
+    let steps = steps(session);
     let mut line = [0u8; 64];
-    let size = put_status(status, consumed(session), steps(session), &mut line);
+    let size = put_status(status, consumed, steps, &mut line);
     let at = put_lines(written, text);
     put(&line[..size], text, at)
 }
