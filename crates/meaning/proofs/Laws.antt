@@ -11,6 +11,7 @@ pub mod Exact
 pub mod Direct
 pub mod Narrow
 pub mod Decoding
+pub mod Encoding
 pub mod Choosing
 pub mod Writing
 pub mod Extremes

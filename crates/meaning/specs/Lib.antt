@@ -3,6 +3,8 @@ pub mod Table
 pub mod Record
 pub mod Value
 pub mod Reader
+pub mod WellFormed
+pub mod Records
 pub mod Meaning
 pub mod Block
 pub mod Direct
