@@ -12,6 +12,7 @@ pub mod Direct
 pub mod Narrow
 pub mod Decoding
 pub mod Encoding
+pub mod Appended
 pub mod Choosing
 pub mod Writing
 pub mod Extremes
