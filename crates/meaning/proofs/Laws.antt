@@ -13,6 +13,7 @@ pub mod Narrow
 pub mod Decoding
 pub mod Encoding
 pub mod Appended
+pub mod Described
 pub mod Choosing
 pub mod Writing
 pub mod Extremes

@@ -8,10 +8,10 @@ use mathlib.Core.Path.{_≡_, refl, sym, ap, subst, _∙_}
 use Prim.Native.Nat.{ℕ, zero, suc, pred, _+_, _-_, _≤_}
 use native.Mathlib.Nat.{add-zero, add-suc, suc-add}
 use native.Mathlib.Omega.{arith}
-use lib.Dec.{eqb, eqb→eq}
+use lib.Dec.{T, eqb, eqb→eq}
 use lib.IntN.{ℤ, pos, negsuc}
 use lib.ListN.{length, replicate, length-append, length-replicate}
-use Rattle.lists.specs.Lists.{flatMap, atLast, lastD, optional}
+use Rattle.lists.specs.Lists.{flatMap, atLast, lastD, isSome, optional}
 use Rattle.lists.proofs.Laws.Tests.{of-cond, neqb→ne}
 use Rattle.meaning.specs.Table.{Range, Output, sum, Group, Table, everyCharacter, groups}
 use Rattle.meaning.specs.Reader.{reach, changeLatest, addRange, addTerm, changeRanges, changeOutputs}
@@ -158,8 +158,8 @@ rule-ranges p r g o h k b w =
 -- the table: its last group changed, a rule more, a default
 
 pub table-latest : (f : Group → Group) (e : List ℕ) (rs : List Group) (d : Option Group) → 1 ≤ length (rs ++ optional d) →
-    ((b : List ℕ) → d ≡ none → RuleRecords (top rs d) b → RuleRecords (f (top rs d)) (b ++ e)) →
-    ((b : List ℕ) → DefaultRecords (top rs d) b → DefaultRecords (f (top rs d)) (b ++ e)) →
+    ((b : List ℕ) → RuleRecords (top rs d) b → RuleRecords (f (top rs d)) (b ++ e)) →
+    (T (isSome d) → (b : List ℕ) → DefaultRecords (top rs d) b → DefaultRecords (f (top rs d)) (b ++ e)) →
     (b : List ℕ) → Records b (record { rules = rs; default = d }) → Records (b ++ e) (changeLatest f (record { rules = rs; default = d }))
 unfolding changeLatest
 table-latest f e rs none n h k b w =
@@ -167,7 +167,7 @@ table-latest f e rs none n h k b w =
     record {
       first = w .first ++ e;
       last = [];
-      rules = joined-last RuleRecords f e (everyCharacter []) rs (w .first) some-rule (λ c. h c refl) (w .rules);
+      rules = joined-last RuleRecords f e (everyCharacter []) rs (w .first) some-rule h (w .rules);
       default = refl;
       bytes = ap (λ l. l ++ e) (w .bytes ∙ ap (λ l. w .first ++ l) (w .default) ∙ append-nil (w .first)) ∙ sym (append-nil (w .first ++ e));
     }
@@ -176,7 +176,7 @@ table-latest f e rs (some g) n h k b w =
       first = w .first;
       last = w .last ++ e;
       rules = w .rules;
-      default = joined-last DefaultRecords f e g (g ∷ []) (w .last) (omega arith) k (w .default);
+      default = joined-last DefaultRecords f e g (g ∷ []) (w .last) (omega arith) (k tt) (w .default);
       bytes = ap (λ l. l ++ e) (w .bytes) ∙ append-assoc (w .first) (w .last) e;
     }
 
