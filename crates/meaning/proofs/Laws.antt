@@ -14,6 +14,7 @@ pub mod Decoding
 pub mod Encoding
 pub mod Appended
 pub mod Described
+pub mod Readable
 pub mod Choosing
 pub mod Writing
 pub mod Extremes
