@@ -1,6 +1,5 @@
 -- What a record adds to the bytes of a table: a range, an output character, a term or a group at the end adds its own bytes at the end.
 -- By recursion on the groups, positions, output characters and coefficients before it.
-use mathlib.Core.Bool.{true, false, cond}
 use mathlib.Core.List.{List, [], _∷_, _++_, append-nil, append-assoc}
 use mathlib.Core.Option.{Option, none, some}
 use mathlib.Core.Logic.{_≢_}
@@ -13,7 +12,7 @@ use lib.IntN.{ℤ, pos, negsuc}
 use lib.ListN.{length, replicate, length-append, length-replicate}
 use Rattle.lists.specs.Lists.{flatMap, atLast, lastD, isSome, optional}
 use Rattle.lists.proofs.Laws.Tests.{of-cond, neqb→ne}
-use Rattle.meaning.specs.Table.{Range, Output, sum, Group, Table, everyCharacter, groups}
+use Rattle.meaning.specs.Table.{Range, Output, sum, Group, everyCharacter}
 use Rattle.meaning.specs.Reader.{reach, changeLatest, addRange, addTerm, changeRanges, changeOutputs}
 use Rattle.meaning.specs.Records.{ruleRecord, rangeRecord, outputRecord, Term, termRecord, defaultRecord, Joined, rangeRecords, terms, OutputRecords, RuleRecords, DefaultRecords, Records}
 use Rattle.meaning.proofs.Laws.Reading.{top}

@@ -1,6 +1,6 @@
 -- What is read is described: bytes that the reader accepts as a table are its records, and it is well formed.
 -- Each record that is taken in keeps that of the bytes and the groups read so far.
-use mathlib.Core.Bool.{Bool, true, false, _&&_, _||_, not, cond}
+use mathlib.Core.Bool.{Bool, true, false, _&&_, _||_, not}
 use mathlib.Core.List.{List, [], _∷_, _++_, append-nil, append-assoc}
 use mathlib.Core.Option.{Option, none, some}
 use mathlib.Core.Logic.{_≢_}
@@ -8,20 +8,20 @@ use mathlib.Core.Path.{_≡_, refl, sym, ap, subst, _∙_}
 use Prim.Native.Nat.{ℕ, zero, suc, _+_, _*_, _-_, _/_, _%_, _≤_, _<_}
 use native.Mathlib.Nat.{mul-suc, div-add-mod}
 use native.Mathlib.Omega.{arith}
-use lib.Dec.{T, T-not, eqb, leb, ltb, leb→le, nleb→lt, nltb→le, eqb→eq}
-use lib.IntN.{ℤ, pos, negsuc}
+use lib.Dec.{T, eqb, leb, ltb, nleb→lt, nltb→le, eqb→eq}
+use lib.IntN.{pos}
 use lib.ListN.{length, take, drop, replicate, length-append, length-replicate, length-take, length-drop, take-append-drop}
 use Rattle.lists.specs.Lists.{Each, atLast, lastD, isSome, optional}
-use Rattle.lists.proofs.Laws.Tests.{of-T, not-not, or-none, or-cases, of-cond, by-cases, eq→eqb, neqb→ne}
+use Rattle.lists.proofs.Laws.Tests.{not-not, or-none, or-cases, of-cond, by-cases, eq→eqb, neqb→ne}
 use Rattle.lists.proofs.Laws.Each.{each-append, each-front, each-back, each-weaken, each-both}
 use Rattle.meaning.specs.Refusal.{Outcome, refused, accepted}
 use Rattle.meaning.specs.Table.{Range, Output, sum, Group, Table, everyCharacter, groups}
 use Rattle.meaning.specs.Record.{Record, rule, range, output, term, default, decode}
-use Rattle.meaning.specs.Reader.{signed, Reading, unread, latest, reach, latestReach, ranging, unfilled, misplaced, skipping, tooMany, changeLatest, addRange, addTerm, changeRanges, changeOutputs, taken, readOne, readRecords, readEnd, readRules}
-use Rattle.meaning.specs.WellFormed.{WellFormedRange, Rising, WellFormedPosition, Signed, WellFormedSum, WellFormedOutput, WellFormedRule, WellFormedDefault, WellFormed}
-use Rattle.meaning.specs.Records.{Bytes, outputRecord, Joined, OutputRecords, RuleRecords, DefaultRecords, Records}
-use Rattle.meaning.proofs.Laws.Refusal.{by-then, accepted-not, accepted-same}
-use Rattle.meaning.proofs.Laws.Shape.{ShapedGroup, ShapedDefault, Shaped}
+use Rattle.meaning.specs.Reader.{signed, Reading, unread, latest, reach, latestReach, ranging, misplaced, skipping, tooMany, changeLatest, addRange, addTerm, changeRanges, changeOutputs, taken, readOne, readRecords, readEnd, readRules}
+use Rattle.meaning.specs.WellFormed.{WellFormedRange, Rising, WellFormedPosition, Signed, WellFormedOutput, WellFormedRule, WellFormedDefault, WellFormed}
+use Rattle.meaning.specs.Records.{Bytes, outputRecord, Joined, OutputRecords, Records}
+use Rattle.meaning.proofs.Laws.Refusal.{by-then}
+use Rattle.meaning.proofs.Laws.Shape.{ShapedGroup, ShapedDefault}
 use Rattle.meaning.proofs.Laws.Reading.{atLast-length, last-each, top, read-shaped}
 use Rattle.meaning.proofs.Laws.Decoding.{FittingRecord, decode-fits}
 use Rattle.meaning.proofs.Laws.Encoding.{signed-fits, signed-named, half-16, half-32, bytesOf, encode-decode}

@@ -1,19 +1,19 @@
 -- The bytes of a record hold what is read from them, and what eight bytes are read to has those bytes.
 -- Numbers by dividing by 256 and by the two cases of a sign; records by the tests of their kind.
 use mathlib.Core.Bool.{Bool, true, false, cond}
-use mathlib.Core.List.{List, [], _∷_, _++_}
-use mathlib.Core.Option.{Option, none, some}
+use mathlib.Core.List.{List, [], _∷_}
+use mathlib.Core.Option.{none, some}
 use mathlib.Core.Logic.{_≢_}
 use mathlib.Core.Path.{_≡_, refl, sym, ap, subst, _∙_}
 use Prim.Native.Nat.{ℕ, zero, suc, _+_, _*_, _-_, _/_, _%_, _^_, _≤_, _<_}
 use native.Mathlib.Decide.{ℕ-discrete}
 use native.Mathlib.Nat.{mod-eq-of-lt, div-eq-of-lt, add-mul-div-left, add-mul-mod-self-left}
 use native.Mathlib.Omega.{arith}
-use lib.Dec.{T, eqb, leb, ltb, leb→le, le→leb, ltb→lt, nltb→le, eqb→eq, lit<}
+use lib.Dec.{T, eqb, ltb, leb→le, le→leb, ltb→lt, nltb→le, eqb→eq, lit<}
 use lib.IntN.{ℤ, pos, negsuc, subℕ}
 use lib.ListN.{length}
 use Rattle.lists.specs.Lists.{Each}
-use Rattle.lists.specs.Decide.{allOf, select}
+use Rattle.lists.specs.Decide.{allOf}
 use Rattle.lists.proofs.Laws.Tests.{of-cond, of-T, holds, to-allOf, by-cases, neqb→ne}
 use Rattle.lists.proofs.Laws.Each.{all-each}
 use Rattle.meaning.specs.Table.{Range}

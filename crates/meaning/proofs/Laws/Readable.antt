@@ -6,21 +6,20 @@ use mathlib.Core.Option.{Option, none, some}
 use mathlib.Core.Logic.{_≢_}
 use mathlib.Core.Path.{_≡_, refl, sym, ap, subst, _∙_}
 use Prim.Native.Nat.{ℕ, zero, suc, _+_, _*_, _-_, _/_, _%_, _≤_, _<_}
-use native.Mathlib.Nat.{add-zero, add-suc, mul-suc, mul-div-right, mul-mod-right}
+use native.Mathlib.Nat.{mul-suc, mul-div-right, mul-mod-right}
 use native.Mathlib.Omega.{arith}
 use lib.Dec.{T, T-not, not-T, eqb, leb, ltb, leb→le, ltb→lt, eqb→eq, eqb-refl, lit<}
 use lib.IntN.{ℤ, pos, negsuc}
-use lib.ListN.{length, take, drop, replicate, length-append, length-replicate}
+use lib.ListN.{length, replicate, length-append, length-replicate}
 use lib.Seq.{append-snoc, take-at, drop-at}
-use Rattle.lists.specs.Lists.{Each, flatMap, atLast, lastD, isSome, optional}
-use Rattle.lists.proofs.Laws.Tests.{of-T, of-not, and-left, and-right, or-cases, by-cases, eq→eqb, ne→neqb, of-cond}
-use Rattle.lists.proofs.Laws.Each.{each-append}
-use Rattle.meaning.specs.Refusal.{Outcome, refused, accepted, andThen}
+use Rattle.lists.specs.Lists.{Each, flatMap, atLast, lastD, optional}
+use Rattle.lists.proofs.Laws.Tests.{of-T, of-not, or-cases, by-cases, eq→eqb, ne→neqb}
+use Rattle.meaning.specs.Refusal.{accepted, andThen}
 use Rattle.meaning.specs.Table.{Range, Output, sum, Group, Table, everyCharacter}
 use Rattle.meaning.specs.Record.{Record, rule, range, output, term, default, decode}
-use Rattle.meaning.specs.Reader.{signed, Reading, unread, latest, reach, latestReach, ranging, unfilled, misplaced, skipping, tooMany, changeLatest, addRange, addTerm, changeRanges, changeOutputs, taken, readOne, readRecords, readEnd, readRules}
+use Rattle.meaning.specs.Reader.{signed, Reading, unread, latest, latestReach, unfilled, misplaced, skipping, tooMany, changeLatest, addRange, addTerm, changeRanges, changeOutputs, taken, readOne, readRecords, readEnd, readRules}
 use Rattle.meaning.specs.WellFormed.{WellFormedRange, Rising, WellFormedPosition, Signed, WellFormedOutput, WellFormedRule, WellFormedDefault, WellFormed}
-use Rattle.meaning.specs.Records.{littleEndian, twosComplement, ruleRecord, rangeRecord, outputRecord, Term, termRecord, defaultRecord, Joined, rangeRecords, terms, OutputRecords, RuleRecords, DefaultRecords, Records}
+use Rattle.meaning.specs.Records.{littleEndian, twosComplement, ruleRecord, rangeRecord, outputRecord, termRecord, defaultRecord, Joined, rangeRecords, terms, OutputRecords, RuleRecords, DefaultRecords, Records}
 use Rattle.meaning.proofs.Laws.Encoding.{signed-of-bits, half-16, half-32, read-rule, read-range, read-output, read-term, read-default}
 use Rattle.meaning.proofs.Laws.Appended.{lastD-snoc, term-one}
 
