@@ -21,7 +21,7 @@ use Rattle.meaning.specs.Reader.{signed, Reading, unread, latest, reach,
 use Rattle.meaning.specs.WellFormed.{WellFormedRange, Rising, WellFormedPosition, Signed, WellFormedOutput, WellFormedRule, WellFormedDefault, WellFormed}
 use Rattle.meaning.specs.Records.{Bytes, outputRecord, Joined, OutputRecords, Records}
 use Rattle.meaning.proofs.Laws.Refusal.{by-then}
-use Rattle.meaning.proofs.Laws.Shape.{ShapedGroup, ShapedDefault}
+use Rattle.meaning.proofs.Laws.Shape.{ShapedGroup, ShapedDefault, Shaped}
 use Rattle.meaning.proofs.Laws.Reading.{atLast-length, last-each, top, read-shaped}
 use Rattle.meaning.proofs.Laws.Decoding.{FittingRecord, decode-fits}
 use Rattle.meaning.proofs.Laws.Encoding.{signed-fits, signed-named, half-16, half-32, bytesOf, encode-decode}
@@ -352,4 +352,31 @@ read-well-formed b t y e =
       rules = each-weaken (λ g. ShapedGroup g × Formed g) WellFormedRule (t .rules) rule-formed (each-both ShapedGroup Formed (t .rules) (s .rules) (f .0));
       default = each-weaken (λ g. ShapedDefault g × Formed g) WellFormedDefault (optional (t .default)) default-formed
           (each-both ShapedDefault Formed (optional (t .default)) (s .default) (f .1));
+    }
+
+-- a well formed table has the shape that the laws above ask for
+
+outputs-reach : (k : ℕ) (os : List Output) → Each (WellFormedOutput k) os → Each (λ o. reach o ≤ k) os
+outputs-reach k os w = each-weaken (WellFormedOutput k) (λ o. reach o ≤ k) os below w
+  where
+    below : (o : Output) → WellFormedOutput k o → reach o ≤ k
+    below (sum c ks) v = v .below
+
+pub well-formed-shaped : (t : Table) → WellFormed t → Shaped t
+well-formed-shaped t w =
+    record {
+      some-rule = w .some-rule;
+      few-rules = w .few-rules;
+      rules = each-weaken WellFormedRule ShapedGroup (t .rules)
+          (λ g v. record { positive = v .long; small = v .short; places = v .places; outputs = v .few-outputs; reaches = outputs-reach (g .size) (g .outputs) (v .outputs) })
+          (w .rules);
+      default = each-weaken WellFormedDefault ShapedDefault (optional (t .default))
+          (λ g v. record {
+            size = ap (λ h. h .size) (v .acts);
+            anchored = ap (λ h. h .anchored) (v .acts);
+            ranges = ap (λ h. h .ranges) (v .acts);
+            outputs = v .few-outputs;
+            reaches = outputs-reach 1 (g .outputs) (v .outputs);
+          })
+          (w .default);
     }
