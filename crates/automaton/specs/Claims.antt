@@ -7,9 +7,9 @@ use lib.ListN.{length, drop}
 use Rattle.lists.specs.Lists.{pad}
 use Rattle.meaning.specs.Refusal.{refused, accepted, RefusedBy}
 use Rattle.meaning.specs.Table.{Table}
-use Rattle.meaning.specs.WellFormed.{WellFormed}
-use Rattle.meaning.specs.Records.{Bytes, Records}
-use Rattle.meaning.specs.Claims.{Keeps, Leaves}
+use Rattle.meaning.specs.Reader.{readTable}
+use Rattle.meaning.specs.Records.{Bytes}
+use Rattle.meaning.specs.Claims.{Keeps}
 use Rattle.automaton.specs.Classes.{starts}
 use Rattle.automaton.specs.States.{states}
 use Rattle.automaton.specs.Layout.{wordCount, words}
@@ -36,10 +36,9 @@ pub record CompileAccepts (b buffer : List ℕ) : Type 0 where
       (compile b buffer .answer ≡ accepted tt) × (compile b buffer .words ≡ words t ++ drop wordCount buffer)
   pub accepting : Bytes b → compile b buffer .answer ≡ accepted tt → (t : Table) × KeepsCompiling b t × (wordCount ≤ length buffer)
 
--- what each refusal says of the table and the buffer
+-- 1 to 7 are the table check's; 8 to 10 speak of classes, states and room
 pub record CompileRefuses (b buffer : List ℕ) : Type 0 where
-  pub records : (n : ℕ) → compile b buffer .answer ≡ refused n → n ≤ 6 → (t : Table) → Records b t → WellFormed t → ⊥
-  pub values : Bytes b → compile b buffer .answer ≡ refused 7 → (t : Table) × Leaves b t
+  pub table : (n : ℕ) → compile b buffer .answer ≡ refused n → n ≤ 7 → readTable b ≡ refused n
   pub classes : Bytes b → compile b buffer .answer ≡ refused 8 → (t : Table) × Keeps b t × (64 < length (starts t))
   pub states : Bytes b → compile b buffer .answer ≡ refused 9 → (t : Table) × Keeps b t × (length (starts t) ≤ 64) × (256 < length (states t))
   pub room : compile b buffer .answer ≡ refused 10 → length buffer < wordCount

@@ -15,6 +15,7 @@ pub mod Encoding
 pub mod Appended
 pub mod Described
 pub mod Readable
+pub mod Numbered
 pub mod Choosing
 pub mod Writing
 pub mod Extremes

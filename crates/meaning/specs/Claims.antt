@@ -1,14 +1,15 @@
 -- Demands 1 and 2 for the table check and for direct conversion, one field a sentence.
 use mathlib.Core.List.{List, [], _∷_}
+use mathlib.Core.Logic.{_≢_, _↔_}
 use mathlib.Core.Path.{_≡_}
-use Prim.Native.Nat.{ℕ, _*_, _≤_, _<_}
-use lib.ListN.{length, take, drop}
+use Prim.Native.Nat.{ℕ, _*_, _%_, _≤_, _<_}
+use lib.ListN.{length, getD, take, drop}
 use Rattle.meaning.specs.Refusal.{refused, accepted, RefusedBy}
 use Rattle.meaning.specs.Table.{Table, expansion}
 use Rattle.meaning.specs.Value.{SafeTable}
 use Rattle.meaning.specs.Reader.{readTable}
 use Rattle.meaning.specs.WellFormed.{WellFormed}
-use Rattle.meaning.specs.Records.{Bytes, Records}
+use Rattle.meaning.specs.Records.{Bytes, Records, Known, recordAt}
 use Rattle.meaning.specs.Meaning.{convert, meaningText, meaningPlace}
 use Rattle.meaning.specs.Direct.{limit, Converted, direct}
 
@@ -32,9 +33,17 @@ pub record CheckAccepts (b : List ℕ) : Type 0 where
   -- and bytes are the records of one table only
   pub one-table : (t u : Table) → Keeps b t → Keeps b u → t ≡ u
 
--- Refused by 1 to 6, the bytes are the records of no table as document 01 asks it; by 7, those of one with a value that may leave 0 to 65535.
+-- what each refusal of the table's author says
 pub record CheckRefuses (b : List ℕ) : Type 0 where
+  -- 1 to 6: the bytes are the records of no table that is as document 01 asks
   pub records : (n : ℕ) → readTable b ≡ refused n → n ≤ 6 → (t : Table) → Records b t → WellFormed t → ⊥
+  -- 1: "length no multiple of 8"
+  pub whole : (readTable b ≡ refused 1) ↔ (length b % 8 ≢ 0)
+  -- 2: a record is of no kind
+  pub unknown : readTable b ≡ refused 2 → (i : ℕ) × (8 * i < length b) × (Known (recordAt b i) → ⊥)
+  -- 5: "no rule"
+  pub no-rule : Bytes b → readTable b ≡ refused 5 → (i : ℕ) → 8 * i < length b → getD (recordAt b i) 0 0 ≢ 1
+  -- 7: the bytes are those of one with an output value that may leave 0 to 65535
   pub values : Bytes b → readTable b ≡ refused 7 → (t : Table) × Leaves b t
 
 -- Demand 1: "an accepted answer or one of the numbered refusals of document 01 ..., and the refusal has the effect on every buffer that the
@@ -62,9 +71,8 @@ pub record DirectAccepts (b input buffer : List ℕ) : Type 0 where
   pub keeping : (t : Table) → Keeps b t → Lengths t input buffer → Converts t b input buffer
   pub accepting : Bytes b → (a : Converted) → direct b input buffer .answer ≡ accepted a → (t : Table) × Keeps b t × Lengths t input buffer
 
--- what each refusal says of the table, the input and the buffer
+-- 1 to 7 are the table check's; 14 and 15 speak of the lengths
 pub record DirectRefuses (b input buffer : List ℕ) : Type 0 where
-  pub records : (n : ℕ) → direct b input buffer .answer ≡ refused n → n ≤ 6 → (t : Table) → Records b t → WellFormed t → ⊥
-  pub values : Bytes b → direct b input buffer .answer ≡ refused 7 → (t : Table) × Leaves b t
+  pub table : (n : ℕ) → direct b input buffer .answer ≡ refused n → n ≤ 7 → readTable b ≡ refused n
   pub long : direct b input buffer .answer ≡ refused 14 → limit < length input
   pub room : Bytes b → direct b input buffer .answer ≡ refused 15 → (t : Table) × Keeps b t × (length buffer < expansion t * length input)

@@ -1,11 +1,14 @@
 -- "Table records": when bytes are the records of a table, kind by kind and in their order.
 use mathlib.Core.Bool.{Bool, cond}
 use mathlib.Core.List.{List, [], _∷_, _++_}
+use mathlib.Core.Logic.{_≢_}
 use mathlib.Core.Path.{_≡_}
-use Prim.Native.Nat.{ℕ, zero, suc, _-_, _/_, _%_, _^_, _<_}
+use Prim.Native.Nat.{ℕ, zero, suc, _-_, _/_, _%_, _^_, _*_, _≤_, _<_}
 use lib.IntN.{ℤ, pos, negsuc}
+use lib.ListN.{take, drop}
 use Rattle.lists.specs.Lists.{Each, flatMap, optional}
 use Rattle.meaning.specs.Table.{Range, Output, sum, Group, Table}
+use Rattle.meaning.specs.WellFormed.{WellFormedRange, Signed}
 
 -- a table is lent as bytes
 abbrev pub Bytes : List ℕ → Type 0
@@ -92,3 +95,16 @@ pub record Records (b : List ℕ) (t : Table) : Type 0 where
   pub rules : Joined RuleRecords (t .rules) first
   pub default : Joined DefaultRecords (optional (t .default)) last
   pub bytes : b ≡ first ++ last
+
+-- Eight bytes that are a record of one of the kinds, each field within its own range: 2 refuses others, "unknown kind, a field outside its own
+-- range, a byte that must be zero and isn't, lowest above highest".
+pub data Known : List ℕ → Type 0 where
+  rule : (k : ℕ) (anchored : Bool) → 1 ≤ k → k ≤ 8 → Known (ruleRecord k anchored)
+  range : (p : ℕ) (r : Range) → p ≤ 7 → WellFormedRange r → Known (rangeRecord p r)
+  output : (c : ℤ) → Signed 32 c → Known (outputRecord c)
+  term : (x : Term) → x .position ≤ 7 → Signed 16 (x .coefficient) → x .coefficient ≢ pos 0 → Known (termRecord x)
+  default : Known defaultRecord
+
+-- record number i
+abbrev pub recordAt : List ℕ → ℕ → List ℕ
+recordAt b i = take 8 (drop (8 * i) b)

@@ -16,7 +16,7 @@ use Rattle.meaning.specs.Table.{Table}
 use Rattle.meaning.specs.Reader.{readTable}
 use Rattle.meaning.specs.Records.{Bytes}
 use Rattle.meaning.proofs.Laws.Refusal.{by-then, accepted-not, refused-same}
-use Rattle.meaning.proofs.Laws.Direct.{tableRefusals, table-refused, keeps-read, read-keeps, check-refuses}
+use Rattle.meaning.proofs.Laws.Direct.{tableRefusals, table-refused, keeps-read, read-keeps}
 use Rattle.automaton.specs.Classes.{starts}
 use Rattle.automaton.specs.States.{states}
 use Rattle.automaton.specs.Layout.{wordCount, words}
@@ -161,8 +161,7 @@ module _ (b buffer : List ℕ) where
       let reason : (k : ℕ) → compile b buffer .answer ≡ refused k → Why b (length buffer) k =
           λ k. why (compilable b (length buffer)) k (compilable-says b (length buffer)) in
       record {
-        records = λ n e l. check-refuses b .records n (reason n e .table (omega arith)) l;
-        values = λ y e. check-refuses b .values y (reason 7 e .table (omega arith));
+        table = λ n e. reason n e .table;
         classes = λ y e. let u = reason 8 e .classes refl in (u .0, read-keeps b (u .0) y (u .1), u .2);
         states = λ y e. let u = reason 9 e .states refl in (u .0, read-keeps b (u .0) y (u .1), u .2, u .3);
         room = λ e. reason 10 e .no-room refl;

@@ -17,14 +17,14 @@ use Rattle.meaning.specs.Value.{SafeTable, safe}
 use Rattle.meaning.specs.Reader.{readRules, readTable}
 use Rattle.meaning.specs.Meaning.{meaningText}
 use Rattle.meaning.specs.Direct.{limit, Converted, admitted, directBy, direct, over}
-use Rattle.meaning.specs.WellFormed.{WellFormed}
-use Rattle.meaning.specs.Records.{Bytes, Records}
-use Rattle.meaning.specs.Claims.{Keeps, Leaves, CheckAccepts, CheckRefuses, DirectAnswers, Lengths, DirectAccepts, DirectRefuses}
+use Rattle.meaning.specs.Records.{Bytes}
+use Rattle.meaning.specs.Claims.{Keeps, CheckAccepts, CheckRefuses, DirectAnswers, Lengths, DirectAccepts, DirectRefuses}
 use Rattle.meaning.proofs.Laws.Refusal.{by-then, accepted-not, accepted-same, refused-same}
 use Rattle.meaning.proofs.Laws.Seven.{safe-table, table-safe}
 use Rattle.meaning.proofs.Laws.Reading.{recordRefusals, read-filled, read-refused}
 use Rattle.meaning.proofs.Laws.Described.{read-records, read-well-formed}
 use Rattle.meaning.proofs.Laws.Readable.{described-read}
+use Rattle.meaning.proofs.Laws.Numbered.{rules-length, rules-unknown, rules-no-rule}
 use Rattle.meaning.proofs.Laws.Length.{text-short}
 
 -- the table check
@@ -85,16 +85,25 @@ check-accepts b =
 pub table-refused : (b : List ℕ) (n : ℕ) → readTable b ≡ refused n → T (any (eqb n) tableRefusals)
 table-refused b n e = subst (Checked b) e (checked b) .0
 
-refused-records : (b : List ℕ) (n : ℕ) → readTable b ≡ refused n → n ≤ 6 → (t : Table) → Records b t → WellFormed t → ⊥
-refused-records b n e l t r w = accepted-not t n (sym (described-read b t r w) ∙ subst (Checked b) e (checked b) .2 l)
+-- 1 to 6 are the reader's
+rules-refused : (b : List ℕ) (n : ℕ) → readTable b ≡ refused n → n ≤ 6 → readRules b ≡ refused n
+rules-refused b n e l = subst (Checked b) e (checked b) .2 l
 
-refused-values : (b : List ℕ) → Bytes b → readTable b ≡ refused 7 → (t : Table) × Leaves b t
-refused-values b y e =
-    let u = subst (Checked b) e (checked b) .1 refl in
-    (u .0, record { records = read-records b (u .0) y (u .1); well-formed = read-well-formed b (u .0) y (u .1); unsafe = u .2 })
+refused-first : (b : List ℕ) (n : ℕ) → readRules b ≡ refused n → readTable b ≡ refused n
+unfolding readTable andThen
+refused-first b n e = rw e refl
 
 pub check-refuses : (b : List ℕ) → CheckRefuses b
-check-refuses b = record { records = refused-records b; values = refused-values b }
+check-refuses b =
+    record {
+      records = λ n e l t r w. accepted-not t n (sym (described-read b t r w) ∙ rules-refused b n e l);
+      whole = (λ e. rules-length b .0 (rules-refused b 1 e (omega arith)), λ d. refused-first b 1 (rules-length b .1 d));
+      unknown = λ e. rules-unknown b (rules-refused b 2 e (omega arith));
+      no-rule = λ y e. rules-no-rule b y (rules-refused b 5 e (omega arith));
+      values = λ y e.
+          let u = subst (Checked b) e (checked b) .1 refl in
+          (u .0, record { records = read-records b (u .0) y (u .1); well-formed = read-well-formed b (u .0) y (u .1); unsafe = u .2 });
+    }
 
 -- admission
 
@@ -210,8 +219,7 @@ module _ (b input buffer : List ℕ) where
       let reason : (k : ℕ) → direct b input buffer .answer ≡ refused k → Why b (length input) (length buffer) k =
           λ k. why (admitted b (length input) (length buffer)) k (admission b (length input) (length buffer)) in
       record {
-        records = λ n e l. refused-records b n (reason n e .table (omega arith)) l;
-        values = λ y e. refused-values b y (reason 7 e .table (omega arith));
+        table = λ n e. reason n e .table;
         long = λ e. reason 14 e .long refl;
         room = λ y e. let u = reason 15 e .no-room refl in (u .0, read-keeps b (u .0) y (u .1), u .2);
       }

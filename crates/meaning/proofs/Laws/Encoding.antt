@@ -110,7 +110,7 @@ bytesOf (output c) = outputRecord (signed 32 c)
 bytesOf (term p a) = termRecord (record { position = p; coefficient = signed 16 a })
 bytesOf default = defaultRecord
 
-no-record : {x : Record} → none ≡ some x → ⊥
+pub no-record : {x : Record} → none ≡ some x → ⊥
 no-record e = let z : _≡_ {A = ℕ} 0 1 = cc in omega arith
 
 only-some : (tests : List Bool) (x y : Record) → onlyIf tests x ≡ some y → Each T tests × (x ≡ y)
