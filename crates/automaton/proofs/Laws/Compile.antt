@@ -159,7 +159,7 @@ module _ (b buffer : List ℕ) where
   unfolding compile
   compile-refuses =
       let reason : (k : ℕ) → compile b buffer .answer ≡ refused k → Why b (length buffer) k =
-          λ k. why (compilable b (length buffer)) k (compilable-says b (length buffer)) in
+      λ k. why (compilable b (length buffer)) k (compilable-says b (length buffer)) in
       record {
         table = λ n e. reason n e .table;
         classes = λ y e. let u = reason 8 e .classes refl in (u .0, read-keeps b (u .0) y (u .1), u .2);

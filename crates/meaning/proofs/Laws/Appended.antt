@@ -27,9 +27,13 @@ joined-snoc R (y ∷ ys) x b c j r =
 pub joined-last : {A : Type 0} (R : A → List ℕ → Type 0) (f : A → A) (e : List ℕ) (d : A) (xs : List A) (b : List ℕ) → 1 ≤ length xs →
     ((c : List ℕ) → R (lastD d xs) c → R (f (lastD d xs)) (c ++ e)) → Joined R xs b → Joined R (atLast f xs) (b ++ e)
 joined-last R f e d [] b n h j = absurd (omega arith)
-joined-last R f e d (x ∷ []) b n h j =
-    (j .0 ++ e, [], h (j .0) (j .2), refl,
-      ap (λ l. l ++ e) (j .4 ∙ ap (λ l. j .0 ++ l) (j .3) ∙ append-nil (j .0)) ∙ sym (append-nil (j .0 ++ e)))
+joined-last R f e d (x ∷ []) b n h j = (
+  j .0 ++ e,
+  [],
+  h (j .0) (j .2),
+  refl,
+  ap (λ l. l ++ e) (j .4 ∙ ap (λ l. j .0 ++ l) (j .3) ∙ append-nil (j .0)) ∙ sym (append-nil (j .0 ++ e)),
+)
 joined-last R f e d (x ∷ (y ∷ ys)) b n h j =
     (j .0, j .1 ++ e, j .2, joined-last R f e x (y ∷ ys) (j .1) (omega arith) h (j .3), ap (λ l. l ++ e) (j .4) ∙ append-assoc (j .0) (j .1) e)
 
@@ -110,12 +114,13 @@ terms-more p a ks d h =
 pub term-written : (p : ℕ) (a : ℤ) (o : Output) → a ≢ pos 0 → reach o ≤ p → (b : List ℕ) → OutputRecords o b →
     OutputRecords (addTerm p a o) (b ++ termRecord (record { position = p; coefficient = a }))
 term-written p a (sum c ks) d h b w =
-    let x : Term = record { position = p; coefficient = a } in
-    (w .0 ++ (x ∷ []),
+    let x : Term = record { position = p; coefficient = a } in (
+      w .0 ++ (x ∷ []),
       ap (λ l. l ++ (x ∷ [])) (w .1) ∙ sym (terms-more p a ks d h),
       ap (λ l. l ++ termRecord x) (w .2)
-      ∙ append-assoc (outputRecord c) (flatMap termRecord (w .0)) (termRecord x)
-      ∙ ap (λ l. outputRecord c ++ l) (sym (flatMap-snoc termRecord (w .0) x)))
+          ∙ append-assoc (outputRecord c) (flatMap termRecord (w .0)) (termRecord x)
+          ∙ ap (λ l. outputRecord c ++ l) (sym (flatMap-snoc termRecord (w .0) x)),
+    )
 
 -- groups
 
@@ -147,11 +152,11 @@ rule-ranges p r g o h k b w =
     let first = ruleRecord (g .size) (g .anchored) in
     let here = rangeRecords 0 (g .ranges) in
     let bytes : b ++ rangeRecord p r ≡ first ++ rangeRecords 0 (addRange p r (g .ranges)) ++ w .written =
-        ap (λ l. l ++ rangeRecord p r) (w .bytes ∙ ap (λ l. first ++ here ++ l) none ∙ append-nil (first ++ here))
-        ∙ append-assoc first here (rangeRecord p r)
-        ∙ ap (λ l. first ++ l) (sym (range-written p r (g .ranges) h k))
-        ∙ sym (append-nil (first ++ rangeRecords 0 (addRange p r (g .ranges))))
-        ∙ ap (λ l. first ++ rangeRecords 0 (addRange p r (g .ranges)) ++ l) (sym none) in
+    ap (λ l. l ++ rangeRecord p r) (w .bytes ∙ ap (λ l. first ++ here ++ l) none ∙ append-nil (first ++ here))
+    ∙ append-assoc first here (rangeRecord p r)
+    ∙ ap (λ l. first ++ l) (sym (range-written p r (g .ranges) h k))
+    ∙ sym (append-nil (first ++ rangeRecords 0 (addRange p r (g .ranges))))
+    ∙ ap (λ l. first ++ rangeRecords 0 (addRange p r (g .ranges)) ++ l) (sym none) in
     record { written = w .written; outputs = w .outputs; bytes = bytes }
 
 -- the table: its last group changed, a rule more, a default

@@ -74,7 +74,7 @@ term-formed k p a (sum c ks) h l m w =
       constant = w .constant;
       coefficients =
           each-append (Signed 16) (ks ++ gap) (z ∷ []) (each-append (Signed 16) ks gap (w .coefficients) (each-zero (p - length ks)))
-              (signed-fits 16 half-16 a (h .2), tt);
+          (signed-fits 16 half-16 a (h .2), tt);
       below = rw (length-append, length-append, length-replicate) (omega arith);
       last-named = rw (lastD-snoc (pos 1) (ks ++ gap) z) (signed-named 16 half-16 a (h .2) (h .1));
     }
@@ -168,15 +168,15 @@ taken-described s (range p r) f m n o b w =
     let here : WellFormedRange r = record { ordered = f .1; character = f .2 } in
     let last = lastD [] ps in
     let above : p ≢ length ps → (lastD r last .highest < r .lowest) × (length last ≢ 4) =
-        λ e.
-        let same : T (eqb (suc p) (length ps)) = eq→eqb (suc p) (length ps) (omega arith) in
-        (nleb→lt (r .lowest) (lastD r last .highest) (and-fails (eqb (suc p) (length ps)) _ (u4 .1) same), neqb→ne (length last) 4 (and-fails (eqb (suc p) (length ps)) _ o same)) in
+    λ e.
+    let same : T (eqb (suc p) (length ps)) = eq→eqb (suc p) (length ps) (omega arith) in
+    (nleb→lt (r .lowest) (lastD r last .highest) (and-fails (eqb (suc p) (length ps)) _ (u4 .1) same), neqb→ne (length last) 4 (and-fails (eqb (suc p) (length ps)) _ o same)) in
     record {
       records =
           table-latest change (bytesOf (range p r)) rs d some-group
-              (rule-ranges p r g (bare .0) l2 l1)
-              (λ t. absurd (subst (λ o. T (isSome o)) (bare .1) t))
-              b (w .records);
+          (rule-ranges p r g (bare .0) l2 l1)
+          (λ t. absurd (subst (λ o. T (isSome o)) (bare .1) t))
+          b (w .records);
       formed = formed-latest change rs d (λ v. record { positions = positions-more p r ps here above (v .positions); outputs = v .outputs }) (w .formed);
       begun = λ _. some-latest change rs d some-group;
       bare = λ _. (ap (λ h. h .outputs) (top-changed change rs d some-group) ∙ bare .0, none-latest change rs d (bare .1));
@@ -192,7 +192,7 @@ taken-described s (output c) f m n o b w =
     let change = changeOutputs more in
     let some-group = w .begun (neqb→ne (s .kind) 0 m) in
     let listed : (v : List ℕ) → Joined OutputRecords (g .outputs) v → Joined OutputRecords (more (g .outputs)) (v ++ e) =
-        λ v j. joined-snoc OutputRecords (g .outputs) x v e j ([], refl, sym (append-nil e)) in
+    λ v j. joined-snoc OutputRecords (g .outputs) x v e j ([], refl, sym (append-nil e)) in
     record {
       records = table-latest change e rs d some-group (rule-outputs more e g listed) (λ _. default-outputs more e g listed) b (w .records);
       formed = formed-latest change rs d
@@ -219,7 +219,7 @@ taken-described s (term p a) f m n o b w =
     let some-group = w .begun (writing-begun s going) in
     let some-output : 1 ≤ length (g .outputs) = w .writing going in
     let listed : (v : List ℕ) → Joined OutputRecords (g .outputs) v → Joined OutputRecords (more (g .outputs)) (v ++ e) =
-        λ v. joined-last OutputRecords (addTerm p z) e (sum (pos 0) []) (g .outputs) v some-output (term-written p z last (signed-named 16 half-16 a (f .2) (f .1)) rising) in
+    λ v. joined-last OutputRecords (addTerm p z) e (sum (pos 0) []) (g .outputs) v some-output (term-written p z last (signed-named 16 half-16 a (f .2) (f .1)) rising) in
     record {
       records = table-latest change e rs d some-group (rule-outputs more e g listed) (λ _. default-outputs more e g listed) b (w .records);
       formed = formed-latest change rs d

@@ -217,7 +217,7 @@ module _ (b input buffer : List ℕ) where
   unfolding direct
   direct-refuses =
       let reason : (k : ℕ) → direct b input buffer .answer ≡ refused k → Why b (length input) (length buffer) k =
-          λ k. why (admitted b (length input) (length buffer)) k (admission b (length input) (length buffer)) in
+      λ k. why (admitted b (length input) (length buffer)) k (admission b (length input) (length buffer)) in
       record {
         table = λ n e. reason n e .table;
         long = λ e. reason 14 e .long refl;

@@ -60,21 +60,22 @@ one : (s s′ : Reading) (c : List ℕ) (x : Record) → length c ≡ 8 → deco
 unfolding readOne
 one s s′ c x l e m n o t =
     let a : readOne s (decode c) ≡ accepted s′ =
-        ap (readOne s) e
-        ∙ by-cases (λ r. r ≡ accepted s′) _ (accepted (taken s x)) (
-          λ u. absurd (T-not (misplaced s x) m u),
-          λ _. (λ u. absurd (T-not (skipping s x) n u), λ _. (λ u. absurd (T-not (tooMany s x) o u), λ _. ap accepted t)),
-        ) in
+    ap (readOne s) e
+    ∙ by-cases (λ r. r ≡ accepted s′) _ (accepted (taken s x)) (
+      λ u. absurd (T-not (misplaced s x) m u),
+      λ _. (λ u. absurd (T-not (skipping s x) n u), λ _. (λ u. absurd (T-not (tooMany s x) o u), λ _. ap accepted t)),
+    ) in
     subst (λ b. Reads s b s′) (append-nil c) (next c l a stay)
 
 counted : {s s′ : Reading} {b : List ℕ} → Reads s b s′ → (n : ℕ) × (length b ≡ 8 * n) × (readRecords n b s ≡ accepted s′)
 unfolding readRecords andThen
 counted stay = (0, refl, refl)
 counted (next c {d = d} l e r) =
-    let k = counted r in
-    (suc (k .0),
+    let k = counted r in (
+      suc (k .0),
       length-append c d ∙ omega (arith, k .1, mul-suc 8 (k .0)),
-      rw (take-at c d 8 l, drop-at c d 8 l, e) (k .2))
+      rw (take-at c d 8 l, drop-at c d 8 l, e) (k .2),
+    )
 
 -- a reading whose last group is g: the default, or a rule
 
@@ -158,9 +159,9 @@ module _ (d : Bool) (gs : List Group) (k : ℕ) (small : k ≤ 8) (anchored : Bo
       let many : length (qs ++ (r ∷ rs)) ≡ length qs + suc (length rs) = length-append qs (r ∷ rs) in
       let join : qs ++ (r ∷ []) ++ rs ≡ qs ++ (r ∷ rs) = append-snoc qs r rs in
       let here : Reads (at d gs (ranged (ps ++ (qs ∷ []))) 2) (rangeRecord p r) (at d gs (ranged (ps ++ ((qs ++ (r ∷ [])) ∷ []))) 2) =
-          moved refl (ap (λ q. at d gs (ranged q) 2) (add-beside r ps qs))
-          (range-read d gs (ranged (ps ++ (qs ∷ []))) 2 p r tt small l (omega arith) (omega arith)
-          (λ _. rw last (rising-at qs r rs n h, λ e. omega arith)) (w .0)) in
+      moved refl (ap (λ q. at d gs (ranged q) 2) (add-beside r ps qs))
+      (range-read d gs (ranged (ps ++ (qs ∷ []))) 2 p r tt small l (omega arith) (omega arith)
+      (λ _. rw last (rising-at qs r rs n h, λ e. omega arith)) (w .0)) in
       let rest = beside-read ps (qs ++ (r ∷ [])) rs l (rw length-append (omega arith)) (rw join f) (rw join h) (w .1) in
       then here (moved refl (ap (λ q. at d gs (ranged (ps ++ (q ∷ []))) 2) join) rest)
 
@@ -170,8 +171,8 @@ module _ (d : Bool) (gs : List Group) (k : ℕ) (small : k ≤ 8) (anchored : Bo
   position-read ps (r ∷ rs) kind t l w =
       let p = length ps in
       let here : Reads (at d gs (ranged ps) kind) (rangeRecord p r) (at d gs (ranged (ps ++ ((r ∷ []) ∷ []))) 2) =
-          moved refl (ap (λ q. at d gs (ranged q) 2) (add-new r ps))
-          (range-read d gs (ranged ps) kind p r t small l (omega arith) (omega arith) (λ e. absurd (omega arith)) (w .ranges .0)) in
+      moved refl (ap (λ q. at d gs (ranged q) 2) (add-new r ps))
+      (range-read d gs (ranged ps) kind p r t small l (omega arith) (omega arith) (λ e. absurd (omega arith)) (w .ranges .0)) in
       then here (beside-read ps (r ∷ []) rs l (omega arith) (w .few-ranges) (w .rising) (w .ranges .1))
 
   positions-read : (ps qs : List (List Range)) (kind : ℕ) → T (eqb kind 1 || eqb kind 2) → length ps + length qs ≤ k → Each WellFormedPosition qs →
@@ -182,7 +183,7 @@ module _ (d : Bool) (gs : List Group) (k : ℕ) (small : k ≤ 8) (anchored : Bo
       let here = position-read ps q kind t (omega arith) (w .0) in
       let rest = positions-read (ps ++ (q ∷ [])) qs 2 tt (omega arith) (w .1) in
       let more : Reads (at d gs (ranged (ps ++ (q ∷ []))) 2) (rangeRecords (suc (length ps)) qs) (at d gs (ranged (ps ++ (q ∷ qs))) (rest .0)) =
-          moved (ap (λ i. rangeRecords i qs) count) (ap (λ l. at d gs (ranged l) (rest .0)) (append-snoc ps q qs)) (rest .2) in
+      moved (ap (λ i. rangeRecords i qs) count) (ap (λ l. at d gs (ranged l) (rest .0)) (append-snoc ps q qs)) (rest .2) in
       (rest .0, rest .1, then here more)
 
 -- output characters and their terms
@@ -263,14 +264,16 @@ module _ (d : Bool) (gs : List Group) (k : ℕ) (small : k ≤ 8) (anchored : Bo
       let count : length more ≡ length ks + n + 1 = rw (length-append, length-append, length-replicate) refl in
       let width : p - length ks ≡ n = omega arith in
       let here : Reads (at d gs (writing (os ++ (sum c ks ∷ []))) kind) (termRecord (record { position = p; coefficient = a })) (at d gs (writing (os ++ (sum c more ∷ []))) 4) =
-          moved refl (ap (λ m. at d gs (writing (os ++ (sum c (ks ++ replicate m (pos 0) ++ (a ∷ [])) ∷ []))) 4) width)
-          (term-read os c ks kind p a t (omega arith) (omega arith) (s .0) d0) in
+      moved refl (ap (λ m. at d gs (writing (os ++ (sum c (ks ++ replicate m (pos 0) ++ (a ∷ [])) ∷ []))) 4) width)
+      (term-read os c ks kind p a t (omega arith) (omega arith) (s .0) d0) in
       let last : lastD (pos 1) js ≢ pos 0 = named-rest a js (λ q. h (lastD-append (pos 1) gap a js ∙ q)) in
-      let rest = onward os c more 0 (suc p) 4 tt (omega arith) (omega arith) (s .1) last in
-      (rest .0, rest .1,
+      let rest = onward os c more 0 (suc p) 4 tt (omega arith) (omega arith) (s .1) last in (
+        rest .0,
+        rest .1,
         moved (ap (flatMap termRecord) (sym (term-one p a js d0)))
             (ap (λ y. at d gs (writing (os ++ (sum c y ∷ []))) (rest .0)) (append-assoc (ks ++ gap) (a ∷ []) js ∙ append-assoc ks gap (a ∷ js)))
-            (then here (rest .2)))
+            (then here (rest .2)),
+      )
 
   terms-read : (js : List ℤ) → TermsRead js
   terms-read [] = none-read
@@ -310,7 +313,7 @@ rule-read gs kind g b u l w r =
     let k = g .size in
     let a = g .anchored in
     let here : Reads (between gs kind) (ruleRecord k a) (at false gs (ranged false gs k (w .short) a []) 1) =
-        one (between gs kind) _ (ruleRecord k a) (rule k a) refl (read-rule k a (w .long) (w .short)) tt u (ne→neqb (length gs) 32 (λ e. omega arith)) refl in
+    one (between gs kind) _ (ruleRecord k a) (rule k a) refl (read-rule k a (w .long) (w .short)) tt u (ne→neqb (length gs) 32 (λ e. omega arith)) refl in
     let mid = positions-read false gs k (w .short) a [] (g .ranges) 1 tt (omega (arith, w .places)) (w .positions) in
     let rest = outputs-read false gs k (w .short) a (g .ranges) (w .places) [] (g .outputs) (r .written) (mid .0) (kind-some (mid .0) (mid .1)) (omega (arith, w .few-outputs)) (w .outputs) (r .outputs) in
     (rest .0, filled false gs k (w .short) a (g .ranges) (w .places) (g .outputs) (rest .0), moved (sym (r .bytes)) refl (then (then here (mid .2)) (rest .1)))
@@ -325,10 +328,11 @@ rules-read gs [] kind b u l w j =
 rules-read gs (g ∷ rs) kind b u l w j =
     let here = rule-read gs kind g (j .0) u (omega arith) (w .0) (j .2) in
     let rest = rules-read (gs ++ (g ∷ [])) rs (here .0) (j .1) (here .1) (rw length-append (omega arith)) (w .1) (j .3) in
-    let join : gs ++ (g ∷ []) ++ rs ≡ gs ++ (g ∷ rs) = append-snoc gs g rs in
-    (rest .0,
+    let join : gs ++ (g ∷ []) ++ rs ≡ gs ++ (g ∷ rs) = append-snoc gs g rs in (
+      rest .0,
       subst (λ y. T (not (unfilled (between y (rest .0))))) join (rest .1),
-      moved (sym (j .4)) (ap (λ y. between y (rest .0)) join) (then (here .2) (rest .2)))
+      moved (sym (j .4)) (ap (λ y. between y (rest .0)) join) (then (here .2) (rest .2)),
+    )
 
 abbrev after : List Group → Option Group → ℕ → Reading
 after gs d kind = record { table = record { rules = gs; default = d }; kind = kind }
@@ -342,12 +346,13 @@ default-read gs (some g) kind b u w j =
     let r : DefaultRecords g (j .0) = j .2 in
     let one-place : 1 ≤ 8 = omega arith in
     let here : Reads (between gs kind) defaultRecord (at true gs (everyCharacter []) 5) =
-        one (between gs kind) _ defaultRecord default refl read-default tt u tt refl in
+    one (between gs kind) _ defaultRecord default refl read-default tt u tt refl in
     let rest = outputs-read true gs 1 one-place false ranges refl [] (g .outputs) (r .written) 5 (λ e. omega arith) (omega (arith, w .0 .few-outputs)) (w .0 .outputs) (r .outputs) in
-    let same : at true gs (everyCharacter (g .outputs)) (rest .0) ≡ after gs (some g) (rest .0) = ap (λ y. after gs (some y) (rest .0)) (sym (w .0 .acts)) in
-    (rest .0,
+    let same : at true gs (everyCharacter (g .outputs)) (rest .0) ≡ after gs (some g) (rest .0) = ap (λ y. after gs (some y) (rest .0)) (sym (w .0 .acts)) in (
+      rest .0,
       subst (λ y. T (not (unfilled y))) same (filled true gs 1 one-place false ranges refl (g .outputs) (rest .0)),
-      moved (sym (j .4 ∙ ap (λ y. j .0 ++ y) (j .3) ∙ append-nil (j .0) ∙ r .bytes)) same (then here (rest .1)))
+      moved (sym (j .4 ∙ ap (λ y. j .0 ++ y) (j .3) ∙ append-nil (j .0) ∙ r .bytes)) same (then here (rest .1)),
+    )
 
 -- the table
 
@@ -364,10 +369,10 @@ described-read b t r w =
     let whole : length b % 8 ≡ 0 = ap (λ n. n % 8) (count .1) ∙ mul-mod-right 8 (count .0) in
     let records : length b / 8 ≡ count .0 = ap (λ n. n / 8) (count .1) ∙ mul-div-right (count .0) (lit< {m = 0} {n = 8} tt) in
     let end : readEnd s ≡ accepted t =
-        by-cases (λ o. o ≡ accepted t) _ (accepted t) (
-          λ u. absurd (T-not (unfilled s) (last .1) u),
-          λ _. (λ u. let none-left = eqb→eq (length (t .rules)) 0 u in absurd (omega arith), λ _. refl),
-        ) in
+    by-cases (λ o. o ≡ accepted t) _ (accepted t) (
+      λ u. absurd (T-not (unfilled s) (last .1) u),
+      λ _. (λ u. let none-left = eqb→eq (length (t .rules)) 0 u in absurd (omega arith), λ _. refl),
+    ) in
     by-cases (λ o. o ≡ accepted t) _ _ (
       λ u. absurd (T-not (eqb (length b % 8) 0) u (eq→eqb (length b % 8) 0 whole)),
       λ _. ap (λ n. andThen (readRecords n b unread) readEnd) records ∙ ap (λ o. andThen o readEnd) (count .2) ∙ end,
