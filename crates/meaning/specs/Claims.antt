@@ -1,9 +1,11 @@
 -- Demands 1 and 2 for the table check and for direct conversion, one field a sentence.
-use mathlib.Core.List.{List, [], _∷_}
+use mathlib.Core.List.{List, [], _∷_, _++_}
 use mathlib.Core.Logic.{_≢_, _↔_}
 use mathlib.Core.Path.{_≡_}
 use Prim.Native.Nat.{ℕ, _*_, _%_, _≤_, _<_}
+use lib.Dec.{T, eqb}
 use lib.ListN.{length, getD, take, drop}
+use Rattle.lists.specs.Lists.{any}
 use Rattle.meaning.specs.Refusal.{refused, accepted, RefusedBy}
 use Rattle.meaning.specs.Table.{Table, expansion}
 use Rattle.meaning.specs.Value.{SafeTable}
@@ -37,6 +39,8 @@ pub record CheckAccepts (b : List ℕ) : Type 0 where
 pub record CheckRefuses (b : List ℕ) : Type 0 where
   -- 1 to 6: the bytes are the records of no table that is as document 01 asks
   pub records : (n : ℕ) → readTable b ≡ refused n → n ≤ 6 → (t : Table) → Records b t → WellFormed t → ⊥
+  -- 2, 3 and 6, which are found at a record: nor are they with more records behind
+  pub for-good : (n : ℕ) → readTable b ≡ refused n → T (any (eqb n) (2 ∷ 3 ∷ 6 ∷ [])) → (more : List ℕ) (t : Table) → Records (b ++ more) t → WellFormed t → ⊥
   -- 1: "length no multiple of 8"
   pub whole : (readTable b ≡ refused 1) ↔ (length b % 8 ≢ 0)
   -- 2: a record is of no kind

@@ -1,16 +1,16 @@
 -- Demands 1 and 2 for the table check and direct conversion: what is answered and left, and that exactly the tables that keep the rules are
 -- accepted. The check accepts what it should by `Described`, `Readable` and `Seven`, and the text fits the buffer by `Length`.
 use mathlib.Core.Bool.{not}
-use mathlib.Core.List.{List, [], _∷_}
+use mathlib.Core.List.{List, [], _∷_, _++_}
 use mathlib.Core.Path.{_≡_, refl, sym, ap, subst, _∙_}
 use Prim.Native.Nat.{ℕ, _*_, _≤_, _<_}
 use native.Mathlib.Omega.{arith}
-use lib.Dec.{T, T-not, eqb, ltb, ltb→lt, nltb→le}
+use lib.Dec.{T, T-not, eqb, eqb→eq, ltb, ltb→lt, nltb→le}
 use lib.ListN.{length, drop, length-append, length-drop}
 use lib.Seq.{take-append-seam, drop-append-seam}
 use Rattle.lists.specs.Lists.{any}
 use Rattle.lists.specs.Decide.{select}
-use Rattle.lists.proofs.Laws.Tests.{not-not, any-more, by-cases}
+use Rattle.lists.proofs.Laws.Tests.{not-not, or-cases, any-more, by-cases}
 use Rattle.meaning.specs.Refusal.{Outcome, refused, accepted, andThen, RefusedBy}
 use Rattle.meaning.specs.Table.{Table, expansion}
 use Rattle.meaning.specs.Value.{SafeTable, safe}
@@ -24,7 +24,7 @@ use Rattle.meaning.proofs.Laws.Seven.{safe-table, table-safe}
 use Rattle.meaning.proofs.Laws.Reading.{recordRefusals, read-filled, read-refused}
 use Rattle.meaning.proofs.Laws.Described.{read-records, read-well-formed}
 use Rattle.meaning.proofs.Laws.Readable.{described-read}
-use Rattle.meaning.proofs.Laws.Numbered.{rules-length, rules-unknown, rules-no-rule}
+use Rattle.meaning.proofs.Laws.Numbered.{rules-length, rules-unknown, rules-no-rule, rules-for-good}
 use Rattle.meaning.proofs.Laws.Length.{text-short}
 
 -- the table check
@@ -97,6 +97,7 @@ pub check-refuses : (b : List ℕ) → CheckRefuses b
 check-refuses b =
     record {
       records = λ n e l t r w. accepted-not t n (sym (described-read b t r w) ∙ rules-refused b n e l);
+      for-good = λ n e h more t r w. rules-for-good b n (rules-refused b n e (below n h)) h more t (described-read (b ++ more) t r w);
       whole = (λ e. rules-length b .0 (rules-refused b 1 e (omega arith)), λ d. refused-first b 1 (rules-length b .1 d));
       unknown = λ e. rules-unknown b (rules-refused b 2 e (omega arith));
       no-rule = λ y e. rules-no-rule b y (rules-refused b 5 e (omega arith));
@@ -104,6 +105,11 @@ check-refuses b =
           let u = subst (Checked b) e (checked b) .1 refl in
           (u .0, record { records = read-records b (u .0) y (u .1); well-formed = read-well-formed b (u .0) y (u .1); unsafe = u .2 });
     }
+  where
+    below : (n : ℕ) → T (any (eqb n) (2 ∷ 3 ∷ 6 ∷ [])) → n ≤ 6
+    below n h =
+        or-cases (eqb n 2) _ h (λ u. omega (arith, eqb→eq n 2 u))
+        (λ k. or-cases (eqb n 3) _ k (λ u. omega (arith, eqb→eq n 3 u)) (λ l. or-cases (eqb n 6) _ l (λ u. omega (arith, eqb→eq n 6 u)) (λ f. absurd f)))
 
 -- admission
 

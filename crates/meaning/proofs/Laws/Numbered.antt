@@ -4,22 +4,23 @@ use mathlib.Core.Bool.{not}
 use mathlib.Core.List.{List, [], _∷_, _++_}
 use mathlib.Core.Option.{Option, none, some}
 use mathlib.Core.Logic.{_≢_, _↔_}
-use mathlib.Core.Path.{_≡_, refl, sym, ap, subst, _∙_}
-use Prim.Native.Nat.{ℕ, zero, suc, _+_, _*_, _/_, _%_, _≤_, _<_}
-use native.Mathlib.Nat.{mul-suc, div-add-mod}
+use mathlib.Core.Path.{_≡_, refl, sym, ap, ap₂, subst, _∙_}
+use Prim.Native.Nat.{ℕ, zero, suc, _+_, _*_, _-_, _/_, _%_, _≤_, _<_}
+use native.Mathlib.Nat.{mul-suc, suc-add, add-sub-of-le, mod-lt, div-add-mod}
 use native.Mathlib.Omega.{arith}
-use lib.Dec.{eqb, eqb→eq}
+use lib.Dec.{T, eqb, eqb→eq, lit<}
 use lib.ListN.{length, getD, take, drop, length-append, length-take, length-drop, take-append-drop}
-use lib.Seq.{drop-drop}
+use lib.Seq.{take-append-le, drop-append-le, drop-drop}
+use Rattle.lists.specs.Lists.{any}
 use Rattle.lists.proofs.Laws.Tests.{of-T, not-not, by-cases, select-here, ne→neqb, neqb→ne}
 use Rattle.lists.proofs.Laws.Each.{each-front, each-back}
-use Rattle.meaning.specs.Refusal.{Outcome, refused, accepted}
+use Rattle.meaning.specs.Refusal.{Outcome, refused, accepted, andThen}
 use Rattle.meaning.specs.Table.{Group, Table}
 use Rattle.meaning.specs.Record.{Record, rule, range, output, term, default, decode}
 use Rattle.meaning.specs.Reader.{Reading, unread, changeLatest, taken, readOne, readRecords, readEnd, readRules}
 use Rattle.meaning.specs.Records.{Bytes, Known, recordAt}
 use Rattle.meaning.specs.Records as described
-use Rattle.meaning.proofs.Laws.Refusal.{by-then}
+use Rattle.meaning.proofs.Laws.Refusal.{by-then, accepted-not}
 use Rattle.meaning.proofs.Laws.Reading.{atLast-length}
 use Rattle.meaning.proofs.Laws.Encoding.{no-record, bytesOf, encode-decode, read-rule, read-range, read-output, read-term, read-default}
 
@@ -152,13 +153,37 @@ records-none (suc n) c s l y =
     later s′ h (refused k) f = tt
     later s′ h (accepted s″) f = λ z. let v = f z in let u = h (v .0) in (u .0, at-each (u .1) (v .1))
 
+-- a refusal at a record is one for whatever follows
+
+refused-on : (n : ℕ) (c : List ℕ) (s : Reading) (k : ℕ) → length c ≡ 8 * n → readRecords n c s ≡ refused k → (m : ℕ) (more : List ℕ) →
+    readRecords (n + m) (c ++ more) s ≡ refused k
+unfolding readRecords andThen
+refused-on zero c s k l e m more = absurd (accepted-not s k e)
+refused-on (suc n) c s k l e m more =
+    let whole : length c ≡ 8 + 8 * n = l ∙ omega (arith, mul-suc 8 n) in
+    let eight : 8 ≤ length c = omega arith in
+    let rest : length (drop 8 c) ≡ 8 * n = length-drop 8 c ∙ omega arith in
+    ap (λ i. readRecords i (c ++ more) s) (suc-add n m)
+    ∙ ap₂ (λ r d. andThen (readOne s (decode r)) (λ s′. readRecords (n + m) d s′)) (take-append-le 8 c more eight) (drop-append-le 8 c more eight)
+    ∙ go (readOne s (decode (take 8 c))) (λ s′ q. refused-on n (drop 8 c) s′ k rest q m more) e
+  where
+    go : (o : Outcome Reading) → ((s′ : Reading) → readRecords n (drop 8 c) s′ ≡ refused k → readRecords (n + m) (drop 8 c ++ more) s′ ≡ refused k) →
+        andThen o (λ s′. readRecords n (drop 8 c) s′) ≡ refused k → andThen o (λ s′. readRecords (n + m) (drop 8 c ++ more) s′) ≡ refused k
+    go (refused j) f q = q
+    go (accepted s′) f q = f s′ q
+
 -- the table
+
+-- 2, 3 and 6 are answered at a record, not at the table's end
+abbrev atRecord : List ℕ
+atRecord = 2 ∷ 3 ∷ 6 ∷ []
 
 -- what a refusal before 7 says
 record Said (b : List ℕ) (k : ℕ) : Type 0 where
   uneven : k ≡ 1 → length b % 8 ≢ 0
   unknown : k ≡ 2 → (i : ℕ) × (8 * i < length b) × (Known (recordAt b i) → ⊥)
   no-rule : k ≡ 5 → Bytes b → (i : ℕ) → 8 * i < length b → kindOf (recordAt b i) ≢ 1
+  record-refused : T (any (eqb k) atRecord) → (length b ≡ 8 * (length b / 8)) × (readRecords (length b / 8) b unread ≡ refused k)
 
 abbrev IfSaid : List ℕ → Outcome Table → Type 0
 IfSaid b (refused k) = Said b k
@@ -168,23 +193,24 @@ rules-said : (b : List ℕ) → IfSaid b (readRules b)
 unfolding readRules readEnd
 rules-said b =
     by-cases (IfSaid b) _ _ (
-      λ u. record { uneven = λ _. neqb→ne (length b % 8) 0 u; unknown = λ e. absurd (omega arith); no-rule = λ e. absurd (omega arith) },
+      λ u. record { uneven = λ _. neqb→ne (length b % 8) 0 u; unknown = λ e. absurd (omega arith); no-rule = λ e. absurd (omega arith); record-refused = λ t. absurd t },
       λ u.
           let rest : length b % 8 ≡ 0 = eqb→eq (length b % 8) 0 (not-not (eqb (length b % 8) 0) u) in
           let whole : length b ≡ 8 * (length b / 8) = omega (arith, div-add-mod (length b) 8) in
           by-then (IfSaid b) (readRecords (length b / 8) b unread) readEnd
           (λ k e.
           let f = subst (IfFault b) e (records-fault (length b / 8) b unread whole) in
-          record { uneven = λ q. absurd (f .length-asked q); unknown = f .unknown; no-rule = λ q. absurd (f .rule-asked q) })
+          record { uneven = λ q. absurd (f .length-asked q); unknown = f .unknown; no-rule = λ q. absurd (f .rule-asked q); record-refused = λ _. (whole, e) })
           (λ s e.
           by-cases (IfSaid b) _ (accepted (s .table)) (
-            λ _. record { uneven = λ q. absurd (omega arith); unknown = λ q. absurd (omega arith); no-rule = λ q. absurd (omega arith) },
+            λ _. record { uneven = λ q. absurd (omega arith); unknown = λ q. absurd (omega arith); no-rule = λ q. absurd (omega arith); record-refused = λ t. absurd t },
             λ _. (
               λ z. record {
                 uneven = λ q. absurd (omega arith);
                 unknown = λ q. absurd (omega arith);
                 no-rule = λ _ y i l.
                     subst (NoRule (length b / 8) b unread) e (records-none (length b / 8) b unread whole y) (eqb→eq (length (s .table .rules)) 0 z) .1 i (omega arith);
+                record-refused = λ t. absurd t;
               },
               λ _. tt,
             ),
@@ -200,3 +226,17 @@ rules-unknown b e = subst (IfSaid b) e (rules-said b) .unknown refl
 
 pub rules-no-rule : (b : List ℕ) → Bytes b → readRules b ≡ refused 5 → (i : ℕ) → 8 * i < length b → getD (recordAt b i) 0 0 ≢ 1
 rules-no-rule b y e = subst (IfSaid b) e (rules-said b) .no-rule refl y
+
+pub rules-for-good : (b : List ℕ) (k : ℕ) → readRules b ≡ refused k → T (any (eqb k) (2 ∷ 3 ∷ 6 ∷ [])) → (more : List ℕ) (t : Table) → readRules (b ++ more) ≡ accepted t → ⊥
+unfolding readRules andThen
+rules-for-good b k e h more t =
+    let r = subst (IfSaid b) e (rules-said b) .record-refused h in
+    let n = length b / 8 in
+    let all = length (b ++ more) / 8 in
+    let larger : n ≤ all = omega (arith, r .0, length-append b more, div-add-mod (length (b ++ more)) 8, mod-lt (length (b ++ more)) (lit< {m = 0} {n = 8} tt)) in
+    let on : readRecords all (b ++ more) unread ≡ refused k =
+    ap (λ i. readRecords i (b ++ more) unread) (sym (add-sub-of-le larger)) ∙ refused-on n b unread k (r .0) (r .1) (all - n) more in
+    by-cases (λ o. o ≡ accepted t → ⊥) _ _ (
+      λ _ q. accepted-not t 1 (sym q),
+      λ _ q. accepted-not t k (sym q ∙ ap (λ o. andThen o readEnd) on),
+    )
