@@ -1,10 +1,10 @@
 pub mod Refusal
 pub mod Table
+pub mod WellFormed
+pub mod Records
 pub mod Record
 pub mod Value
 pub mod Reader
-pub mod WellFormed
-pub mod Records
 pub mod Meaning
 pub mod Block
 pub mod Direct
