@@ -27,8 +27,8 @@ fitsFirst g w = leb (length w) (g .size) && fitsWord (take (length w) (g .ranges
 abbrev pub wordState : Table → List ℕ → State
 wordState t w = record { depth = length w; members = filter (λ r. fitsFirst (ruleAt t r) w) (upTo (length (t .rules))) }
 
--- "A state is a pair: depth d, and the set of rules with K at least d that fit some word of length d in their first d positions and are all
--- the rules that do so for that word."
+-- Of every well formed table: "A state is a pair: depth d, and the set of rules with K at least d that fit some word of length d in their
+-- first d positions and are all the rules that do so for that word."
 pub record StatesOfWords (t : Table) : Type 0 where
   -- each state is that of some word
   pub some-word : (q : ℕ) → q < length (states t) → (w : List ℕ) × Characters w × (getD (states t) q (initial t) ≡ wordState t w)
