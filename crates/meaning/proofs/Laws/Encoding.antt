@@ -130,77 +130,56 @@ module _ (p b2 b3 b4 b5 b6 b7 : ℕ) (y : Record) where
   of-rule : Of 1
   of-rule s e =
       let o = only-some _ _ y (sym (decode-rule p b2 b3 b4 b5 b6 b7) ∙ e) in
-      let f : b2 ≡ cond (eqb b2 1) 1 0 = flag b2 (leb→le b2 1 (o .0 .1 .1 .0)) in
-      let z3 : b3 ≡ 0 = eqb→eq b3 0 (o .0 .1 .1 .1 .0) in
-      let z4 = all-zero (b4 ∷ b5 ∷ []) (o .0 .1 .1 .1 .1 .0) in
-      let z6 = all-zero (b6 ∷ b7 ∷ []) (o .0 .1 .1 .1 .1 .1 .0) in
-      let z40 : 0 ≡ b4 = z4 .0 in
-      let z50 : 0 ≡ b5 = z4 .1 .0 in
-      let z60 : 0 ≡ b6 = z6 .0 in
-      let z70 : 0 ≡ b7 = z6 .1 .0 in
-      let q : 1 ∷ p ∷ b2 ∷ b3 ∷ b4 ∷ b5 ∷ b6 ∷ b7 ∷ [] ≡ ruleRecord p (eqb b2 1) = cc in
-      q ∙ ap bytesOf (o .1)
+      let flag-2 : b2 ≡ cond (eqb b2 1) 1 0 = flag b2 (leb→le b2 1 (o .0 .1 .1 .0)) in
+      let zero-3 : b3 ≡ 0 = eqb→eq b3 0 (o .0 .1 .1 .1 .0) in
+      let zeros-4 : Each (λ x. 0 ≡ x) (b4 ∷ b5 ∷ []) = all-zero (b4 ∷ b5 ∷ []) (o .0 .1 .1 .1 .1 .0) in
+      let zeros-6 : Each (λ x. 0 ≡ x) (b6 ∷ b7 ∷ []) = all-zero (b6 ∷ b7 ∷ []) (o .0 .1 .1 .1 .1 .1 .0) in
+      let bytes : 1 ∷ p ∷ b2 ∷ b3 ∷ b4 ∷ b5 ∷ b6 ∷ b7 ∷ [] ≡ ruleRecord p (eqb b2 1) = cc in
+      bytes ∙ ap bytesOf (o .1)
 
   of-range : Of 2
   of-range s e =
       let o = only-some _ _ y (sym (decode-range p b2 b3 b4 b5 b6 b7) ∙ e) in
-      let z = all-zero (b2 ∷ b3 ∷ []) (o .0 .1 .0) in
-      let z2 : 0 ≡ b2 = z .0 in
-      let z3 : 0 ≡ b3 = z .1 .0 in
-      let lo = two-bytes b4 b5 (s .1 .1 .1 .1 .0) (s .1 .1 .1 .1 .1 .0) in
-      let hi = two-bytes b6 b7 (s .1 .1 .1 .1 .1 .1 .0) (s .1 .1 .1 .1 .1 .1 .1 .0) in
-      let q : 2 ∷ p ∷ b2 ∷ b3 ∷ b4 ∷ b5 ∷ b6 ∷ b7 ∷ [] ≡ rangeRecord p (record { lowest = b4 + 256 * b5; highest = b6 + 256 * b7 }) = rw (lo, hi) (cc) in
-      q ∙ ap bytesOf (o .1)
+      let zeros-2 : Each (λ x. 0 ≡ x) (b2 ∷ b3 ∷ []) = all-zero (b2 ∷ b3 ∷ []) (o .0 .1 .0) in
+      let low = two-bytes b4 b5 (s .1 .1 .1 .1 .0) (s .1 .1 .1 .1 .1 .0) in
+      let high = two-bytes b6 b7 (s .1 .1 .1 .1 .1 .1 .0) (s .1 .1 .1 .1 .1 .1 .1 .0) in
+      let r : Range = record { lowest = b4 + 256 * b5; highest = b6 + 256 * b7 } in
+      let bytes : 2 ∷ p ∷ b2 ∷ b3 ∷ b4 ∷ b5 ∷ b6 ∷ b7 ∷ [] ≡ rangeRecord p r = rw (low, high) (cc) in
+      bytes ∙ ap bytesOf (o .1)
 
   of-output : Of 3
   of-output s e =
       let o = only-some _ _ y (sym (decode-output p b2 b3 b4 b5 b6 b7) ∙ e) in
-      let z1 : p ≡ 0 = eqb→eq p 0 (o .0 .0) in
-      let z = all-zero (b2 ∷ b3 ∷ []) (o .0 .1 .0) in
-      let z2 : 0 ≡ b2 = z .0 in
-      let z3 : 0 ≡ b3 = z .1 .0 in
-      let h4 : b4 < 256 = s .1 .1 .1 .1 .0 in
-      let h5 : b5 < 256 = s .1 .1 .1 .1 .1 .0 in
-      let h6 : b6 < 256 = s .1 .1 .1 .1 .1 .1 .0 in
-      let h7 : b7 < 256 = s .1 .1 .1 .1 .1 .1 .1 .0 in
+      let zero-1 : p ≡ 0 = eqb→eq p 0 (o .0 .0) in
+      let zeros-2 : Each (λ x. 0 ≡ x) (b2 ∷ b3 ∷ []) = all-zero (b2 ∷ b3 ∷ []) (o .0 .1 .0) in
+      let small : Each (λ x. x < 256) (b4 ∷ b5 ∷ b6 ∷ b7 ∷ []) = s .1 .1 .1 .1 in
       let x = b4 + 256 * b5 + 65536 * (b6 + 256 * b7) in
-      let l : x < 4294967296 = omega arith in
-      let c = bits-of-signed 32 half-32 x l in
-      let q : 3 ∷ p ∷ b2 ∷ b3 ∷ b4 ∷ b5 ∷ b6 ∷ b7 ∷ [] ≡ outputRecord (signed 32 x) = rw (c, four-bytes b4 b5 b6 b7 h4 h5 h6 h7) (cc) in
-      q ∙ ap bytesOf (o .1)
+      let constant = bits-of-signed 32 half-32 x (let l : x < 4294967296 = omega arith in l) in
+      let all = four-bytes b4 b5 b6 b7 (small .0) (small .1 .0) (small .1 .1 .0) (small .1 .1 .1 .0) in
+      let bytes : 3 ∷ p ∷ b2 ∷ b3 ∷ b4 ∷ b5 ∷ b6 ∷ b7 ∷ [] ≡ outputRecord (signed 32 x) = rw (constant, all) (cc) in
+      bytes ∙ ap bytesOf (o .1)
 
   of-term : Of 4
   of-term s e =
       let o = only-some _ _ y (sym (decode-term p b2 b3 b4 b5 b6 b7) ∙ e) in
-      let z = all-zero (b2 ∷ b3 ∷ []) (o .0 .1 .0) in
-      let z2 : 0 ≡ b2 = z .0 in
-      let z3 : 0 ≡ b3 = z .1 .0 in
-      let y6 = all-zero (b6 ∷ b7 ∷ []) (o .0 .1 .1 .0) in
-      let z6 : 0 ≡ b6 = y6 .0 in
-      let z7 : 0 ≡ b7 = y6 .1 .0 in
-      let h4 : b4 < 256 = s .1 .1 .1 .1 .0 in
-      let h5 : b5 < 256 = s .1 .1 .1 .1 .1 .0 in
+      let zeros-2 : Each (λ x. 0 ≡ x) (b2 ∷ b3 ∷ []) = all-zero (b2 ∷ b3 ∷ []) (o .0 .1 .0) in
+      let zeros-6 : Each (λ x. 0 ≡ x) (b6 ∷ b7 ∷ []) = all-zero (b6 ∷ b7 ∷ []) (o .0 .1 .1 .0) in
+      let small : Each (λ x. x < 256) (b4 ∷ b5 ∷ []) = (s .1 .1 .1 .1 .0, (s .1 .1 .1 .1 .1 .0, tt)) in
       let x = b4 + 256 * b5 in
-      let l : x < 65536 = omega arith in
-      let c = bits-of-signed 16 half-16 x l in
-      let q : 4 ∷ p ∷ b2 ∷ b3 ∷ b4 ∷ b5 ∷ b6 ∷ b7 ∷ [] ≡ termRecord (record { position = p; coefficient = signed 16 x }) = rw (c, two-bytes b4 b5 h4 h5) (cc) in
-      q ∙ ap bytesOf (o .1)
+      let coefficient = bits-of-signed 16 half-16 x (let l : x < 65536 = omega arith in l) in
+      let both-bytes = two-bytes b4 b5 (small .0) (small .1 .0) in
+      let bytes : 4 ∷ p ∷ b2 ∷ b3 ∷ b4 ∷ b5 ∷ b6 ∷ b7 ∷ [] ≡ termRecord (record { position = p; coefficient = signed 16 x }) = rw (coefficient, both-bytes) (cc) in
+      bytes ∙ ap bytesOf (o .1)
 
   of-default : Of 5
   of-default s e =
       let o = only-some _ _ y (sym (decode-default p b2 b3 b4 b5 b6 b7) ∙ e) in
-      let z1 : p ≡ 0 = eqb→eq p 0 (o .0 .0) in
-      let y2 = all-zero (b2 ∷ b3 ∷ []) (o .0 .1 .0) in
-      let y4 = all-zero (b4 ∷ b5 ∷ []) (o .0 .1 .1 .0) in
-      let y6 = all-zero (b6 ∷ b7 ∷ []) (o .0 .1 .1 .1 .0) in
-      let z2 : 0 ≡ b2 = y2 .0 in
-      let z3 : 0 ≡ b3 = y2 .1 .0 in
-      let z4 : 0 ≡ b4 = y4 .0 in
-      let z5 : 0 ≡ b5 = y4 .1 .0 in
-      let z6 : 0 ≡ b6 = y6 .0 in
-      let z7 : 0 ≡ b7 = y6 .1 .0 in
-      let q : 5 ∷ p ∷ b2 ∷ b3 ∷ b4 ∷ b5 ∷ b6 ∷ b7 ∷ [] ≡ defaultRecord = cc in
-      q ∙ ap bytesOf (o .1)
+      let zero-1 : p ≡ 0 = eqb→eq p 0 (o .0 .0) in
+      let zeros-2 : Each (λ x. 0 ≡ x) (b2 ∷ b3 ∷ []) = all-zero (b2 ∷ b3 ∷ []) (o .0 .1 .0) in
+      let zeros-4 : Each (λ x. 0 ≡ x) (b4 ∷ b5 ∷ []) = all-zero (b4 ∷ b5 ∷ []) (o .0 .1 .1 .0) in
+      let zeros-6 : Each (λ x. 0 ≡ x) (b6 ∷ b7 ∷ []) = all-zero (b6 ∷ b7 ∷ []) (o .0 .1 .1 .1 .0) in
+      let bytes : 5 ∷ p ∷ b2 ∷ b3 ∷ b4 ∷ b5 ∷ b6 ∷ b7 ∷ [] ≡ defaultRecord = cc in
+      bytes ∙ ap bytesOf (o .1)
 
   of-kind : (kind : ℕ) → Of kind
   of-kind kind s e =
