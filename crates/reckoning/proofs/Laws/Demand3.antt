@@ -14,7 +14,7 @@ use Rattle.meaning.specs.Refusal.{Outcome, refused, accepted}
 use Rattle.meaning.specs.Table.{Characters, Table, group, longest}
 use Rattle.meaning.specs.Meaning.{Emission, written, textOf, covered, convert}
 use Rattle.meaning.proofs.Laws.Groups.{longest-small}
-use Rattle.meaning.proofs.Laws.Reading.{read-shaped}
+use Rattle.meaning.proofs.Laws.Described.{well-formed-shaped}
 use Rattle.automaton.specs.States.{states}
 use Rattle.automaton.specs.Layout.{wordCount, words}
 use Rattle.automaton.specs.Claims.{KeepsCompiling}
@@ -183,7 +183,7 @@ module _ (t : Table) (w : List ℕ) (K : Compiled t w) where
 compiled : (b buffer : List ℕ) (t : Table) → KeepsCompiling b t → Compiled t (words t ++ drop wordCount buffer)
 compiled b buffer t k =
     let rest = drop wordCount buffer in
-    let s = read-shaped b t (k .keeps .records) in
+    let s = well-formed-shaped t (k .keeps .well-formed) in
     record {
       shaped = s;
       small = longest-small t s;

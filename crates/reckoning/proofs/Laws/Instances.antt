@@ -53,8 +53,9 @@ module _ (x : Case) (t : Table) where
   abbrev input : List ℕ
   input = characters (x .input)
 
-  -- what is computed of a case: its table, the reckoning, the plain machine's run over the input, and Definition 7
+  -- what is computed of a case: its table's bytes, its table, the reckoning, the plain machine's run over the input, and Definition 7
   record Computed : Type 0 where
+    bytes : T (all (λ z. ltb z 256) (x .table))
     read : readTable (x .table) ≡ accepted t
     classes : T (leb (length (starts t)) 64)
     states : T (leb (length (states t)) 256)
@@ -69,7 +70,12 @@ module _ (x : Case) (t : Table) where
 
   module _ (c : Computed) where
     keeping : KeepsCompiling (x .table) t
-    keeping = record { keeps = read-keeps (x .table) t (c .read); classes = leb→le _ 64 (c .classes); states = leb→le _ 256 (c .states) }
+    keeping =
+        record {
+          keeps = read-keeps (x .table) t (all-each (λ z. ltb z 256) (x .table) (λ z l. ltb→lt z 256 l) (c .bytes)) (c .read);
+          classes = leb→le _ 64 (c .classes);
+          states = leb→le _ 256 (c .states);
+        }
 
     abbrev served : List ℕ → Served
     served buffer = serve (compile (x .table) buffer .words) (x .calls) unserved
@@ -126,6 +132,7 @@ table2 = tableIn (readTable t2)
 closing-computed : Computed closing table1
 unfolding rules-opened machine-opened fallBack step steps run ran reckoned reckon closing
 closing-computed = record {
+  bytes = tt;
   read = refl;
   classes = tt;
   states = tt;
@@ -142,6 +149,7 @@ closing-computed = record {
 stopping-computed : Computed stopping table2
 unfolding rules-opened machine-opened fallBack step steps run ran reckoned reckon stopping
 stopping-computed = record {
+  bytes = tt;
   read = refl;
   classes = tt;
   states = tt;
