@@ -34,7 +34,7 @@ use Rattle.meaning.proofs.Laws.Groups.{rule-shaped, default-each, group-rule, g
 use Rattle.meaning.proofs.Laws.Choice.{Fits, fits-room, Chosen, best-chosen}
 use Rattle.meaning.proofs.Laws.Length.{writes, text-short}
 use Rattle.meaning.proofs.Laws.Exact.{block-size, block-count, block-writes}
-use Rattle.meaning.proofs.Laws.Direct.{read-keeps}
+use Rattle.meaning.proofs.Laws.Direct.{table-rules, table-values}
 use Rattle.meaning.proofs.Laws.Reading.{read-shaped}
 use Rattle.meaning.proofs.Laws.Rows.{rows-at, rowsOf, rowsOf-rule, rowsOf-default}
 use Rattle.rules.proofs.Laws.Flattened.{read-narrow, flat-flat}
@@ -274,13 +274,13 @@ module _ (b : List ℕ) where
   -- a table that is read keeps what the laws above ask
   module _ (t : Table) (e : readTable b ≡ accepted t) (bytes : Each (λ x. x < 256) b) where
     pub is-shaped : Shaped t
-    is-shaped = read-shaped b t (read-keeps b t e .records)
+    is-shaped = read-shaped b t (table-rules b t e)
 
     pub is-narrow : Narrow t
-    is-narrow = read-narrow b t bytes (read-keeps b t e .records)
+    is-narrow = read-narrow b t bytes (table-rules b t e)
 
     is-safe : SafeTable t
-    is-safe = read-keeps b t e .values
+    is-safe = table-values b t e
 
     read-ready : (input : List ℕ) → Characters input → Ready (slotWords t) (rangeWords t) (blockWords t) (length (t .rules)) (isSome (t .default)) input
     read-ready input c =
