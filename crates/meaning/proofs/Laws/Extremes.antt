@@ -22,10 +22,6 @@ use Rattle.meaning.specs.Reader.{signed}
 use Rattle.meaning.specs.Value.{dot, lowestOf, highestOf, extreme, value, safeOutput}
 use Rattle.meaning.specs.bridge.Flat.{rangesAt, patternAt}
 
--- range k of a place
-abbrev pub rangeAt : List ℕ → ℕ → ℕ → Range
-rangeAt ranges place k = record { lowest = at ranges (8 * place + 2 * k); highest = at ranges (8 * place + 2 * k + 1) }
-
 -- a table from a number on: at its end, one before, and from 0
 tab-last : {A : Type 0} (f : ℕ → A) (n : ℕ) → 0 < n → tabFrom (n - 1) (n - (n - 1)) f ≡ f (n - 1) ∷ []
 tab-last f n h = let e : n - (n - 1) ≡ 1 = omega arith in rw e refl
@@ -160,44 +156,44 @@ at-most p n =
 -- The sum over the positions from k on of output character j of group g: over none, with one before, and over all.
 
 abbrev pub coefficientsFrom : List ℕ → ℕ → ℕ → ℕ → List ℤ
-coefficientsFrom blocks g j k = map (signed 16) (take (at blocks (blockSize * g) - k) (drop (blockSize * g + 4 + entrySize * j + k) blocks))
+coefficientsFrom loaded g j k = map (signed 16) (take (at loaded (blockSize * g) - k) (drop (blockSize * g + 4 + entrySize * j + k) loaded))
 
-abbrev pub sumFrom : Bool → List ℕ → List ℕ → List ℕ → ℕ → ℕ → ℕ → ℤ
-sumFrom sign slots ranges blocks g j k =
-    dot (coefficientsFrom blocks g j k)
-    (extreme sign (coefficientsFrom blocks g j k) (tabFrom k (at blocks (blockSize * g) - k) (λ p. rangesAt slots ranges (8 * g + p))))
+abbrev pub sumFrom : Bool → List ℕ → ℕ → ℕ → ℕ → ℤ
+sumFrom sign loaded g j k =
+    dot (coefficientsFrom loaded g j k)
+    (extreme sign (coefficientsFrom loaded g j k) (tabFrom k (at loaded (blockSize * g) - k) (λ p. rangesAt loaded (8 * g + p))))
 
-module _ (sign : Bool) (slots ranges blocks : List ℕ) (g j : ℕ) where
-  pub sum-last : sumFrom sign slots ranges blocks g j (at blocks (blockSize * g)) ≡ pos 0
+module _ (sign : Bool) (loaded : List ℕ) (g j : ℕ) where
+  pub sum-last : sumFrom sign loaded g j (at loaded (blockSize * g)) ≡ pos 0
   unfolding dot
-  sum-last = let e : at blocks (blockSize * g) - at blocks (blockSize * g) ≡ 0 = omega arith in rw e refl
+  sum-last = let e : at loaded (blockSize * g) - at loaded (blockSize * g) ≡ 0 = omega arith in rw e refl
 
-  pub sum-before : (k : ℕ) → 0 < k → k ≤ at blocks (blockSize * g) → blockSize * g + 4 + entrySize * j + at blocks (blockSize * g) ≤ length blocks →
-      let a = signed 16 (at blocks (blockSize * g + 4 + entrySize * j + (k - 1))) in
-      let rs = rangesAt slots ranges (8 * g + (k - 1)) in
-      sumFrom sign slots ranges blocks g j (k - 1)
-      ≡ a *ℤ pos (cond (Bool·beq (nonNeg a) sign) (lowestOf rs) (highestOf rs)) +ℤ sumFrom sign slots ranges blocks g j k
+  pub sum-before : (k : ℕ) → 0 < k → k ≤ at loaded (blockSize * g) → blockSize * g + 4 + entrySize * j + at loaded (blockSize * g) ≤ length loaded →
+      let a = signed 16 (at loaded (blockSize * g + 4 + entrySize * j + (k - 1))) in
+      let rs = rangesAt loaded (8 * g + (k - 1)) in
+      sumFrom sign loaded g j (k - 1)
+      ≡ a *ℤ pos (cond (Bool·beq (nonNeg a) sign) (lowestOf rs) (highestOf rs)) +ℤ sumFrom sign loaded g j k
   unfolding dot extreme
   sum-before k h l fit =
       let base = blockSize * g + 4 + entrySize * j in
-      let n = at blocks (blockSize * g) in
+      let n = at loaded (blockSize * g) in
       let e : n - (k - 1) ≡ suc (n - k) = omega arith in
       let d : suc (base + (k - 1)) ≡ base + k = omega arith in
-      let i : base + (k - 1) < length blocks = omega arith in
-      let row : take (n - (k - 1)) (drop (base + (k - 1)) blocks) ≡ at blocks (base + (k - 1)) ∷ take (n - k) (drop (base + k) blocks)
-      = rw (e, drop-cons blocks (base + (k - 1)) 0 i, d) refl in
-      rw (row, tab-before (λ p. rangesAt slots ranges (8 * g + p)) k n h l) refl
+      let i : base + (k - 1) < length loaded = omega arith in
+      let row : take (n - (k - 1)) (drop (base + (k - 1)) loaded) ≡ at loaded (base + (k - 1)) ∷ take (n - k) (drop (base + k) loaded)
+      = rw (e, drop-cons loaded (base + (k - 1)) 0 i, d) refl in
+      rw (row, tab-before (λ p. rangesAt loaded (8 * g + p)) k n h l) refl
 
   pub sum-whole : (k : ℕ) → k ≤ 0 →
-      let ks = map (signed 16) (take (at blocks (blockSize * g)) (drop (blockSize * g + 4 + entrySize * j) blocks)) in
-      sumFrom sign slots ranges blocks g j k ≡ dot ks (extreme sign ks (patternAt slots ranges g (at blocks (blockSize * g))))
+      let ks = map (signed 16) (take (at loaded (blockSize * g)) (drop (blockSize * g + 4 + entrySize * j) loaded)) in
+      sumFrom sign loaded g j k ≡ dot ks (extreme sign ks (patternAt loaded g (at loaded (blockSize * g))))
   unfolding patternAt
   sum-whole k h =
-      let n = at blocks (blockSize * g) in
+      let n = at loaded (blockSize * g) in
       let e : n - k ≡ n = omega arith in
       let d : blockSize * g + 4 + entrySize * j + k ≡ blockSize * g + 4 + entrySize * j = omega arith in
-      let ks : coefficientsFrom blocks g j k ≡ map (signed 16) (take n (drop (blockSize * g + 4 + entrySize * j) blocks)) = rw (e, d) refl in
-      rw (ks, tab-whole (λ p. rangesAt slots ranges (8 * g + p)) k n h) refl
+      let ks : coefficientsFrom loaded g j k ≡ map (signed 16) (take n (drop (blockSize * g + 4 + entrySize * j) loaded)) = rw (e, d) refl in
+      rw (ks, tab-whole (λ p. rangesAt loaded (8 * g + p)) k n h) refl
 
 -- refusal 7's test of an output character by the two differences
 module _ (ps : List (List Range)) (c : ℤ) (ks : List ℤ) {x : ℤ} (dotted : x ≡ dot ks (extreme true ks ps)) (p n : ℕ) (least : subℕ p n ≡ c +ℤ x) where
