@@ -38,35 +38,42 @@ tab-whole f k n h =
     let d : n - k ≡ n = omega arith in
     ap (λ m. tabFrom k m f) d ∙ ap (λ m. tabFrom m n f) e
 
--- an end of a list of ranges, taken from the last range to the first
-module _ (end : List Range → ℕ) (of : Range → ℕ) (op : ℕ → ℕ → ℕ) (one : (r : Range) → end (r ∷ []) ≡ of r)
-    (more : (r s : Range) (rs : List Range) → end (r ∷ (s ∷ rs)) ≡ op (of r) (end (s ∷ rs))) (f : ℕ → Range) where
-  end-last : (n : ℕ) → 0 < n → of (f (n - 1)) ≡ end (tabFrom (n - 1) (n - (n - 1)) f)
-  end-last n h = sym (ap end (tab-last f n h) ∙ one (f (n - 1)))
+-- the lowest or the highest character of a list of ranges, taken from the last range to the first
+abbrev pub endOf : Bool → List Range → ℕ
+endOf lowest rs = cond lowest (lowestOf rs) (highestOf rs)
 
-  end-before : (k n : ℕ) → 0 < k → k < n → op (of (f (k - 1))) (end (tabFrom k (n - k) f)) ≡ end (tabFrom (k - 1) (n - (k - 1)) f)
-  end-before k n h l =
-      let e : n - k ≡ suc (n - suc k) = omega arith in
-      sym (ap end (tab-before f k n h (omega arith)) ∙ rw e (more (f (k - 1)) (f k) (tabFrom (suc k) (n - suc k) f)))
+abbrev rangeEnd : Bool → Range → ℕ
+rangeEnd lowest r = cond lowest (r .lowest) (r .highest)
 
-module _ (f : ℕ → Range) where
-  pub lowest-last : (n : ℕ) → 0 < n → f (n - 1) .lowest ≡ lowestOf (tabFrom (n - 1) (n - (n - 1)) f)
-  unfolding lowestOf
-  lowest-last = end-last lowestOf (λ r. r .lowest) min (λ r. refl) (λ r s rs. refl) f
+abbrev outer : Bool → ℕ → ℕ → ℕ
+outer lowest a b = cond lowest (min a b) (max a b)
 
-  pub lowest-before : (k n : ℕ) → 0 < k → k < n →
-      min (f (k - 1) .lowest) (lowestOf (tabFrom k (n - k) f)) ≡ lowestOf (tabFrom (k - 1) (n - (k - 1)) f)
-  unfolding lowestOf
-  lowest-before = end-before lowestOf (λ r. r .lowest) min (λ r. refl) (λ r s rs. refl) f
+module _ (f : ℕ → Range) (n : ℕ) where
+  pub end-none : (lowest : Bool) → n ≡ 0 → 0 ≡ endOf lowest (tabFrom 0 n f)
+  unfolding lowestOf highestOf
+  end-none true e = rw e refl
+  end-none false e = rw e refl
 
-  pub highest-last : (n : ℕ) → 0 < n → f (n - 1) .highest ≡ highestOf (tabFrom (n - 1) (n - (n - 1)) f)
-  unfolding highestOf
-  highest-last = end-last highestOf (λ r. r .highest) max (λ r. refl) (λ r s rs. refl) f
+  pub end-last : (lowest : Bool) → 0 < n → rangeEnd lowest (f (n - 1)) ≡ endOf lowest (tabFrom (n - 1) (n - (n - 1)) f)
+  unfolding lowestOf highestOf
+  end-last true h = sym (ap lowestOf (tab-last f n h))
+  end-last false h = sym (ap highestOf (tab-last f n h))
 
-  pub highest-before : (k n : ℕ) → 0 < k → k < n →
-      max (f (k - 1) .highest) (highestOf (tabFrom k (n - k) f)) ≡ highestOf (tabFrom (k - 1) (n - (k - 1)) f)
-  unfolding highestOf
-  highest-before = end-before highestOf (λ r. r .highest) max (λ r. refl) (λ r s rs. refl) f
+  pub end-before : (lowest : Bool) (k : ℕ) → 0 < k → k < n →
+      outer lowest (rangeEnd lowest (f (k - 1))) (endOf lowest (tabFrom k (n - k) f)) ≡ endOf lowest (tabFrom (k - 1) (n - (k - 1)) f)
+  unfolding lowestOf highestOf
+  end-before lowest k h l = by-end lowest
+    where
+      rest : tabFrom (k - 1) (n - (k - 1)) f ≡ f (k - 1) ∷ (f k ∷ tabFrom (suc k) (n - suc k) f)
+      rest =
+          let e : n - k ≡ suc (n - suc k) = omega arith in tab-before f k n h (omega arith) ∙ ap (λ m. f (k - 1) ∷ tabFrom k m f) e
+
+      later : tabFrom k (n - k) f ≡ f k ∷ tabFrom (suc k) (n - suc k) f
+      later = let e : n - k ≡ suc (n - suc k) = omega arith in ap (λ m. tabFrom k m f) e
+
+      by-end : (b : Bool) → outer b (rangeEnd b (f (k - 1))) (endOf b (tabFrom k (n - k) f)) ≡ endOf b (tabFrom (k - 1) (n - (k - 1)) f)
+      by-end true = rw (rest, later) refl
+      by-end false = rw (rest, later) refl
 
 -- A difference, with a number added to either side.
 

@@ -13,20 +13,20 @@ use Rattle.rules.proofs.convert.convert_flat.Statement.{statement}
 use Rattle.rules.proofs.convert.convert_flat.Tie as tie
 
 abbrev Inv-loop : tie.InvT-loop
-Inv-loop slots ranges blocks rules defaulted input output₀ place₀ count₀ output place count =
-    Reached (tableAt slots ranges blocks rules defaulted) blocks input output₀ output place count × (length output ≡ length output₀)
+Inv-loop loaded rules defaulted input output₀ place₀ count₀ output place count =
+    Reached (tableAt loaded rules defaulted) blocks input output₀ output place count × (length output ≡ length output₀)
 
 abbrev μ-loop : tie.MeasureT-loop
-μ-loop slots ranges blocks rules defaulted input output₀ place₀ count₀ output place count = length input - place
+μ-loop loaded rules defaulted input output₀ place₀ count₀ output place count = length input - place
 
 -- the arrays as a table
 abbrev table : tie.Start Inv-loop μ-loop → Table
-table s = let a = s .args in tableAt (a .slots .now) (a .ranges .now) (a .blocks .now) (a .rules) (a .defaulted)
+table s = let a = s .args in tableAt (a .loaded .now) (a .rules) (a .defaulted)
 
 loop-holds : tie.Need-loop-holds Inv-loop μ-loop
 loop-holds c =
     let s = c .before .before .before .before .before in
-    (reached-start (table s) (s .args .blocks .now) (s .args .input .now) (s .args .output .now), refl)
+    (reached-start (table s) (s .args .loaded .now) (s .args .input .now) (s .args .output .now), refl)
 
 choose-at-requires : tie.Need-choose-at-requires Inv-loop μ-loop
 choose-at-requires c κs =
@@ -54,11 +54,11 @@ start c = c .before .before .before .before .before .before .before .before .bef
 
 taken :
     (c : tie.After-group Inv-loop μ-loop) →
-    Taken (table (start c)) (start c .args .blocks .now) (start c .args .input .now) (c .before .before .before .before .loop .place) (c .group .given .0 .0)
+    Taken (table (start c)) (start c .args .loaded .now) (start c .args .input .now) (c .before .before .before .before .loop .place) (c .group .given .0 .0)
 taken c =
     let s = start c in
     let called = c .before .before in
-    choice-taken (s .args .slots .now) (s .args .ranges .now) (s .args .blocks .now) (s .args .rules) (s .args .defaulted) (s .args .input .now)
+    choice-taken (s .args .loaded .now) (s .args .rules) (s .args .defaulted) (s .args .input .now)
     (called .before .before .loop .place) (c .group .given .0 .0) (s .pre .1 .0) (s .pre .1 .1 .0) (s .pre .1 .1 .1 .0) (called .before .loop-test .taken)
     (sym (called .choose-at .ensures) ∙ ap choiceOf (c .group .given .1))
 
