@@ -4,7 +4,7 @@ use mathlib.Core.List.{List, _++_}
 use mathlib.Core.Path.{_≡_, sym, ap, _∙_}
 use Prim.Native.Nat.{ℕ, _+_, _*_, _<_}
 use native.Mathlib.Omega.{arith}
-use lib.ListN.{length, take, set, length-append, List·getD-append}
+use lib.ListN.{length, take, set, length-append, length-set, List·getD-append}
 use lib.Seq.{getD-append-add, take-append-seam, set-append-left}
 use Rattle.meaning.specs.Table.{Table}
 use Rattle.meaning.specs.Block.{at, blockSize, blocksSize}
@@ -74,6 +74,20 @@ module _ {blocks slots ranges highs : List ℕ} (sized : Sized blocks slots rang
         let past : i ≡ length blocks + (length slots + (length ranges + j)) = omega (arith, sized .blocks, sized .slots, sized .ranges) in
         ap (λ k. set joined k v) past ∙ set-past blocks (slots ++ (ranges ++ highs)) (length slots + (length ranges + j)) v
         ∙ ap (λ l. blocks ++ l) (set-past slots (ranges ++ highs) (length ranges + j) v ∙ ap (λ l. slots ++ l) (set-past ranges highs j v))
+
+-- the parts keep their lengths
+module _ {b s r h : List ℕ} (sized : Sized b s r h) (i v : ℕ) where
+  pub sized-block : Sized (set b i v) s r h
+  sized-block = record { blocks = length-set b i v ∙ sized .blocks; slots = sized .slots; ranges = sized .ranges; highs = sized .highs }
+
+  pub sized-slot : Sized b (set s i v) r h
+  sized-slot = record { blocks = sized .blocks; slots = length-set s i v ∙ sized .slots; ranges = sized .ranges; highs = sized .highs }
+
+  pub sized-range : Sized b s (set r i v) h
+  sized-range = record { blocks = sized .blocks; slots = sized .slots; ranges = length-set r i v ∙ sized .ranges; highs = sized .highs }
+
+pub joined-same : {b b′ s s′ r r′ h h′ : List ℕ} → b ≡ b′ → s ≡ s′ → r ≡ r′ → h ≡ h′ → joinedWords b s r h ≡ joinedWords b′ s′ r′ h′
+joined-same p q u v = λ i. joinedWords (p i) (q i) (u i) (v i)
 
 -- the same of a table's array
 module _ (t : Table) where

@@ -12,11 +12,11 @@ use Rattle.rules.proofs.convert.expansion.Statement.{statement}
 use Rattle.rules.proofs.convert.expansion.Tie as tie
 
 abbrev Inv-loop : tie.InvT-loop
-Inv-loop blocks rules defaulted most₀ group₀ most group =
-    (group ≤ rules) × (most ≡ expansionFrom blocks group (cond defaulted (at loaded (32 * blockSize + 2)) 0)) × (most < 65536)
+Inv-loop loaded rules defaulted most₀ group₀ most group =
+    (group ≤ rules) × (most ≡ expansionFrom loaded group (cond defaulted (at loaded (32 * blockSize + 2)) 0)) × (most < 65536)
 
 abbrev μ-loop : tie.MeasureT-loop
-μ-loop blocks rules defaulted most₀ group₀ most group = rules - group
+μ-loop loaded rules defaulted most₀ group₀ most group = rules - group
 
 shared-slice-read-most : tie.Need-shared-slice-read-most Inv-loop μ-loop
 shared-slice-read-most c = omega arith
