@@ -174,11 +174,6 @@ module _ (t : Table) where
     pub reached-state : (k : ℕ) → getD (reachedAt t s k) s (initial t) ≡ getD (states t) s (initial t)
     reached-state k = reached-same k s (initial t) (reached-long k)
 
-    -- all class starts of state s done
-    pub reached-next : addedFrom t (getD (reachedAt t s 0) s (initial t)) (starts t) (reachedAt t s 0) ≡ reachedAt t (suc s) 0
-    unfolding reachedAt doneAt addedFrom
-    reached-next = ap (λ q. addedFrom t q (starts t) (doneAt t s)) (reached-state 0)
-
     module _ (k : ℕ) (j : k < length (starts t)) where
       pub met-final : metAt t s k ≡ successor t (getD (states t) s (initial t)) (getD (starts t) k 0)
       met-final = ap (λ q. successor t q (getD (starts t) k 0)) (reached-state k)
