@@ -11,15 +11,21 @@ ghost use Rattle.automaton.specs.Compile as Spec;
 ghost use Rattle.machine.specs.Compiled.{compiledOf};
 ghost use Rattle.machine.specs.bridge.Building.{longestAt, built};
 use crate::gather::gather_starts;
+use crate::layout::BLOCKS_FROM;
+use crate::layout::CLASS_COUNT;
+use crate::layout::DEFAULTED;
+use crate::layout::EXPANSION;
+use crate::layout::LONGEST;
+use crate::layout::RULE_COUNT;
+use crate::layout::STATE_COUNT;
+use crate::layout::WORDS;
 use crate::states::build_states;
 use rules::convert::expansion;
+use rules::layout::BLOCK;
+use rules::layout::BLOCKS;
 use rules::load::Load;
 use rules::load::load_table;
 use rules::reader::bit_of;
-use rules::layout::BLOCK;
-use rules::layout::BLOCKS;
-use crate::layout::BLOCKS_FROM;
-use crate::layout::WORDS;
 
 pub enum Compiled {
     Accepted,
@@ -82,12 +88,12 @@ fn put_header(
         ⌜ now (words .exit) ≡ (states ∷ classes ∷ longest ∷ expansion ∷ rules ∷ bit defaulted ∷ []) ++ drop classesFrom (now (words .entry)) ⌝ }
 {
     let last = bit_of(defaulted);
-    words[0] = states as u16;
-    words[1] = classes as u16;
-    words[2] = longest as u16;
-    words[3] = expansion as u16;
-    words[4] = rules as u16;
-    words[5] = last;
+    words[STATE_COUNT] = states as u16;
+    words[CLASS_COUNT] = classes as u16;
+    words[LONGEST] = longest as u16;
+    words[EXPANSION] = expansion as u16;
+    words[RULE_COUNT] = rules as u16;
+    words[DEFAULTED] = last;
 }
 
 // Refusals 8 and 9, then the words by the arrays of a table, into words that are 0.

@@ -11,8 +11,8 @@ ghost use Rattle.meaning.specs.bridge.Flat.{rangesAt, patternAt, tableAt, Flat}
 ghost use Rattle.automaton.specs.Classes.{edges, starts};
 ghost use Rattle.automaton.specs.bridge.Gathered.{placeIn, rangeFrom, Gathers, Gathered};
 ghost use Rattle.automaton.specs.Layout.{classesFrom, statesFrom};
-use rules::layout::BLOCK;
 use crate::layout::CLASSES_FROM;
+use rules::layout::BLOCK;
 
 // The place of `start` among the `count` rising words from word 6 on.
 fn place_of(words: &[u16], count: usize, start: u16) -> usize

@@ -9,14 +9,14 @@ ghost use Rattle.meaning.specs.Meaning.{covered};
 ghost use Rattle.meaning.specs.bridge.Flat.{Flat, expansionAt, flatConversion, flatText, flatDirect};
 ghost use Rattle.meaning.specs.Direct.{over, checked, direct};
 ghost use Rattle.rules.specs.Answers.{conversionOf, checkOf};
+use crate::layout::BLOCK;
+use crate::layout::BLOCKS;
+use crate::layout::DEFAULT_OUTPUTS;
 use crate::load::Load;
 use crate::load::load_table;
 use crate::output::write_group;
 use crate::pattern::Choice;
 use crate::pattern::choose_at;
-use crate::layout::BLOCK;
-use crate::layout::BLOCKS;
-use crate::layout::DEFAULT_OUTPUTS;
 
 // The place where a conversion ended and the characters written, or the refusal.
 pub enum Conversion {

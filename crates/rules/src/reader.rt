@@ -9,10 +9,10 @@ ghost use Rattle.meaning.specs.Record.{rule, range, output, term, default};
 ghost use Rattle.meaning.specs.Block.{bit, blockSize, blocksSize, entrySize};
 ghost use Rattle.rules.specs.bridge.Readings.{recordOf, stepOf};
 ghost use Rattle.rules.specs.bridge.Summary.{Fitting, started, rangesRead, gap, groupNumber, slotNumber, admit, admitted, ifAdmitted, ifTaken, slotsBy, rangesBy, blocksBy, constantsBy};
-use crate::record::Record;
 use crate::layout::BLOCK;
 use crate::layout::DEFAULT_BLOCK;
 use crate::layout::ENTRY;
+use crate::record::Record;
 
 // A summary of the table read so far: its last record's kind (0 for none), its rules, whether it has a default; and of its last group the
 // length, the positions that have a range, the last position's ranges and the highest character of the last of them, the output characters,

@@ -68,7 +68,7 @@ write-group-requires c κs =
     let g = b .group .given .0 .0 in
     let k = taken b in
     let flat = start b .pre .0 in (
-      (k .below, flat .blocks-length),
+      (k .below, omega (arith, flat .blocks-length)),
       (
         (flat .size g (k .below), flat .outputs g (k .below)),
         (k .room, reached-room (b .before .before .before .before .loop .inv .0) k (start b .pre .1 .1 .1 .1)),
