@@ -15,6 +15,7 @@ pub mod Choosing
 pub mod Writing
 pub mod Extremes
 pub mod Rows
+pub mod Loaded
 pub mod Numbers
 pub mod Stored
 pub mod Bare
