@@ -10,14 +10,14 @@ use Rattle.machine.proofs.sets.lowest_ending.Statement.{statement}
 use Rattle.machine.proofs.sets.lowest_ending.Tie as tie
 
 abbrev Inv-loop : tie.InvT-loop
-Inv-loop blocks rules set depth free rest₀ rule₀ rest rule = Sought (endsAt blocks depth free) rules set rule rest
+Inv-loop loaded rules set depth free rest₀ rule₀ rest rule = Sought (endsAt loaded depth free) rules set rule rest
 
 abbrev μ-loop : tie.MeasureT-loop
-μ-loop blocks rules set depth free rest₀ rule₀ rest rule = rest
+μ-loop loaded rules set depth free rest₀ rule₀ rest rule = rest
 
 -- the test of a rule, by the arguments
 abbrev test : tie.Start Inv-loop μ-loop → ℕ → Bool
-test s = let a = s .args in endsAt (a .blocks .now) (a .depth) (a .free)
+test s = let a = s .args in endsAt (a .loaded .now) (a .depth) (a .free)
 
 loop-holds : tie.Need-loop-holds Inv-loop μ-loop
 loop-holds c = let s = c .before in sought-start (test s) (s .args .rules) (s .args .set) (omega arith)
