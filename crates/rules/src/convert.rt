@@ -76,8 +76,7 @@ pub fn convert_flat(
     let mut place = 0;
     let mut count = 0;
     while place < input.len() {
-        let Choice::Group(group) = choose_at(loaded, rules, defaulted, input, place)
-        else {
+        let Choice::Group(group) = choose_at(loaded, rules, defaulted, input, place) else {
             return Conversion::Stopped { place, count };
         };
         count = write_group(&loaded[..BLOCKS], group, input, place, output, count);

@@ -2,7 +2,7 @@
 -- By one step of the definitions for each position, and the laws of sums over ℤ.
 use mathlib.Core.Bool.{Bool, true, false, not, cond, Bool·beq}
 use mathlib.Core.List.{List, [], _∷_, map}
-use mathlib.Core.Path.{_≡_, refl, sym, ap, _∙_, subst}
+use mathlib.Core.Path.{_≡_, refl, sym, ap, ap₂, _∙_, subst}
 use Prim.Native.Nat.{ℕ, zero, suc, _+_, _*_, _-_, _^_, min, max, _≤_, _<_}
 use native.Mathlib.Omega.{arith}
 use native.Mathlib.Nat.{mul-le-mul, zero-mul}
@@ -54,15 +54,15 @@ module _ (f : ℕ → Range) (n : ℕ) where
   end-none true e = rw e refl
   end-none false e = rw e refl
 
-  pub end-last : (lowest : Bool) → 0 < n → rangeEnd lowest (f (n - 1)) ≡ endOf lowest (tabFrom (n - 1) (n - (n - 1)) f)
+  pub end-last : (lowest : Bool) → 0 < n → {x : ℕ} → x ≡ rangeEnd lowest (f (n - 1)) → x ≡ endOf lowest (tabFrom (n - 1) (n - (n - 1)) f)
   unfolding lowestOf highestOf
-  end-last true h = sym (ap lowestOf (tab-last f n h))
-  end-last false h = sym (ap highestOf (tab-last f n h))
+  end-last true h e = e ∙ sym (ap lowestOf (tab-last f n h))
+  end-last false h e = e ∙ sym (ap highestOf (tab-last f n h))
 
-  pub end-before : (lowest : Bool) (k : ℕ) → 0 < k → k < n →
-      outer lowest (rangeEnd lowest (f (k - 1))) (endOf lowest (tabFrom k (n - k) f)) ≡ endOf lowest (tabFrom (k - 1) (n - (k - 1)) f)
+  pub end-before : (lowest : Bool) (k : ℕ) → 0 < k → k < n → {x y z : ℕ} → x ≡ outer lowest y z → y ≡ rangeEnd lowest (f (k - 1)) →
+      z ≡ endOf lowest (tabFrom k (n - k) f) → x ≡ endOf lowest (tabFrom (k - 1) (n - (k - 1)) f)
   unfolding lowestOf highestOf
-  end-before lowest k h l = by-end lowest
+  end-before lowest k h l {x} {y} {z} p q r = p ∙ ap₂ (outer lowest) q r ∙ by-end lowest
     where
       rest : tabFrom (k - 1) (n - (k - 1)) f ≡ f (k - 1) ∷ (f k ∷ tabFrom (suc k) (n - suc k) f)
       rest =

@@ -257,11 +257,15 @@ module _ {t : Table} {loaded input buffer output : List ℕ} {place count : ℕ}
     unfolding textOf
     text-after = text-append (groupText (blocksOf loaded)) (r .log) (emission ∷ []) ∙ ap (λ u. flatText loaded (r .log) ++ u) (append-nil more)
 
+    -- the group's numbers among the blocks alone
+    pub block-size : at (blocksOf loaded) (blockSize * g) ≡ at loaded (blockSize * g)
+    block-size = let h : g < 33 = k .below in getD-take blocksSize loaded (blockSize * g) 0 (omega arith)
+
+    pub block-count : at (blocksOf loaded) (blockSize * g + 2) ≡ at loaded (blockSize * g + 2)
+    block-count = let h : g < 33 = k .below in getD-take blocksSize loaded (blockSize * g + 2) 0 (omega arith)
+
     more-length : length more ≡ at loaded (blockSize * g + 2)
-    more-length =
-        let h : g < 33 = k .below in
-        output-length (drop (blockSize * g) (blocksOf loaded)) (emission .word) ∙ group-count (blocksOf loaded) g
-        ∙ getD-take blocksSize loaded (blockSize * g + 2) 0 (omega arith)
+    more-length = output-length (drop (blockSize * g) (blocksOf loaded)) (emission .word) ∙ group-count (blocksOf loaded) g ∙ block-count
 
     count-after : length (flatText loaded (r .log ++ emission ∷ [])) ≡ count + at loaded (blockSize * g + 2)
     count-after = ap length text-after ∙ length-append (flatText loaded (r .log)) more ∙ ap₂ (λ a b. a + b) (r .counted) more-length
@@ -276,8 +280,11 @@ module _ {t : Table} {loaded input buffer output : List ℕ} {place count : ℕ}
         let fits : length (flatText loaded (r .log)) ≤ length buffer = omega (arith, whole, count-after, r .counted, l) in
         omega (arith, whole, count-after, l, ap length (r .written) ∙ over-whole (flatText loaded (r .log)) buffer fits)
 
-    pub reached-step : (output′ : List ℕ) (count′ : ℕ) → count′ ≡ count + at loaded (blockSize * g + 2) →
-        output′ ≡ take count output ++ more ++ drop (count + at loaded (blockSize * g + 2)) output →
+    pub reached-step : (output′ : List ℕ) (count′ : ℕ) → count′ ≡ count + at (blocksOf loaded) (blockSize * g + 2) →
+        output′
+        ≡ take count output
+        ++ groupText (blocksOf loaded) g (take (at (blocksOf loaded) (blockSize * g)) (drop place input))
+        ++ drop (count + at (blocksOf loaded) (blockSize * g + 2)) output →
         Reached t loaded input buffer output′ (place + at loaded (blockSize * g)) count′
     unfolding covered
     reached-step output′ count′ q e =
@@ -290,9 +297,10 @@ module _ {t : Table} {loaded input buffer output : List ℕ} {place count : ℕ}
           closed = r .closed ∙ ap (λ c. c .closed) after;
           within = k .room;
           placed = omega (arith, covered-append (r .log) (emission ∷ []), r .placed, word);
-          counted = count-after ∙ sym q;
+          counted = count-after ∙ sym (q ∙ ap (λ n. count + n) block-count);
           written =
-              e ∙ ap (λ o. take count o ++ more ++ drop (count + at loaded (blockSize * g + 2)) o) (r .written)
+              e ∙ ap₂ (λ n m. take count output ++ groupText (blocksOf loaded) g (take n (drop place input)) ++ drop (count + m) output) block-size block-count
+              ∙ ap (λ o. take count o ++ more ++ drop (count + at loaded (blockSize * g + 2)) o) (r .written)
               ∙ ap₂ (λ c m. take c (over text buffer) ++ more ++ drop (c + m) (over text buffer)) (sym (r .counted)) (sym more-length)
               ∙ over-more text more buffer ∙ ap (λ u. over u buffer) (sym text-after);
         }

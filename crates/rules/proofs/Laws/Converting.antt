@@ -23,7 +23,7 @@ use Rattle.meaning.specs.Value.{fitsWord, SafeTable}
 use Rattle.meaning.specs.Reader.{readTable}
 use Rattle.meaning.specs.Block.{at, block, blockOutput, blockSize}
 use Rattle.meaning.specs.Meaning.{best, orDefault, choose, written, Emission, textOf, Conversion, convertBy, convertFrom, convert, meaningText, covered}
-use Rattle.meaning.specs.Direct.{limit, DirectOutcome, over, admitted, directBy, checked, direct}
+use Rattle.meaning.specs.Direct.{limit, Converted, DirectOutcome, over, admitted, directBy, checked, direct}
 use Rattle.meaning.specs.bridge.Flat.{blockWords, loadedWords, expansionFrom, expansionAt, flatConversion, flatText, flatDirect, Flat}
 use Rattle.rules.specs.bridge.Readings.{LoadedBy}
 use Rattle.rules.specs.declared.load.Load.{Load}
@@ -84,12 +84,14 @@ module _ (loaded : List ℕ) (n : ℕ) (d : Bool) (input buffer : List ℕ) wher
     unfolding flatDirect select
     flat-narrow h = rw (le-ltb limit (length input) short, lt-ltb (length buffer) (expansionAt loaded n d * length input) h) (refl, refl)
 
-    pub flat-converted : expansionAt loaded n d * length input ≤ length buffer →
+    pub flat-converted : {r : Outcome Converted} {o : List ℕ} → expansionAt loaded n d * length input ≤ length buffer →
         let whole = flatConversion loaded n d input in
         let text = flatText loaded (whole .log) in
-        outcome ≡ record { answer = accepted (record { closed = whole .closed; place = covered (whole .log); count = length text }); output = over text buffer }
+        r ≡ accepted (record { closed = whole .closed; place = covered (whole .log); count = length text }) →
+        o ≡ over text buffer → (r ≡ outcome .answer) × (o ≡ outcome .output)
     unfolding flatDirect select
-    flat-converted h = rw (le-ltb limit (length input) short, le-ltb (length buffer) (expansionAt loaded n d * length input) h) refl
+    flat-converted h p q =
+        rw (le-ltb limit (length input) short, le-ltb (length buffer) (expansionAt loaded n d * length input) h) (p, q)
 
     pub expansion-fits : expansionAt loaded n d ≤ 8 → expansionAt loaded n d * length input ≤ 8796093022208
     expansion-fits h = let a : expansionAt loaded n d * length input ≤ 8 * length input = mul-le-mul-right (length input) h in omega (arith, short)
@@ -321,8 +323,11 @@ module _ (b : List ℕ) where
       pub loaded-ready : Each (λ x. x < 256) b → (input : List ℕ) → Characters input → Ready loaded n d input
       loaded-ready bytes input c = of-read (λ l n d. Ready l n d input) (λ t e. read-ready t e bytes input c)
 
-      pub loaded-direct : Each (λ x. x < 256) b → (input buffer : List ℕ) → Characters input → flatDirect loaded n d input buffer ≡ direct b input buffer
-      loaded-direct bytes input buffer c = of-read (λ l n d. flatDirect l n d input buffer ≡ direct b input buffer) (λ t e. read-direct t e bytes input buffer c)
+      pub loaded-direct : {r : Outcome Converted} {o : List ℕ} → Each (λ x. x < 256) b → (input buffer : List ℕ) → Characters input →
+          r ≡ flatDirect loaded n d input buffer .answer → o ≡ flatDirect loaded n d input buffer .output → (r ≡ direct b input buffer .answer) × (o ≡ direct b input buffer .output)
+      loaded-direct {r} {o} bytes input buffer c p q =
+          subst (λ x. (r ≡ x .answer) × (o ≡ x .output))
+          (of-read (λ l n d. flatDirect l n d input buffer ≡ direct b input buffer) (λ t e. read-direct t e bytes input buffer c)) (p, q)
 
       pub loaded-checked : accepted tt ≡ checked b
       unfolding andThen

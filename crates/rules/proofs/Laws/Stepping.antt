@@ -1,6 +1,6 @@
 -- Taking in one record: the summary's numbers stay within their limits, the array keeps its length, and what is written has its place.
 -- By the tests that the record has passed.
-use mathlib.Core.Bool.{Bool, true, false, _&&_, _||_, not, cond, true≢false}
+use mathlib.Core.Bool.{Bool, true, false, _&&_, _||_, not, true≢false}
 use mathlib.Core.List.{List}
 use mathlib.Core.Logic.{_≢_}
 use mathlib.Core.Option.{Option, none, some}

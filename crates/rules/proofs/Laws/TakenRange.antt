@@ -3,18 +3,17 @@
 use mathlib.Core.Bool.{Bool, true, false, _&&_, _||_, not, cond}
 use mathlib.Core.List.{List, [], _∷_, _++_}
 use mathlib.Core.Logic.{_≢_}
-use mathlib.Core.Path.{_≡_, refl, sym, ap, ap₂, subst, _∙_}
+use mathlib.Core.Path.{_≡_, refl, sym, ap, subst, _∙_}
 use Prim.Native.Nat.{ℕ, suc, _+_, _*_, _≤_, _<_}
 use native.Mathlib.Omega.{arith}
 use lib.Dec.{T, eqb, leb, ltb, eqb-refl, nleb→lt, nltb→le}
-use lib.IntN.{pos}
 use lib.ListN.{length, set, length-append}
 use Rattle.lists.specs.Lists.{Each, atLast, lastD, isSome}
 use Rattle.lists.proofs.Laws.Tests.{not-not, or-none, either, neqb→ne}
 use Rattle.lists.proofs.Laws.Each.{each-append}
-use Rattle.meaning.specs.Table.{Range, sum, Group}
+use Rattle.meaning.specs.Table.{Range, Group}
 use Rattle.meaning.specs.Record.{range}
-use Rattle.meaning.specs.Reader.{Reading, latest, reach, ranging, misplaced, skipping, tooMany, addRange, changeRanges, taken}
+use Rattle.meaning.specs.Reader.{Reading, latest, ranging, misplaced, skipping, tooMany, addRange, changeRanges, taken}
 use Rattle.meaning.specs.Block.{block, blockSize}
 use Rattle.rules.specs.bridge.Summary.{slotNumber, rangedTo, next, rangePut, loadedBy}
 use Rattle.meaning.specs.bridge.Flat.{slotWords, rangeWords, blockWords, highWords, loadedWords, slotsFrom, rangesFrom}

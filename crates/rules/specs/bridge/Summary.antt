@@ -8,7 +8,7 @@ use lib.Dec.{T, eqb, leb, ltb}
 use lib.ListN.{take, drop, set}
 use Rattle.lists.specs.Decide.{select}
 use Rattle.meaning.specs.Refusal.{Outcome, refused, accepted}
-use Rattle.meaning.specs.Table.{Range, defaultNumber}
+use Rattle.meaning.specs.Table.{defaultNumber}
 use Rattle.meaning.specs.Block.{bit, blockSize, entrySize}
 use Rattle.meaning.specs.Record.{Record, rule, range, output, term, default, decode}
 use Rattle.meaning.specs.bridge.Flat.{slotsFrom, rangesFrom, highsFrom}

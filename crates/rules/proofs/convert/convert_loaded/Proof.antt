@@ -1,6 +1,6 @@
 -- `rules::convert::convert_loaded` meets its contract: the two tests are those of refusals 14 and 15, and the text then has room.
 -- No group writes more than 8 characters, so the product cannot overflow.
-use mathlib.Core.Path.{sym, ap, subst, _∙_}
+use mathlib.Core.Path.{subst}
 use Prim.Native.Nat.{_*_, _≤_, _<_}
 use native.Mathlib.Omega.{arith}
 use borrow.Author.Needs.{needs}
@@ -47,9 +47,10 @@ same-length c = search needs
 returns-3 : tie.Need-returns-3
 returns-3 c =
     let done = c .before .before in
-    let a = done .before .before .before .before .before .before .before .before .args in
-    let e = flat-converted (a .loaded .now) (a .rules) (a .defaulted) (a .input .now) (a .output .now) (done .before .before .before .before .if1 .left) (wide (done .before .before)) in
-    (done .convert-flat .ensures .0 ∙ sym (ap (λ o. o .answer) e), done .convert-flat .ensures .1 ∙ sym (ap (λ o. o .output) e))
+    let passed = done .before .before in
+    let a = passed .before .before .before .before .before .before .args in
+    flat-converted (a .loaded .now) (a .rules) (a .defaulted) (a .input .now) (a .output .now) (passed .before .before .if1 .left) (wide passed)
+    (done .convert-flat .ensures .0) (done .convert-flat .ensures .1)
 
 pub convert-loaded-spec : {M : Type 1} → statement M
 convert-loaded-spec =

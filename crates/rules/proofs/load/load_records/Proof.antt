@@ -1,53 +1,81 @@
+-- `rules::load::load_records` meets its contract. The invariant: the records before this one are taken, and leave the work that is left.
+-- The measure is the bytes left. Assumes nothing.
+use mathlib.Core.Path.{sym, ap, _∙_}
+use Prim.Native.Nat.{_-_}
+use native.Mathlib.Omega.{arith}
+use borrow.Author.Needs.{needs}
+use lib.ListN.{length}
+use Rattle.rules.specs.bridge.Readings.{recordOf, stepOf}
+use Rattle.rules.proofs.Laws.Loading.{Passed, passed-start, passed-room, passed-end, passed-stop, passed-on, each-known}
 use Rattle.rules.proofs.load.load_records.Statement.{statement}
 use Rattle.rules.proofs.load.load_records.Tie as tie
-use Rattle.rules.proofs.reader.start.Reads as start-reads
-use Rattle.rules.proofs.reader.take_record.Reads as take-record-reads
-use Rattle.rules.proofs.record.record_at.Reads as record-at-reads
 
 abbrev Inv-loop : tie.InvT-loop
-Inv-loop table loaded₀ reader₀ at₀ loaded reader at = ?
+Inv-loop table loaded₀ reader₀ at₀ loaded reader at = Passed table loaded₀ loaded reader at
 
 abbrev μ-loop : tie.MeasureT-loop
-μ-loop table loaded₀ reader₀ at₀ loaded reader at = ?
+μ-loop table loaded₀ reader₀ at₀ loaded reader at = length table - at
 
 start-requires : tie.Need-start-requires Inv-loop μ-loop
-start-requires c κs = ?
+start-requires c κs = search needs
 
 loop-holds : tie.Need-loop-holds Inv-loop μ-loop
-loop-holds c = ?
+loop-holds c =
+    let s = c .before .before .before in
+    rw (c .start .ensures) (passed-start (s .args .table .now) _ (s .pre .0) (s .pre .1))
 
 record-at-requires : tie.Need-record-at-requires Inv-loop μ-loop
-record-at-requires c κs = ?
+record-at-requires c κs = passed-room (c .before .loop .inv) (c .loop-test .taken)
 
 take-record-requires : tie.Need-take-record-requires Inv-loop μ-loop
-take-record-requires c κs = ?
+take-record-requires c κs =
+    let inv = c .before .before .before .loop .inv in
+    (inv .fitting, inv .sized)
 
 enum-known-step : tie.Need-enum-known-step Inv-loop μ-loop
-enum-known-step c = ?
+enum-known-step c = search needs
 
 same-length : tie.Need-same-length Inv-loop μ-loop
-same-length c = ?
+same-length c = search needs
 
 returns : tie.Need-returns Inv-loop μ-loop
-returns c = ?
+returns c =
+    let turn = c .before .before .before .before .before in
+    let read = turn .before .before in
+    let in-loop = read .before in
+    let done = turn .take-record .ensures in
+    passed-stop (in-loop .before .loop .inv) (in-loop .loop-test .taken) (recordOf (read .record-at .result)) (read .record-at .ensures)
+    (done .1) (c .before .step .given .0 .0) (sym (ap stepOf (c .before .step .given .1)) ∙ done .0)
 
 enum-known-step-2 : tie.Need-enum-known-step-2 Inv-loop μ-loop
-enum-known-step-2 c = ?
+enum-known-step-2 c = search needs
 
 add-at : tie.Need-add-at Inv-loop μ-loop
-add-at c = ?
+add-at c =
+    let in-loop = c .before .before .before .before .before .before .before .before in
+    let at-loop = in-loop .before in
+    omega (arith, passed-room (at-loop .loop .inv) (in-loop .loop-test .taken), at-loop .before .before .before .before .good .0)
 
 loop-less : tie.Need-loop-less Inv-loop μ-loop
-loop-less c = ?
+loop-less c = omega arith
 
 loop-again : tie.Need-loop-again Inv-loop μ-loop
-loop-again c = ?
+loop-again c =
+    let turn = c .before .before .before .before .before in
+    let read = turn .before .before in
+    let in-loop = read .before in
+    let entered = in-loop .before .before .before .before in
+    let done = turn .take-record .ensures in
+    passed-on (in-loop .before .loop .inv) (in-loop .loop-test .taken) (recordOf (read .record-at .result)) (read .record-at .ensures)
+    (done .1) (c .before .step2 .given .0 .0)
+    (each-known 256 (entered .before .args .table .now) (λ i. omega (arith, entered .shared-slice-known .given i)))
+    (sym (ap stepOf (c .before .step2 .given .1)) ∙ done .0)
 
 same-length-2 : tie.Need-same-length-2 Inv-loop μ-loop
-same-length-2 c = ?
+same-length-2 c = search needs
 
 returns-2 : tie.Need-returns-2 Inv-loop μ-loop
-returns-2 c = ?
+returns-2 c = passed-end (c .before .loop .inv) (c .loop-test .left)
 
 pub load-records-spec : {M : Type 1} → statement M
 load-records-spec =

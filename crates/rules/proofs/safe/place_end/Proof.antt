@@ -1,8 +1,7 @@
 -- `place_end` meets its contract: the loop goes from the last range to the first, and keeps the lowest or highest character of those passed.
 -- The measure is the number of the ranges left.
-use mathlib.Core.Bool.{cond}
-use mathlib.Core.Path.{_≡_, ap, ap₂, _∙_}
-use Prim.Native.Nat.{min, max, _+_, _-_, _<_}
+use mathlib.Core.Path.{_≡_, ap, _∙_}
+use Prim.Native.Nat.{_+_, _-_, _<_}
 use native.Mathlib.Omega.{arith}
 use denote.Ref.{now}
 use Rattle.lists.specs.Lists.{tabFrom}
@@ -46,7 +45,7 @@ range-end-requires c κs = (omega arith, omega arith, omega arith)
 loop-holds : tie.Need-loop-holds Inv-loop μ-loop
 loop-holds c =
     let a = c .before .before .before .before .args in
-    (omega arith, c .range-end .ensures ∙ end-last (rangeAt (now (a .loaded)) (a .place)) (at (now (a .loaded)) (slotsFrom + a .place)) (a .lowest) (omega arith))
+    (omega arith, end-last (rangeAt (now (a .loaded)) (a .place)) (at (now (a .loaded)) (slotsFrom + a .place)) (a .lowest) (omega arith) (c .range-end .ensures))
 
 sub-k-2 : tie.Need-sub-k-2 Inv-loop μ-loop
 sub-k-2 c = omega arith
@@ -63,13 +62,10 @@ loop-less c = omega arith
 loop-again : tie.Need-loop-again Inv-loop μ-loop
 loop-again c =
     let a = c .before .before .before .before .before .before .before .before .args in
-    let here = c .before .before .before .loop in
-    let f = rangeAt (now (a .loaded)) (a .place) in
-    let n = at (now (a .loaded)) (slotsFrom + a .place) in (
+    let here = c .before .before .before .loop in (
       omega arith,
-      c .outer .ensures
-          ∙ ap₂ (λ x y. cond (a .lowest) (min x y) (max x y)) (c .before .range-end2 .ensures) (here .inv .1)
-          ∙ end-before f n (a .lowest) (here .k) (omega arith) (omega arith),
+      end-before (rangeAt (now (a .loaded)) (a .place)) (at (now (a .loaded)) (slotsFrom + a .place)) (a .lowest) (here .k) (omega arith) (omega arith)
+          (c .outer .ensures) (c .before .range-end2 .ensures) (here .inv .1),
     )
 
 returns-2 : tie.Need-returns-2 Inv-loop μ-loop
