@@ -86,7 +86,8 @@ module _ (w : List ℕ) (g : ℕ) where
   blocks-count = blocks-at 2 (blockSize * g + 2) refl
 
   -- what the block writes, in the place of other words
-  pub blocks-written : (store out : List ℕ) (n : ℕ) →
-      take n out ++ blockOutput (drop (blockSize * g) (blocksOf w)) (take (at (blocksOf w) (blockSize * g)) store) ++ drop (n + at (blocksOf w) (blockSize * g + 2)) out
-      ≡ take n out ++ blockOutput (blockAt w g) (take (at (blockAt w g) 0) store) ++ drop (n + at (blockAt w g) 2) out
-  blocks-written store out n = rw (blocks-size, blocks-count, blocks-block) refl
+  pub blocks-written : (store out after : List ℕ) (n : ℕ) →
+      after
+      ≡ take n out ++ blockOutput (drop (blockSize * g) (blocksOf w)) (take (at (blocksOf w) (blockSize * g)) store) ++ drop (n + at (blocksOf w) (blockSize * g + 2)) out →
+      after ≡ take n out ++ blockOutput (blockAt w g) (take (at (blockAt w g) 0) store) ++ drop (n + at (blockAt w g) 2) out
+  blocks-written store out after n e = e ∙ rw (blocks-size, blocks-count, blocks-block) refl

@@ -79,14 +79,14 @@ module _ (blocks : List ℕ) (g : ℕ) where
   pub group-count : at (drop (blockSize * g) blocks) 2 ≡ at blocks (blockSize * g + 2)
   group-count = getD-drop (blockSize * g) blocks 2 0
 
-  pub entry-sum : (j : ℕ) (w : List ℕ) →
-      entryValue (drop (blockSize * g) blocks) j w
-      ≡ wordSum (at blocks (blockSize * g + 3 + entrySize * j)) (take (at blocks (blockSize * g)) (drop (blockSize * g + 3 + entrySize * j + 1) blocks)) w
+  pub entry-sum : (j : ℕ) (w : List ℕ) (v : ℕ) → length w ≡ at blocks (blockSize * g) →
+      v ≡ wordSum (at blocks (blockSize * g + 3 + entrySize * j)) (take (length w) (drop (blockSize * g + 3 + entrySize * j + 1) blocks)) w →
+      v ≡ entryValue (drop (blockSize * g) blocks) j w
   unfolding entryValue
-  entry-sum j w =
+  entry-sum j w v size e =
       let c : blockSize * g + (3 + entrySize * j) ≡ blockSize * g + 3 + entrySize * j = omega arith in
       let a : blockSize * g + (4 + entrySize * j) ≡ blockSize * g + 3 + entrySize * j + 1 = omega arith in
-      rw (getD-drop (blockSize * g) blocks (3 + entrySize * j) 0, c, getD-drop (blockSize * g) blocks 0 0, add-zero (blockSize * g), drop-drop (4 + entrySize * j) (blockSize * g) blocks, a)
+      rw (getD-drop (blockSize * g) blocks (3 + entrySize * j) 0, c, getD-drop (blockSize * g) blocks 0 0, add-zero (blockSize * g), drop-drop (4 + entrySize * j) (blockSize * g) blocks, a, ← size) e
 
 -- what a log in two parts writes and covers
 pub text-append : (write : ℕ → List ℕ → List ℕ) (a b : List Emission) → textOf write (a ++ b) ≡ textOf write a ++ textOf write b

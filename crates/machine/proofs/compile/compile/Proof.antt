@@ -17,7 +17,7 @@ use Rattle.meaning.specs.bridge.Flat.{loadedSize}
 -- where the table has been loaded: the words cleared, the function's entry, the bytes
 
 abbrev clearing : tie.After-load-table → tie.After-clear
-clearing l = l .before .before .before .before .before .before
+clearing l = l .before .before .before .before
 
 abbrev start : tie.After-load-table → tie.Start
 start l = clearing l .before .before .before .before .before
@@ -51,8 +51,8 @@ slice-aggregate-build c = search needs
 
 build-requires : tie.Need-build-requires
 build-requires c κs =
-    let l = c .before .before .before .before .before .before .before .before .before .before in
-    let told = c .before .before .before .before .before .load2 .given in
+    let l = c .before .before .before .before .before .before in
+    let told = c .before .before .before .load2 .given in
     let a = start l .args in
     let k = clearing l .clear in (
       compile-flat (a .table .now) (a .words .now) (room l) (l .load-table .result) _ (l .load-table .ensures) (told .0 .0) (told .0 .1 .0) (told .1) (bytes l),
@@ -64,7 +64,7 @@ same-length c = search needs
 
 returns-2 : tie.Need-returns-2
 returns-2 c =
-    let l = c .before .before .before .before .before .before in
+    let l = c .before .before .before .before in
     let a = start l .args in
     let e = compile-refused (a .table .now) (a .words .now) (room l) (l .load-table .result) _ (l .load-table .ensures) (c .before .load .given .0 .0) (c .before .load .given .1) in
     (e .0, clearing l .clear .ensures ∙ e .1)
@@ -75,8 +75,8 @@ same-length-2 c = search needs
 returns-3 : tie.Need-returns-3
 returns-3 c =
     let done = c .before .before in
-    let l = done .before .before .before .before .before .before .before .before .before .before .before in
-    let told = done .before .before .before .before .before .before .load2 .given in
+    let l = done .before .before .before .before .before .before .before in
+    let told = done .before .before .before .before .load2 .given in
     let a = start l .args in
     let k = clearing l .clear in
     let e = compile-built (a .table .now) (a .words .now) (room l) (l .load-table .result) _ (l .load-table .ensures) (told .0 .0) (told .0 .1 .0) (told .1) (bytes l) (k .last .0) (cleared-back (a .words .now) (k .last .0) (k .ensures)) in

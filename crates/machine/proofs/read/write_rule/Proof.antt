@@ -49,7 +49,7 @@ returns c =
     let w = a .words .now in
     let known = c .before .before .write-group .ensures in (
       known .0 ∙ ap (λ n. a .count + n) (blocks-count w (a .group)),
-      known .1 ∙ blocks-written w (a .group) (a .store .now) (a .output .now) (a .count),
+      blocks-written w (a .group) (a .store .now) (a .output .now) _ (a .count) (known .1),
     )
 
 pub write-rule-spec : {M : Type 1} → statement M

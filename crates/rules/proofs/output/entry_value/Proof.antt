@@ -1,10 +1,6 @@
 -- `rules::output::entry_value` meets its contract: the entry's constant and coefficients stand at its place in the block.
 -- Assumes nothing.
-use mathlib.Core.Path.{sym, ap, _∙_}
-use Prim.Native.Nat.{_+_, _*_}
 use borrow.Author.Needs.{needs}
-use lib.ListN.{take, drop}
-use Rattle.meaning.specs.Block.{at, wordSum, blockSize, entrySize}
 use Rattle.meaning.proofs.Laws.Writing.{entry-sum}
 use Rattle.rules.proofs.output.entry_value.Statement.{statement}
 use Rattle.rules.proofs.output.entry_value.Tie as tie
@@ -28,10 +24,7 @@ returns : tie.Need-returns
 returns c =
     let s = c .before .before .before in
     let a = s .args in
-    let b = a .blocks .now in
-    let w = a .word .now in
-    let from = blockSize * a .group + 3 + entrySize * a .entry in
-    c .sum-at .ensures ∙ ap (λ n. wordSum (at b from) (take n (drop (from + 1) b)) w) (s .pre .1 .0) ∙ sym (entry-sum b (a .group) (a .entry) w)
+    entry-sum (a .blocks .now) (a .group) (a .entry) (a .word .now) (c .sum-at .result) (s .pre .1 .0) (c .sum-at .ensures)
 
 pub entry-value-spec : {M : Type 1} → statement M
 entry-value-spec =
