@@ -6,8 +6,10 @@ pub const BLOCK: usize = 3 + 8 * ENTRY;
 
 pub const BLOCKS: usize = 33 * BLOCK;
 
-// The default's block, which is the last, and its output count.
-pub const DEFAULT_BLOCK: usize = 32 * BLOCK;
+// The default's group, which is the last, its block, and its output count.
+pub const DEFAULT_GROUP: usize = 32;
+
+pub const DEFAULT_BLOCK: usize = DEFAULT_GROUP * BLOCK;
 
 pub const DEFAULT_OUTPUTS: usize = DEFAULT_BLOCK + 2;
 

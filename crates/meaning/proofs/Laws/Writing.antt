@@ -14,7 +14,7 @@ use lib.Seq.{length-take-le, take-all, take-append-seam, drop-append-add, drop-c
 use Rattle.lists.specs.Lists.{tabFrom, orElse}
 use Rattle.lists.proofs.Laws.Tests.{of-cond}
 use Rattle.meaning.specs.Table.{Table, everyCharacter, ruleAt, defaultNumber, group}
-use Rattle.meaning.specs.Block.{at, wordSum, blockOutput, blockSize, blocksSize, entrySize}
+use Rattle.meaning.specs.Block.{at, wordSum, entryValue, blockOutput, blockSize, blocksSize, entrySize}
 use Rattle.meaning.specs.Meaning.{best, orDefault, choose, Emission, textOf, covered, chosen, convertBy, convertFrom, convert}
 use Rattle.meaning.specs.bridge.Flat.{rangesAt, patternAt, groupAt, tableAt, blocksOf, flatText}
 use Rattle.meaning.specs.Refusal.{Outcome, accepted}
@@ -29,63 +29,64 @@ pub product-fits : {a c : ℕ} → a < 65536 → c < 65536 → a * c < 2 ^ 32
 product-fits {a} h k = lt-of-le-of-lt {m = a * 65536} (mul-le-mul-left a (le-of-lt k)) (omega arith)
 
 -- what a sum comes to from v on, i coefficients after its first
-abbrev pub sumLeft : List ℕ → ℕ → ℕ → List ℕ → ℕ → ℕ → ℕ → ℕ
-sumLeft blocks entry size input place i v = wordSum v (take (size - i) (drop (entry + 1 + i) blocks)) (take (size - i) (drop (place + i) input))
+abbrev pub sumLeft : List ℕ → ℕ → List ℕ → ℕ → ℕ → ℕ
+sumLeft blocks entry word i v = wordSum v (take (length word - i) (drop (entry + 1 + i) blocks)) (drop i word)
 
-module _ (blocks : List ℕ) (entry size : ℕ) (input : List ℕ) (place : ℕ) where
-  pub sum-starts : (v : ℕ) → wordSum v (take size (drop (entry + 1) blocks)) (take size (drop place input)) ≡ sumLeft blocks entry size input place 0 v
-  sum-starts v = let s : size - 0 ≡ size = omega arith in rw (s, add-zero (entry + 1), add-zero place)
+module _ (blocks : List ℕ) (entry : ℕ) (word : List ℕ) where
+  pub sum-starts : (v : ℕ) → wordSum v (take (length word) (drop (entry + 1) blocks)) word ≡ sumLeft blocks entry word 0 v
+  sum-starts v = let s : length word - 0 ≡ length word = omega arith in rw (s, add-zero (entry + 1))
 
-  pub sum-goes-on : (i v : ℕ) → entry + 1 + size ≤ length blocks → place + size ≤ length input → i < size →
-      sumLeft blocks entry size input place i v
-      ≡ sumLeft blocks entry size input place (i + 1) ((v + at blocks (entry + 1 + i) * at input (place + i)) % 65536)
+  pub sum-goes-on : (i v : ℕ) → entry + 1 + length word ≤ length blocks → i < length word →
+      sumLeft blocks entry word i v ≡ sumLeft blocks entry word (i + 1) ((v + at blocks (entry + 1 + i) * at word i) % 65536)
   unfolding wordSum
-  sum-goes-on i v h k l =
-      let s : size - i ≡ suc (size - (i + 1)) = omega arith in
+  sum-goes-on i v h l =
+      let s : length word - i ≡ suc (length word - (i + 1)) = omega arith in
       let a : entry + 1 + (i + 1) ≡ suc (entry + 1 + i) = omega arith in
-      let b : place + (i + 1) ≡ suc (place + i) = omega arith in
       let p : entry + 1 + i < length blocks = omega arith in
-      let q : place + i < length input = omega arith in
-      rw (s, a, b, drop-cons blocks (entry + 1 + i) 0 p, drop-cons input (place + i) 0 q)
+      rw (s, a, add-one i, drop-cons blocks (entry + 1 + i) 0 p, drop-cons word i 0 l)
 
-  pub sum-ends : (v : ℕ) → sumLeft blocks entry size input place size v ≡ v
+  pub sum-ends : (v : ℕ) → sumLeft blocks entry word (length word) v ≡ v
   unfolding wordSum
-  sum-ends v = let s : size - size ≡ 0 = omega arith in rw s
+  sum-ends v = let s : length word - length word ≡ 0 = omega arith in rw s
 
--- what group g writes for a word, and its character j by the places of the block in the array
-abbrev pub groupText : List ℕ → ℕ → List ℕ → List ℕ
-groupText blocks g w = blockOutput (drop (blockSize * g) blocks) w
-
-abbrev pub groupSum : List ℕ → ℕ → List ℕ → ℕ → ℕ
-groupSum blocks g w j = wordSum (at blocks (blockSize * g + 3 + entrySize * j)) (take (at blocks (blockSize * g)) (drop (blockSize * g + 3 + entrySize * j + 1) blocks)) w
-
-module _ (blocks : List ℕ) (g : ℕ) (w : List ℕ) where
-  pub output-length : length (groupText blocks g w) ≡ at blocks (blockSize * g + 2)
+-- what a block writes for a word
+module _ (b w : List ℕ) where
+  pub output-length : length (blockOutput b w) ≡ at b 2
   unfolding blockOutput
-  output-length = length-tab _ 0 _ ∙ getD-drop (blockSize * g) blocks 2 0
+  output-length = length-tab _ 0 (at b 2)
 
-  pub output-at : (j : ℕ) → j < at blocks (blockSize * g + 2) → getD (groupText blocks g w) j 0 ≡ groupSum blocks g w j
+  output-at : (j : ℕ) → j < at b 2 → getD (blockOutput b w) j 0 ≡ entryValue b j w
   unfolding blockOutput
-  output-at j h =
-      let c : blockSize * g + (3 + entrySize * j) ≡ blockSize * g + 3 + entrySize * j = omega arith in
-      let a : blockSize * g + (4 + entrySize * j) ≡ blockSize * g + 3 + entrySize * j + 1 = omega arith in
-      getD-tab _ 0 (at (drop (blockSize * g) blocks) 2) j 0 (omega (arith, getD-drop (blockSize * g) blocks 2 0))
-      ∙ rw (zero-add j, getD-drop (blockSize * g) blocks (3 + entrySize * j) 0, c, getD-drop (blockSize * g) blocks 0 0, add-zero (blockSize * g), drop-drop (4 + entrySize * j) (blockSize * g) blocks, a)
+  output-at j h = getD-tab _ 0 (at b 2) j 0 h ∙ rw (zero-add j)
 
   -- one more character
-  pub written-more : (d : List ℕ) (count j : ℕ) → j < at blocks (blockSize * g + 2) → count + j < length d →
-      set (paste d count (groupText blocks g w) j) (count + j) (groupSum blocks g w j) ≡ paste d count (groupText blocks g w) (j + 1)
+  pub written-more : (d : List ℕ) (count j : ℕ) → j < at b 2 → count + j < length d →
+      set (paste d count (blockOutput b w) j) (count + j) (entryValue b j w) ≡ paste d count (blockOutput b w) (j + 1)
   written-more d count j h k =
-      let text = groupText blocks g w in
+      let text = blockOutput b w in
       ap (set (paste d count text j) (count + j)) (sym (output-at j h))
       ∙ paste-suc d count text j 0 k (omega (arith, output-length))
       ∙ ap (paste d count text) (sym (add-one j))
 
-  pub written-all : (d : List ℕ) (count : ℕ) →
-      paste d count (groupText blocks g w) (at blocks (blockSize * g + 2)) ≡ take count d ++ groupText blocks g w ++ drop (count + at blocks (blockSize * g + 2)) d
-  written-all d count =
-      let n = at blocks (blockSize * g + 2) in
-      ap (λ u. take count d ++ u ++ drop (count + n) d) (take-all n (groupText blocks g w) (omega (arith, output-length)))
+  pub written-all : (d : List ℕ) (count : ℕ) → paste d count (blockOutput b w) (at b 2) ≡ take count d ++ blockOutput b w ++ drop (count + at b 2) d
+  written-all d count = ap (λ u. take count d ++ u ++ drop (count + at b 2) d) (take-all (at b 2) (blockOutput b w) (omega (arith, output-length)))
+
+-- the block of group g among others: its output count, and what an entry writes, by their places
+abbrev pub groupText : List ℕ → ℕ → List ℕ → List ℕ
+groupText blocks g w = blockOutput (drop (blockSize * g) blocks) w
+
+module _ (blocks : List ℕ) (g : ℕ) where
+  pub group-count : at (drop (blockSize * g) blocks) 2 ≡ at blocks (blockSize * g + 2)
+  group-count = getD-drop (blockSize * g) blocks 2 0
+
+  pub entry-sum : (j : ℕ) (w : List ℕ) (v : ℕ) → length w ≡ at blocks (blockSize * g) →
+      v ≡ wordSum (at blocks (blockSize * g + 3 + entrySize * j)) (take (length w) (drop (blockSize * g + 3 + entrySize * j + 1) blocks)) w →
+      v ≡ entryValue (drop (blockSize * g) blocks) j w
+  unfolding entryValue
+  entry-sum j w v size e =
+      let c : blockSize * g + (3 + entrySize * j) ≡ blockSize * g + 3 + entrySize * j = omega arith in
+      let a : blockSize * g + (4 + entrySize * j) ≡ blockSize * g + 3 + entrySize * j + 1 = omega arith in
+      rw (getD-drop (blockSize * g) blocks (3 + entrySize * j) 0, c, getD-drop (blockSize * g) blocks 0 0, add-zero (blockSize * g), drop-drop (4 + entrySize * j) (blockSize * g) blocks, a, ← size) e
 
 -- what a log in two parts writes and covers
 pub text-append : (write : ℕ → List ℕ → List ℕ) (a b : List Emission) → textOf write (a ++ b) ≡ textOf write a ++ textOf write b
@@ -264,7 +265,7 @@ module _ {t : Table} {loaded input buffer output : List ℕ} {place count : ℕ}
     block-count = let h : g < 33 = k .below in getD-take blocksSize loaded (blockSize * g + 2) 0 (omega arith)
 
     more-length : length more ≡ at loaded (blockSize * g + 2)
-    more-length = output-length (blocksOf loaded) g (emission .word) ∙ block-count
+    more-length = output-length (drop (blockSize * g) (blocksOf loaded)) (emission .word) ∙ group-count (blocksOf loaded) g ∙ block-count
 
     count-after : length (flatText loaded (r .log ++ emission ∷ [])) ≡ count + at loaded (blockSize * g + 2)
     count-after = ap length text-after ∙ length-append (flatText loaded (r .log)) more ∙ ap₂ (λ a b. a + b) (r .counted) more-length

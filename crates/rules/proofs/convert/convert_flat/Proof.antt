@@ -78,7 +78,7 @@ write-group-requires c κs =
     let here = b .before .before .before .before .loop in
     let size = sym (block-size (here .inv .0) k) in
     let count = sym (block-count (here .inv .0) k) in (
-      (k .below, length-take-le blocksSize (s .args .loaded .now) (omega (arith, flat .long))),
+      (k .below, omega (arith, length-take-le blocksSize (s .args .loaded .now) (omega (arith, flat .long)))),
       (
         (subst (λ n. n ≤ 8) size (flat .size g (k .below)), subst (λ n. n ≤ 8) count (flat .outputs g (k .below))),
         (
