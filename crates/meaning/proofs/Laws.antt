@@ -20,6 +20,7 @@ pub mod Choosing
 pub mod Writing
 pub mod Extremes
 pub mod Rows
+pub mod Loaded
 pub mod Numbers
 pub mod Stored
 pub mod Bare

@@ -1,4 +1,4 @@
--- The automaton made from a table reads its rules, is good, and writes no more than the table's expansion.
+-- The automaton made from a table reads its rules and is good.
 -- After a word it is in the state of that word: its length, and the rules that it fits so far.
 use mathlib.Core.Bool.{Bool, _&&_, not, cond}
 use mathlib.Core.List.{List, [], _∷_, _++_, append-nil, List·Memᴰ}
@@ -14,14 +14,13 @@ use Rattle.lists.proofs.Laws.Tests.{and-left, and-right, both, of-not}
 use Rattle.lists.proofs.Laws.Each.{each-front, each-back, each-weaken}
 use Rattle.lists.proofs.Laws.Members.{mem-filter, mem-getD}
 use Rattle.lists.proofs.Laws.Sets.{filter-filter, filter-same, filter-all, not-empty, each-upTo, mem-upTo}
-use Rattle.meaning.specs.Table.{Characters, Table, inRanges, ruleAt, group, defaultNumber, longest, expansion}
-use Rattle.meaning.specs.Meaning.{written}
+use Rattle.meaning.specs.Table.{Characters, Table, inRanges, ruleAt, longest}
 use Rattle.meaning.proofs.Laws.Prefix.{fitsPrefix, fitsPrefix-nil, fitsPrefix-snoc}
 use Rattle.meaning.proofs.Laws.Shape.{Shaped}
-use Rattle.meaning.proofs.Laws.Groups.{rule-shaped, group-short, written-length}
+use Rattle.meaning.proofs.Laws.Groups.{rule-shaped}
 use Rattle.automaton.specs.States.{State, initial, acceptOf, acceptAtEndOf, longerRules, successor, inhabited, states}
 use Rattle.automaton.specs.Automaton.{fromTable}
-use Rattle.automaton.proofs.Laws.Good.{after, Leads, Good, after-inside, Short, Least, Done, Free, Reads, stateAt}
+use Rattle.automaton.proofs.Laws.Good.{after, Leads, Good, after-inside, Least, Done, Free, Reads, stateAt}
 use Rattle.automaton.proofs.Laws.Classes.{startOf, class-same, class-member}
 use Rattle.automaton.proofs.Laws.First.{least-kept}
 use Rattle.automaton.proofs.Laws.Levels.{IsRule, goesOn, target-found, target-there, states-closed, successor-depth, numbered}
@@ -170,10 +169,3 @@ module _ (t : Table) (S : Shaped t) where
 
   pub table-reads : Reads (fromTable t) t
   table-reads = record { accept-is = accepts; end-is = ends; dead = dead-end }
-
-pub table-short : (t : Table) → Short (fromTable t) (expansion t) (length (states t))
-unfolding fromTable
-table-short t = record { of-accept = λ q r h e. short r; of-end = λ q r h e. short r; of-default = λ e. short defaultNumber }
-  where
-    short : (n : ℕ) (w : List ℕ) → length (written (group t n) w) ≤ expansion t
-    short n w = rw (written-length (group t n) w) (group-short t n)
