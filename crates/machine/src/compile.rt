@@ -98,12 +98,7 @@ fn put_header(
 }
 
 // Refusals 8 and 9, then the words by the array of a table, into words that are 0.
-fn build(
-    loaded: &[u16],
-    rules: usize,
-    defaulted: bool,
-    words: &mut [u16],
-) -> Compiled
+fn build(loaded: &[u16], rules: usize, defaulted: bool, words: &mut [u16]) -> Compiled
     requires { ⌜ Flat (now loaded) × (rules ≤ 32) ⌝ }
     requires { ⌜ (wordCount ≤ length (now words)) × (now words ≡ pad wordCount [] ++ drop wordCount (now words)) ⌝ }
     ensures answer { λ r.

@@ -92,12 +92,7 @@ fn gather_range(loaded: &[u16], i: usize, words: &mut [u16], count: usize) -> us
 }
 
 // The edges of a place's ranges: position p of group g has place 8 g + p.
-fn gather_place(
-    loaded: &[u16],
-    place: usize,
-    words: &mut [u16],
-    count: usize,
-) -> usize
+fn gather_place(loaded: &[u16], place: usize, words: &mut [u16], count: usize) -> usize
     requires { ⌜ (place < 33 * 8) × (length (now loaded) ≡ loadedSize) × (at (now loaded) (slotsFrom + place) ≤ 4) ⌝ }
     requires { ⌜ (statesFrom ≤ length (now words)) × (count ≤ 65) ⌝ }
     ensures { λ r.
@@ -114,12 +109,7 @@ fn gather_place(
 }
 
 // The edges of a rule's ranges.
-fn gather_rule(
-    loaded: &[u16],
-    rule: usize,
-    words: &mut [u16],
-    count: usize,
-) -> usize
+fn gather_rule(loaded: &[u16], rule: usize, words: &mut [u16], count: usize) -> usize
     requires { ⌜ Flat (now loaded) × (rule < 32) ⌝ }
     requires { ⌜ (statesFrom ≤ length (now words)) × (count ≤ 65) ⌝ }
     ensures { λ r.
@@ -137,11 +127,7 @@ fn gather_rule(
 }
 
 // The class starts of the table go to the words from word 6 on, which are 0; their number, and 65 for more than 64.
-pub fn gather_starts(
-    loaded: &[u16],
-    rules: usize,
-    words: &mut [u16],
-) -> usize
+pub fn gather_starts(loaded: &[u16], rules: usize, words: &mut [u16]) -> usize
     requires { ⌜ Flat (now loaded) × (rules ≤ 32) ⌝ }
     requires { ⌜ (statesFrom ≤ length (now words)) × (take 64 (drop classesFrom (now words)) ≡ pad 64 []) ⌝ }
     ensures { λ r.

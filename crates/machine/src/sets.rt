@@ -39,13 +39,7 @@ fn goes_on(loaded: &[u16], rule: usize, depth: usize, c: u16) -> bool
 }
 
 // The rules of the set that are longer than the depth and take the character there.
-pub fn longer_rules(
-    loaded: &[u16],
-    rules: usize,
-    set: u32,
-    depth: usize,
-    c: u16,
-) -> u32
+pub fn longer_rules(loaded: &[u16], rules: usize, set: u32, depth: usize, c: u16) -> u32
     requires { ⌜ Flat (now loaded) ⌝ }
     requires { ⌜ (rules ≤ 32) × (set < 2 ^ rules) ⌝ }
     ensures { λ r.

@@ -112,15 +112,7 @@ fn note_classes(
     let mut total = count;
     let mut class: usize = 0;
     while class < classes {
-        total = note_class(
-            loaded,
-            rules,
-            words,
-            sets,
-            total,
-            state,
-            class,
-        );
+        total = note_class(loaded, rules, words, sets, total, state, class);
         if total > 256 {
             return total;
         }
@@ -156,15 +148,7 @@ fn note_state(
     if accept != 0 {
         return count;
     }
-    note_classes(
-        loaded,
-        rules,
-        classes,
-        words,
-        sets,
-        count,
-        state,
-    )
+    note_classes(loaded, rules, classes, words, sets, count, state)
 }
 
 // The words of states and targets, of a table whose class starts stand in place; how many states there are, or 257 where there are more than 256.
@@ -194,15 +178,7 @@ pub fn build_states(
     let mut count: usize = 1;
     let mut state: usize = 0;
     while state < count {
-        count = note_state(
-            loaded,
-            rules,
-            classes,
-            words,
-            sets,
-            count,
-            state,
-        );
+        count = note_state(loaded, rules, classes, words, sets, count, state);
         if count > 256 {
             return count;
         }
