@@ -10,7 +10,6 @@ ghost use Rattle.meaning.specs.bridge.Flat.{Flat, expansionAt, flatConversion, 
 ghost use Rattle.meaning.specs.Direct.{over, checked, direct};
 ghost use Rattle.rules.specs.Answers.{conversionOf, checkOf};
 use crate::layout::BLOCK;
-use crate::layout::BLOCKS;
 use crate::layout::DEFAULT_OUTPUTS;
 use crate::layout::LOADED;
 use crate::load::Load;
@@ -79,7 +78,7 @@ pub fn convert_flat(
         let Choice::Group(group) = choose_at(loaded, rules, defaulted, input, place) else {
             return Conversion::Stopped { place, count };
         };
-        count = write_group(&loaded[..BLOCKS], group, input, place, output, count);
+        count = write_group(loaded, group, input, place, output, count);
         place += loaded[BLOCK * group] as usize;
     }
     Conversion::Closed { place, count }

@@ -10,13 +10,13 @@ use native.Mathlib.Numerals.{add-one}
 use native.Mathlib.Omega.{arith}
 use lib.Dec.{eqb, eqb→eq}
 use lib.ListN.{length, getD, take, drop, set, length-append, length-take, length-drop}
-use lib.Seq.{length-take-le, take-all, take-append-seam, drop-append-add, drop-cons, getD-take, getD-drop, drop-drop, paste, paste-suc}
+use lib.Seq.{length-take-le, take-all, take-append-seam, drop-append-add, drop-cons, getD-drop, drop-drop, paste, paste-suc}
 use Rattle.lists.specs.Lists.{tabFrom, orElse}
 use Rattle.lists.proofs.Laws.Tests.{of-cond}
 use Rattle.meaning.specs.Table.{Table, everyCharacter, ruleAt, defaultNumber, group}
-use Rattle.meaning.specs.Block.{at, wordSum, entryValue, blockOutput, blockSize, blocksSize, entrySize}
+use Rattle.meaning.specs.Block.{at, wordSum, entryValue, blockOutput, blockSize, entrySize}
 use Rattle.meaning.specs.Meaning.{best, orDefault, choose, Emission, textOf, covered, chosen, convertBy, convertFrom, convert}
-use Rattle.meaning.specs.bridge.Flat.{rangesAt, patternAt, groupAt, tableAt, blocksOf, flatText}
+use Rattle.meaning.specs.bridge.Flat.{rangesAt, patternAt, groupAt, tableAt, flatText}
 use Rattle.meaning.specs.Refusal.{Outcome, accepted}
 use Rattle.meaning.specs.Direct.{Converted, over}
 use Rattle.meaning.proofs.Laws.Prefix.{fitsWord-length}
@@ -164,11 +164,11 @@ default-size loaded rules true g p =
     (sym e, refl, subst (λ k. group t k .size ≡ at loaded (blockSize * k)) e refl)
 
 -- the choice is a rule that fits, or the default
-pub choice-taken : (loaded : List ℕ) (rules : ℕ) (d : Bool) (input : List ℕ) (place g : ℕ) → rules ≤ 32 →
+choose-taken : (loaded : List ℕ) (rules : ℕ) (d : Bool) (input : List ℕ) (place g : ℕ) → rules ≤ 32 →
     ((r : ℕ) → r < rules → 1 ≤ at loaded (blockSize * r)) → (d ≡ true → at loaded (32 * blockSize) ≡ 1) → place < length input →
     choose (tableAt loaded rules d) (drop place input) ≡ some g → Taken (tableAt loaded rules d) loaded input place g
 unfolding choose tableAt
-choice-taken loaded rules d input place g few positive one h p =
+choose-taken loaded rules d input place g few positive one h p =
     let t = tableAt loaded rules d in
     let n = length (t .rules) in
     from (best t n (drop place input)) (best-chosen t n (drop place input)) p
@@ -188,6 +188,11 @@ choice-taken loaded rules d input place g few positive one h p =
         rule-size loaded rules d r (drop place input) few b (c .1) in
         subst (Taken (tableAt loaded rules d) loaded input place) e
         (record { choice = p ∙ ap some (sym e); below = omega arith; size = s .0; positive = positive r b; room = omega (arith, s .1, length-drop place input) })
+
+pub choice-taken : {o : Option ℕ} (loaded : List ℕ) (rules : ℕ) (d : Bool) (input : List ℕ) (place g : ℕ) → rules ≤ 32 →
+    ((r : ℕ) → r < rules → 1 ≤ at loaded (blockSize * r)) → (d ≡ true → at loaded (32 * blockSize) ≡ 1) → place < length input →
+    o ≡ choose (tableAt loaded rules d) (drop place input) → o ≡ some g → Taken (tableAt loaded rules d) loaded input place g
+choice-taken loaded rules d input place g few positive one h p q = choose-taken loaded rules d input place g few positive one h (sym p ∙ q)
 
 -- the text in front of a buffer, longer by what was put after it
 pub over-more : (text more buffer : List ℕ) →
@@ -230,8 +235,8 @@ module _ {t : Table} {loaded input buffer output : List ℕ} {place count : ℕ}
   pub reached-close : length input ≤ place → Finished t loaded input buffer output place count true
   reached-close h = reached-end true (convert-end t (drop place input) (omega (arith, length-drop place input)))
 
-  pub reached-stop : place < length input → choose t (drop place input) ≡ none → Finished t loaded input buffer output place count false
-  reached-stop h p = reached-end false (convert-stop t (drop place input) (omega (arith, length-drop place input)) p)
+  pub reached-stop : {o : Option ℕ} → place < length input → o ≡ choose t (drop place input) → o ≡ none → Finished t loaded input buffer output place count false
+  reached-stop h p q = reached-end false (convert-stop t (drop place input) (omega (arith, length-drop place input)) (sym p ∙ q))
 
   -- one more group
   module _ {g : ℕ} (k : Taken t loaded input place g) where
@@ -239,7 +244,7 @@ module _ {t : Table} {loaded input buffer output : List ℕ} {place count : ℕ}
     emission = record { group = g; word = take (at loaded (blockSize * g)) (drop place input) }
 
     abbrev more : List ℕ
-    more = groupText (blocksOf loaded) g (emission .word)
+    more = groupText loaded g (emission .word)
 
     abbrev left : List ℕ
     left = drop (place + at loaded (blockSize * g)) input
@@ -255,17 +260,10 @@ module _ {t : Table} {loaded input buffer output : List ℕ} {place count : ℕ}
 
     text-after : flatText loaded (r .log ++ emission ∷ []) ≡ flatText loaded (r .log) ++ more
     unfolding textOf
-    text-after = text-append (groupText (blocksOf loaded)) (r .log) (emission ∷ []) ∙ ap (λ u. flatText loaded (r .log) ++ u) (append-nil more)
-
-    -- the group's numbers among the blocks alone
-    pub block-size : at (blocksOf loaded) (blockSize * g) ≡ at loaded (blockSize * g)
-    block-size = let h : g < 33 = k .below in getD-take blocksSize loaded (blockSize * g) 0 (omega arith)
-
-    pub block-count : at (blocksOf loaded) (blockSize * g + 2) ≡ at loaded (blockSize * g + 2)
-    block-count = let h : g < 33 = k .below in getD-take blocksSize loaded (blockSize * g + 2) 0 (omega arith)
+    text-after = text-append (groupText loaded) (r .log) (emission ∷ []) ∙ ap (λ u. flatText loaded (r .log) ++ u) (append-nil more)
 
     more-length : length more ≡ at loaded (blockSize * g + 2)
-    more-length = output-length (drop (blockSize * g) (blocksOf loaded)) (emission .word) ∙ group-count (blocksOf loaded) g ∙ block-count
+    more-length = output-length (drop (blockSize * g) loaded) (emission .word) ∙ group-count loaded g
 
     count-after : length (flatText loaded (r .log ++ emission ∷ [])) ≡ count + at loaded (blockSize * g + 2)
     count-after = ap length text-after ∙ length-append (flatText loaded (r .log)) more ∙ ap₂ (λ a b. a + b) (r .counted) more-length
@@ -275,16 +273,13 @@ module _ {t : Table} {loaded input buffer output : List ℕ} {place count : ℕ}
         let front = flatText loaded (r .log ++ emission ∷ []) in
         let back = flatText loaded (convertFrom t 0 left .log) in
         let whole : length (flatText loaded (convert t input .log)) ≡ length front + length back =
-        ap (λ log. length (flatText loaded log)) whole-after ∙ ap length (text-append (groupText (blocksOf loaded)) (r .log ++ emission ∷ []) (convertFrom t 0 left .log))
+        ap (λ log. length (flatText loaded log)) whole-after ∙ ap length (text-append (groupText loaded) (r .log ++ emission ∷ []) (convertFrom t 0 left .log))
         ∙ length-append front back in
         let fits : length (flatText loaded (r .log)) ≤ length buffer = omega (arith, whole, count-after, r .counted, l) in
         omega (arith, whole, count-after, l, ap length (r .written) ∙ over-whole (flatText loaded (r .log)) buffer fits)
 
-    pub reached-step : (output′ : List ℕ) (count′ : ℕ) → count′ ≡ count + at (blocksOf loaded) (blockSize * g + 2) →
-        output′
-        ≡ take count output
-        ++ groupText (blocksOf loaded) g (take (at (blocksOf loaded) (blockSize * g)) (drop place input))
-        ++ drop (count + at (blocksOf loaded) (blockSize * g + 2)) output →
+    pub reached-step : (output′ : List ℕ) (count′ : ℕ) → count′ ≡ count + at loaded (blockSize * g + 2) →
+        output′ ≡ take count output ++ more ++ drop (count + at loaded (blockSize * g + 2)) output →
         Reached t loaded input buffer output′ (place + at loaded (blockSize * g)) count′
     unfolding covered
     reached-step output′ count′ q e =
@@ -297,10 +292,9 @@ module _ {t : Table} {loaded input buffer output : List ℕ} {place count : ℕ}
           closed = r .closed ∙ ap (λ c. c .closed) after;
           within = k .room;
           placed = omega (arith, covered-append (r .log) (emission ∷ []), r .placed, word);
-          counted = count-after ∙ sym (q ∙ ap (λ n. count + n) block-count);
+          counted = count-after ∙ sym q;
           written =
-              e ∙ ap₂ (λ n m. take count output ++ groupText (blocksOf loaded) g (take n (drop place input)) ++ drop (count + m) output) block-size block-count
-              ∙ ap (λ o. take count o ++ more ++ drop (count + at loaded (blockSize * g + 2)) o) (r .written)
+              e ∙ ap (λ o. take count o ++ more ++ drop (count + at loaded (blockSize * g + 2)) o) (r .written)
               ∙ ap₂ (λ c m. take c (over text buffer) ++ more ++ drop (c + m) (over text buffer)) (sym (r .counted)) (sym more-length)
               ∙ over-more text more buffer ∙ ap (λ u. over u buffer) (sym text-after);
         }

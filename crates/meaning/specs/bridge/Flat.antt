@@ -64,6 +64,10 @@ highsFrom = rangesFrom + 33 * 64
 abbrev pub loadedSize : ℕ
 loadedSize = highsFrom + 33 * 8
 
+-- the blocks alone
+abbrev pub blocksOf : List ℕ → List ℕ
+blocksOf loaded = take blocksSize loaded
+
 -- Read back: the ranges of place 8 g + p, position p of group g.
 abbrev pub rangeAt : List ℕ → ℕ → ℕ → Range
 rangeAt loaded place k =
@@ -115,11 +119,8 @@ expansionAt loaded n defaulted = expansionFrom loaded n (cond defaulted (at load
 abbrev pub flatConversion : List ℕ → ℕ → Bool → List ℕ → Conversion
 flatConversion loaded n defaulted input = convert (tableAt loaded n defaulted) input
 
-abbrev pub blocksOf : List ℕ → List ℕ
-blocksOf loaded = take blocksSize loaded
-
 abbrev pub flatText : List ℕ → List Emission → List ℕ
-flatText loaded log = textOf (λ g w. blockOutput (drop (blockSize * g) (blocksOf loaded)) w) log
+flatText loaded log = textOf (λ g w. blockOutput (drop (blockSize * g) loaded) w) log
 
 -- "14, 15", then the conversion into the buffer
 unfoldable pub flatDirect : List ℕ → ℕ → Bool → List ℕ → List ℕ → DirectOutcome

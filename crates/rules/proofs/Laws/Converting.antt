@@ -22,7 +22,7 @@ use Rattle.meaning.specs.Table.{Characters, Group, Table, everyCharacter, group
 use Rattle.meaning.specs.Value.{fitsWord, SafeTable}
 use Rattle.meaning.specs.Reader.{readTable}
 use Rattle.meaning.specs.Block.{at, block, blockOutput, blockSize}
-use Rattle.meaning.specs.Meaning.{best, orDefault, choose, written, Emission, textOf, Conversion, convertBy, convertFrom, convert, meaningText, covered}
+use Rattle.meaning.specs.Meaning.{best, orDefault, choose, written, textOf, Conversion, convertBy, convertFrom, convert, meaningText, covered}
 use Rattle.meaning.specs.Direct.{limit, Converted, DirectOutcome, over, admitted, directBy, checked, direct}
 use Rattle.meaning.specs.bridge.Flat.{blockWords, loadedWords, expansionFrom, expansionAt, flatConversion, flatText, flatDirect, Flat}
 use Rattle.rules.specs.bridge.Readings.{LoadedBy}
@@ -37,7 +37,7 @@ use Rattle.meaning.proofs.Laws.Exact.{block-size, block-count, block-writes}
 use Rattle.meaning.proofs.Laws.Direct.{read-keeps}
 use Rattle.meaning.proofs.Laws.Reading.{read-shaped}
 use Rattle.meaning.proofs.Laws.Rows.{rows-at, rowsOf, rowsOf-rule, rowsOf-default}
-use Rattle.meaning.proofs.Laws.Loaded.{loaded-block, loaded-blocks}
+use Rattle.meaning.proofs.Laws.Loaded.{loaded-block}
 use Rattle.rules.proofs.Laws.Flattened.{read-narrow, flat-flat}
 use Rattle.meaning.proofs.Laws.SafeFlat.{each-numbers}
 use Rattle.meaning.proofs.Laws.Bare.{conversion-flat}
@@ -117,25 +117,21 @@ every-fits g x s h = rw (s .ranges, or-false, and-true) (to-between 0 65535 x (o
 module _ (t : Table) (s : Shaped t) where
   -- the block of a rule, and of the default
 
-  block-rule : (r : ℕ) → r < length (t .rules) → (j : ℕ) → j < blockSize → at (blockWords t) (blockSize * r + j) ≡ at (block (ruleAt t r)) j
-  unfolding blockWords
-  block-rule r h j i =
-      let few : length (t .rules) ≤ 32 = s .few-rules in
-      rows-at blockSize block t r j (omega arith) i ∙ ap (λ l. at l j) (rowsOf-rule block (t .rules) (t .default) r (everyCharacter []) few h)
-
-  block-default : (g : Group) → t .default ≡ some g → (j : ℕ) → j < blockSize → at (blockWords t) (blockSize * 32 + j) ≡ at (block g) j
-  unfolding blockWords
-  block-default g e j i =
-      rows-at blockSize block t 32 j (lit< tt) i ∙ ap (λ d. at (getD (rowsOf block (t .rules) d) 32 []) j) e ∙ ap (λ l. at l j) (rowsOf-default block (t .rules) g)
-
-  -- the same in the table's array
-
   loaded-rule : (r : ℕ) → r < length (t .rules) → (j : ℕ) → j < blockSize → at (loadedWords t) (blockSize * r + j) ≡ at (block (ruleAt t r)) j
+  unfolding blockWords
   loaded-rule r h j i =
-      let few : length (t .rules) ≤ 32 = s .few-rules in loaded-block t (blockSize * r + j) (omega arith) ∙ block-rule r h j i
+      let few : length (t .rules) ≤ 32 = s .few-rules in
+      loaded-block t (blockSize * r + j) (omega arith)
+      ∙ rows-at blockSize block t r j (omega arith) i
+      ∙ ap (λ l. at l j) (rowsOf-rule block (t .rules) (t .default) r (everyCharacter []) few h)
 
   loaded-default : (g : Group) → t .default ≡ some g → (j : ℕ) → j < blockSize → at (loadedWords t) (blockSize * 32 + j) ≡ at (block g) j
-  loaded-default g e j i = loaded-block t (blockSize * 32 + j) (omega arith) ∙ block-default g e j i
+  unfolding blockWords
+  loaded-default g e j i =
+      loaded-block t (blockSize * 32 + j) (omega arith)
+      ∙ rows-at blockSize block t 32 j (lit< tt) i
+      ∙ ap (λ d. at (getD (rowsOf block (t .rules) d) 32 []) j) e
+      ∙ ap (λ l. at l j) (rowsOf-default block (t .rules) g)
 
   rule-size : (r : ℕ) → r < length (t .rules) → 1 ≤ at (loadedWords t) (blockSize * r)
   rule-size r h =
@@ -181,15 +177,15 @@ module _ (t : Table) (s : Shaped t) where
   -- what is written
 
   module _ (safe : SafeTable t) where
-    group-writes : (g : Group) (n : ℕ) (w : List ℕ) → group t n ≡ g → ((j : ℕ) → j < blockSize → at (blockWords t) (blockSize * n + j) ≡ at (block g) j) →
+    group-writes : (g : Group) (n : ℕ) (w : List ℕ) → group t n ≡ g → ((j : ℕ) → j < blockSize → at (loadedWords t) (blockSize * n + j) ≡ at (block g) j) →
         g .size ≤ 8 → length (g .outputs) ≤ 8 → length w ≡ g .size → T (fitsWord (g .ranges) w) → SafeGroup g →
-        blockOutput (drop (blockSize * n) (blockWords t)) w ≡ writes t n w
+        blockOutput (drop (blockSize * n) (loadedWords t)) w ≡ writes t n w
     group-writes g n w named row small few size takes safe =
-        block-writes g w (drop (blockSize * n) (blockWords t)) small few size (safe-group g w takes safe) (λ j h. getD-drop (blockSize * n) (blockWords t) j 0 ∙ row j h)
+        block-writes g w (drop (blockSize * n) (loadedWords t)) small few size (safe-group g w takes safe) (λ j h. getD-drop (blockSize * n) (loadedWords t) j 0 ∙ row j h)
         ∙ ap (λ a. written a w) (sym named)
 
     chosen-writes : (n : ℕ) (c : ℕ) (rest : List ℕ) → c < 65536 → choose t (c ∷ rest) ≡ some n →
-        let w = take (group t n .size) (c ∷ rest) in blockOutput (drop (blockSize * n) (blockWords t)) w ≡ writes t n w
+        let w = take (group t n .size) (c ∷ rest) in blockOutput (drop (blockSize * n) (loadedWords t)) w ≡ writes t n w
     unfolding SafeTable
     chosen-writes n c rest small e =
         choose-cases t (c ∷ rest) n e
@@ -198,8 +194,8 @@ module _ (t : Table) (s : Shaped t) where
         let shape = rule-shaped t s n h in
         let named : group t n ≡ g = group-rule t n s h in
         let w = take (g .size) (c ∷ rest) in
-        subst (λ k. let w = take k (c ∷ rest) in blockOutput (drop (blockSize * n) (blockWords t)) w ≡ writes t n w) (sym (ap (λ a. a .size) named))
-        (group-writes g n w named (block-rule n h) (shape .small) (shape .outputs) (length-take-le (g .size) (c ∷ rest) (fits-room t n (c ∷ rest) s h f)) (f .match)
+        subst (λ k. let w = take k (c ∷ rest) in blockOutput (drop (blockSize * n) (loadedWords t)) w ≡ writes t n w) (sym (ap (λ a. a .size) named))
+        (group-writes g n w named (loaded-rule n h) (shape .small) (shape .outputs) (length-take-le (g .size) (c ∷ rest) (fits-room t n (c ∷ rest) s h f)) (f .match)
         (each-getD SafeGroup (t .rules) n (everyCharacter []) (each-front SafeGroup (t .rules) (optional (t .default)) safe) h)))
         (λ z d.
         let o = some-default (t .default) d in
@@ -207,24 +203,20 @@ module _ (t : Table) (s : Shaped t) where
         let shape = default-each ShapedDefault t g (o .1) (s .default) in
         let one : g .size ≡ 1 = shape .size in
         let named : group t defaultNumber ≡ g = group-default t g (o .1) in
-        subst (λ m. let w = take (group t m .size) (c ∷ rest) in blockOutput (drop (blockSize * m) (blockWords t)) w ≡ writes t m w) (sym z)
-        (subst (λ k. let w = take k (c ∷ rest) in blockOutput (drop (blockSize * 32) (blockWords t)) w ≡ writes t 32 w) (sym (ap (λ a. a .size) named ∙ one))
-        (group-writes g 32 (c ∷ []) named (block-default g (o .1)) (omega arith) (shape .outputs) (sym one) (every-fits g c shape small)
+        subst (λ m. let w = take (group t m .size) (c ∷ rest) in blockOutput (drop (blockSize * m) (loadedWords t)) w ≡ writes t m w) (sym z)
+        (subst (λ k. let w = take k (c ∷ rest) in blockOutput (drop (blockSize * 32) (loadedWords t)) w ≡ writes t 32 w) (sym (ap (λ a. a .size) named ∙ one))
+        (group-writes g 32 (c ∷ []) named (loaded-default g (o .1)) (omega arith) (shape .outputs) (sym one) (every-fits g c shape small)
         (default-each SafeGroup t g (o .1) (each-back SafeGroup (t .rules) (optional (t .default)) safe)))))
 
-    -- the text that the blocks write for a log
-    abbrev blockText : List ℕ → List Emission → List ℕ
-    blockText blocks log = textOf (λ g w. blockOutput (drop (blockSize * g) blocks) w) log
-
-    text-from : (skip : ℕ) (rest : List ℕ) → Characters rest → blockText (blockWords t) (convertFrom t skip rest .log) ≡ textOf (writes t) (convertFrom t skip rest .log)
+    text-from : (skip : ℕ) (rest : List ℕ) → Characters rest → flatText (loadedWords t) (convertFrom t skip rest .log) ≡ textOf (writes t) (convertFrom t skip rest .log)
     unfolding convertFrom textOf
     text-from skip [] e = refl
     text-from (suc skip) (c ∷ rest) e = text-from skip rest (e .1)
     text-from zero (c ∷ rest) e = go (choose t (c ∷ rest)) refl (λ skip. text-from skip rest (e .1))
       where
         go : (o : Option ℕ) → choose t (c ∷ rest) ≡ o →
-            ((skip : ℕ) → blockText (blockWords t) (convertFrom t skip rest .log) ≡ textOf (writes t) (convertFrom t skip rest .log)) →
-            blockText (blockWords t) (convertBy t o (c ∷ rest) (λ skip. convertFrom t skip rest) .log)
+            ((skip : ℕ) → flatText (loadedWords t) (convertFrom t skip rest .log) ≡ textOf (writes t) (convertFrom t skip rest .log)) →
+            flatText (loadedWords t) (convertBy t o (c ∷ rest) (λ skip. convertFrom t skip rest) .log)
             ≡ textOf (writes t) (convertBy t o (c ∷ rest) (λ skip. convertFrom t skip rest) .log)
         go none p h = refl
         go (some n) p h = ap₂ _++_ (chosen-writes n c rest (e .0) p) (h (pred (group t n .size)))
@@ -236,7 +228,7 @@ module _ (t : Table) (s : Shaped t) where
       text-flat : flatText (loadedWords t) (conversion .log) ≡ meaningText t u
       unfolding convert
       text-flat =
-          ap₂ (λ blocks c. blockText blocks (c .log)) (loaded-blocks t) (conversion-flat t u s narrow) ∙ text-from 0 u characters
+          ap (λ c. flatText (loadedWords t) (c .log)) (conversion-flat t u s narrow) ∙ text-from 0 u characters
 
       text-room : length (flatText (loadedWords t) (conversion .log)) ≤ expansionAt (loadedWords t) (length (t .rules)) (isSome (t .default)) * length u
       text-room = rw (text-flat, expansion-flat) (text-short t u)

@@ -1,16 +1,14 @@
 -- `rules::convert::convert_flat` meets its contract. The invariant: the whole conversion is a log so far and the conversion of what is left.
 -- A turn adds the group chosen to that log; the measure is the characters left. Assumes nothing.
-use mathlib.Core.Path.{_≡_, refl, sym, ap, subst, _∙_}
-use Prim.Native.Nat.{_+_, _-_, _≤_}
+use mathlib.Core.Path.{_≡_, refl, ap, _∙_}
+use Prim.Native.Nat.{_-_}
 use native.Mathlib.Omega.{arith}
 use borrow.Author.Needs.{needs}
 use lib.ListN.{length}
-use lib.Seq.{length-take-le}
 use Rattle.meaning.specs.Table.{Table}
-use Rattle.meaning.specs.Block.{blocksSize}
 use Rattle.meaning.specs.bridge.Flat.{tableAt}
 use Rattle.rules.specs.bridge.Readings.{choiceOf}
-use Rattle.meaning.proofs.Laws.Writing.{Taken, choice-taken, Reached, reached-start, reached-close, reached-stop, block-size, block-count, reached-room, reached-step}
+use Rattle.meaning.proofs.Laws.Writing.{Taken, choice-taken, Reached, reached-start, reached-close, reached-stop, reached-room, reached-step}
 use Rattle.rules.proofs.convert.convert_flat.Statement.{statement}
 use Rattle.rules.proofs.convert.convert_flat.Tie as tie
 
@@ -48,7 +46,7 @@ returns : tie.Need-returns Inv-loop μ-loop
 returns c =
     let called = c .before .before in
     reached-stop (called .before .before .loop .inv .0) (called .before .loop-test .taken)
-    (sym (called .choose-at .ensures) ∙ ap choiceOf (c .enum-told .given .1))
+    (called .choose-at .ensures) (ap choiceOf (c .enum-told .given .1))
 
 -- a turn in which a group was chosen
 abbrev start : tie.After-group Inv-loop μ-loop → tie.Start Inv-loop μ-loop
@@ -62,61 +60,50 @@ taken c =
     let called = c .before .before in
     choice-taken (s .args .loaded .now) (s .args .rules) (s .args .defaulted) (s .args .input .now)
     (called .before .before .loop .place) (c .group .given .0 .0) (s .pre .1 .0) (s .pre .1 .1 .0) (s .pre .1 .1 .1 .0) (called .before .loop-test .taken)
-    (sym (called .choose-at .ensures) ∙ ap choiceOf (c .group .given .1))
-
-slice-aggregate-write-group : tie.Need-slice-aggregate-write-group Inv-loop μ-loop
-slice-aggregate-write-group c =
-    let s = start (c .before .before) in sym (length-take-le blocksSize (s .args .loaded .now) (omega (arith, s .pre .0 .long)))
+    (called .choose-at .ensures) (ap choiceOf (c .group .given .1))
 
 write-group-requires : tie.Need-write-group-requires Inv-loop μ-loop
 write-group-requires c κs =
-    let b = c .before .before .before in
-    let s = start b in
+    let b = c .before .before in
     let g = b .group .given .0 .0 in
     let k = taken b in
-    let flat = s .pre .0 in
-    let here = b .before .before .before .before .loop in
-    let size = sym (block-size (here .inv .0) k) in
-    let count = sym (block-count (here .inv .0) k) in (
-      (k .below, omega (arith, length-take-le blocksSize (s .args .loaded .now) (omega (arith, flat .long)))),
+    let flat = start b .pre .0 in (
+      (k .below, omega (arith, flat .long)),
       (
-        (subst (λ n. n ≤ 8) size (flat .size g (k .below)), subst (λ n. n ≤ 8) count (flat .outputs g (k .below))),
-        (
-          subst (λ n. here .place + n ≤ length (s .args .input .now)) size (k .room),
-          subst (λ n. here .count + n ≤ length (here .output)) count (reached-room (here .inv .0) k (s .pre .1 .1 .1 .1)),
-        ),
+        (flat .size g (k .below), flat .outputs g (k .below)),
+        (k .room, reached-room (b .before .before .before .before .loop .inv .0) k (start b .pre .1 .1 .1 .1)),
       ),
     )
 
 mul-place : tie.Need-mul-place Inv-loop μ-loop
-mul-place c = omega (arith, taken (c .before .before .before .before .before .before) .below)
+mul-place c = omega (arith, taken (c .before .before .before .before .before) .below)
 
 mul-place-2 : tie.Need-mul-place-2 Inv-loop μ-loop
-mul-place-2 c = omega (arith, taken (c .before .before .before .before .before .before) .below)
+mul-place-2 c = omega (arith, taken (c .before .before .before .before .before) .below)
 
 shared-slice-read-place : tie.Need-shared-slice-read-place Inv-loop μ-loop
 shared-slice-read-place c =
-    let b = c .before .before .before .before .before .before .before in
+    let b = c .before .before .before .before .before .before in
     omega (arith, taken b .below, start b .pre .0 .long)
 
 cast-place : tie.Need-cast-place Inv-loop μ-loop
 cast-place c =
-    let b = c .before .before .before .before .before .before .before in
+    let b = c .before .before .before .before .before .before in
     omega (arith, start b .pre .0 .size (b .group .given .0 .0) (taken b .below))
 
 add-place : tie.Need-add-place Inv-loop μ-loop
-add-place c = omega (arith, taken (c .before .before .before .before .before .before .before) .room)
+add-place c = omega (arith, taken (c .before .before .before .before .before .before) .room)
 
 loop-less : tie.Need-loop-less Inv-loop μ-loop
 loop-less c =
-    let k = taken (c .before .before .before .before .before .before .before) in
+    let k = taken (c .before .before .before .before .before .before) in
     omega (arith, k .room, k .positive)
 
 loop-again : tie.Need-loop-again Inv-loop μ-loop
 loop-again c =
     let after = c .before .before .before in
     let w = after .write-group in
-    let b = after .before .before .before .before in
+    let b = after .before .before .before in
     let inv = b .before .before .before .before .loop .inv in
     (reached-step (inv .0) (taken b) (w .last .1 .1 .1 .1 .0) (w .result) (w .ensures .0) (w .ensures .1), w .kept .1 .1 .1 .1 .0 ∙ inv .1)
 
@@ -138,7 +125,6 @@ convert-flat-spec =
     enum-told
     same-length
     returns
-    slice-aggregate-write-group
     write-group-requires
     mul-place
     mul-place-2
