@@ -4,3 +4,4 @@ pub mod Turning
 pub mod InTurn
 pub mod Resuming
 pub mod Lending
+pub mod Lent
