@@ -23,7 +23,7 @@ entry_points() {
     echo crates/rules/src/convert.rt convert
     echo crates/rules/src/convert.rt check
     echo crates/machine/src/compile.rt compile
-    echo crates/machine/src/sound_words.rt is_sound
+    echo crates/words/src/sound_words.rt is_sound
     echo crates/session/src/kept.rt fresh
     for name in feed finish feed_by_value finish_by_value; do echo crates/session/src/call.rt "$name"; done
 }

@@ -8,11 +8,11 @@ ghost use Rattle.automaton.specs.Sound.{sound};
 ghost use Rattle.cobbletwill.specs.Face.{checkCode, codeOf, placeOf, writtenOf, soundCode};
 use machine::compile::Compiled;
 use machine::compile::compile;
-use machine::sound_words::is_sound;
 use rules::convert::Conversion;
 use rules::convert::Verdict;
 use rules::convert::check;
 use rules::convert::convert;
+use words::sound_words::is_sound;
 
 // 0 for a table that keeps the rules, else the number of its refusal, 1 to 7.
 #[no_mangle]

@@ -1,6 +1,4 @@
 // Sessions as C holds them: feed and finish over plain numbers. include/cobbletwill.h declares the two exported functions.
-use machine::numbers::StateNo;
-use machine::sound_words::is_sound;
 use session::call::Answer;
 use session::call::Called;
 use session::call::feed_by_value;
@@ -8,6 +6,8 @@ use session::call::finish_by_value;
 use session::kept::Session;
 use session::kept::Status;
 use session::tally::Tally;
+use words::numbers::StateNo;
+use words::sound_words::is_sound;
 ghost use mathlib.Core.Path.{_≡_};
 ghost use Rattle.automaton.specs.Sound.{sound};
 ghost use Rattle.session.specs.Keeping.{meantStatus, sessionOf};

@@ -18,7 +18,7 @@ use crate::table::read_table;
 use crate::text::put_refusal;
 use machine::compile::Compiled;
 use machine::compile::compile;
-use machine::layout::WORDS;
+use words::layout::WORDS;
 
 // Whether there is a machine to feed, and how many bytes there are to print.
 struct Start {

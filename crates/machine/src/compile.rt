@@ -11,14 +11,6 @@ ghost use Rattle.automaton.specs.Compile as Spec;
 ghost use Rattle.machine.specs.Compiled.{compiledOf};
 ghost use Rattle.machine.specs.bridge.Building.{longestAt, built};
 use crate::gather::gather_starts;
-use crate::layout::BLOCKS_FROM;
-use crate::layout::CLASS_COUNT;
-use crate::layout::DEFAULTED;
-use crate::layout::EXPANSION;
-use crate::layout::LONGEST;
-use crate::layout::RULE_COUNT;
-use crate::layout::STATE_COUNT;
-use crate::layout::WORDS;
 use crate::states::build_states;
 use rules::convert::expansion;
 use rules::layout::BLOCK;
@@ -27,6 +19,14 @@ use rules::layout::LOADED;
 use rules::load::Load;
 use rules::load::load_table;
 use rules::reader::bit_of;
+use words::layout::BLOCKS_FROM;
+use words::layout::CLASS_COUNT;
+use words::layout::DEFAULTED;
+use words::layout::EXPANSION;
+use words::layout::LONGEST;
+use words::layout::RULE_COUNT;
+use words::layout::STATE_COUNT;
+use words::layout::WORDS;
 
 pub enum Compiled {
     Accepted,

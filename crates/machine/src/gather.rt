@@ -11,10 +11,10 @@ ghost use Rattle.meaning.specs.bridge.Flat.{slotsFrom, loadedSize, rangesAt, pa
 ghost use Rattle.automaton.specs.Classes.{edges, starts};
 ghost use Rattle.automaton.specs.bridge.Gathered.{placeIn, rangeFrom, Gathers, Gathered};
 ghost use Rattle.automaton.specs.Layout.{classesFrom, statesFrom};
-use crate::layout::CLASSES_FROM;
 use rules::layout::BLOCK;
 use rules::layout::RANGES_FROM;
 use rules::layout::SLOTS_FROM;
+use words::layout::CLASSES_FROM;
 
 // The place of `start` among the `count` rising words from word 6 on.
 fn place_of(words: &[u16], count: usize, start: u16) -> usize

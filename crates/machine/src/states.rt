@@ -13,11 +13,11 @@ ghost use Rattle.automaton.specs.States.{initial, acceptOf, states};
 ghost use Rattle.automaton.specs.Layout.{stateWords, targetWords, blocksFrom, classesFrom, statesFrom, statesSize, targetsSize, wordCount};
 ghost use Rattle.automaton.specs.bridge.Build.{stateOf, numberIn, statesAt};
 ghost use Rattle.automaton.specs.bridge.Noted.{NotedAt, Kept, Onward};
-use crate::layout::ACCEPT_FROM;
-use crate::layout::AT_END_FROM;
-use crate::layout::CLASSES_FROM;
-use crate::layout::STATES_FROM;
-use crate::layout::TARGETS_FROM;
+use words::layout::ACCEPT_FROM;
+use words::layout::AT_END_FROM;
+use words::layout::CLASSES_FROM;
+use words::layout::STATES_FROM;
+use words::layout::TARGETS_FROM;
 
 // The number of the state with this depth and set, or the count where it is not there yet. The states before `from` have other depths.
 fn find_state(

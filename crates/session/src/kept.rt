@@ -1,12 +1,12 @@
 // What is kept between calls, and the test of it.
 use crate::tally::Tally;
 use crate::tally::zero;
-use machine::numbers::StateNo;
-use machine::read::class_of;
-use machine::read::expansion;
-use machine::read::longest;
-use machine::read::settled;
-use machine::read::target;
+use words::numbers::StateNo;
+use words::read::class_of;
+use words::read::expansion;
+use words::read::longest;
+use words::read::settled;
+use words::read::target;
 ghost use mathlib.Core.List.{[], _∷_};
 ghost use mathlib.Core.Path.{_≡_};
 ghost use Prim.Native.Nat.{_+_, _*_, _-_, _≤_, _<_};

@@ -15,7 +15,7 @@ use Rattle.meaning.specs.Block.{at, blockOutput}
 use Rattle.automaton.specs.Sound.{longestWord, expansionWord, stateCount, depthWord, acceptWord, targetWord, classCount, blockAt, soundState, sound}
 use Rattle.automaton.specs.Classes.{classOf}
 use Rattle.automaton.specs.Automaton.{fromWords}
-use Rattle.machine.specs.declared.numbers.StateNo.{StateNo}
+use Rattle.words.specs.declared.numbers.StateNo.{StateNo}
 use Rattle.automaton.proofs.Laws.Words.{sound-state, sound-class, sound-good}
 use Rattle.session.specs.bridge.Running.{firstOf, Placed, Advances, Beyond, Passes, Between, ReadsOn, readTo, Read, Back}
 use Rattle.session.specs.declared.kept.Status.the-variants as Code

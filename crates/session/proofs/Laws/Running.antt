@@ -19,8 +19,8 @@ use Rattle.meaning.proofs.Laws.Writing.{text-append, covered-append}
 use Rattle.automaton.specs.Sound.{longestWord, expansionWord, ruleCount, stateCount, depthWord, acceptWord, targetWord, classCount, blockAt, sound}
 use Rattle.automaton.specs.Classes.{classOf}
 use Rattle.automaton.specs.Automaton.{Automaton, fromWords}
-use Rattle.machine.specs.declared.numbers.RuleNo.{RuleNo}
-use Rattle.machine.specs.declared.numbers.StateNo.{StateNo}
+use Rattle.words.specs.declared.numbers.RuleNo.{RuleNo}
+use Rattle.words.specs.declared.numbers.StateNo.{StateNo}
 use Rattle.automaton.proofs.Laws.Good.{after, Leads}
 use Rattle.automaton.proofs.Laws.Words.{Names, sound-header, sound-rule, sound-default, sound-state, sound-class, sound-good, sound-longest, length-blockOutput}
 use Rattle.reckoning.specs.Machine.{Configuration, Status, Open, Closed, Stopped, onward, halt, step, Ended, steps, run, start}

@@ -15,7 +15,7 @@ use Rattle.meaning.specs.Block.{at, blockOutput}
 use Rattle.meaning.specs.Meaning.{Emission}
 use Rattle.automaton.specs.Sound.{stateCount, acceptAtEndWord, acceptWord, blockAt, used, sound}
 use Rattle.automaton.specs.Automaton.{fromWords}
-use Rattle.machine.specs.declared.numbers.RuleNo.{RuleNo}
+use Rattle.words.specs.declared.numbers.RuleNo.{RuleNo}
 use Rattle.automaton.proofs.Laws.Words.{sound-state}
 use Rattle.reckoning.specs.Machine.{Stopped, Closed, step}
 use Rattle.reckoning.specs.Session.{settled}

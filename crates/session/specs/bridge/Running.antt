@@ -12,8 +12,8 @@ use Rattle.automaton.specs.Sound.{expansionWord, classCount, stateCount, depthW
 use Rattle.automaton.specs.Automaton.{fromWords}
 use Rattle.reckoning.specs.Machine.{Configuration, Step, Status, Open, Closed, halt, emit, read, rollBack, end, step, Ended, steps}
 use Rattle.session.specs.Keeping.{meantStatus}
-use Rattle.machine.specs.declared.numbers.RuleNo.{RuleNo}
-use Rattle.machine.specs.declared.numbers.StateNo.{StateNo}
+use Rattle.words.specs.declared.numbers.RuleNo.{RuleNo}
+use Rattle.words.specs.declared.numbers.StateNo.{StateNo}
 use Rattle.session.specs.declared.kept.Status.the-variants as Code
 use Rattle.session.specs.declared.run.Ran.{Ran}
 use Rattle.session.specs.declared.run.Ahead.{Ahead}

@@ -9,7 +9,7 @@ use native.Mathlib.Omega.{arith}
 use borrow.Author.Needs.{needs}
 use borrow.Author.Tests.{ltb-true, ltb-false}
 use lib.ListN.{length, length-append}
-use Rattle.machine.specs.bridge.Readings.{wordOf}
+use Rattle.words.specs.bridge.Readings.{wordOf}
 use Rattle.automaton.proofs.Laws.Words.{sound-header}
 use Rattle.session.specs.bridge.Running.{Emit, Fits, Decides, Placed, Passes, Stands, readTo}
 use Rattle.session.proofs.Laws.Running.{of-not-true, of-not-false}
