@@ -2,7 +2,7 @@
 ghost use mathlib.Core.Bool.{cond, not};
 ghost use mathlib.Core.List.{[], _∷_};
 ghost use mathlib.Core.Path.{_≡_};
-ghost use Prim.Native.Nat.{suc, pred, _+_, _*_, _≤_, _<_};
+ghost use Prim.Native.Nat.{suc, pred, _≤_, _<_};
 ghost use lib.Dec.{eqb};
 ghost use lib.ListN.{length};
 ghost use Rattle.lists.specs.Decide.{allOf, forBelow, implies};

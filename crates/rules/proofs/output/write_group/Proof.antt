@@ -1,6 +1,6 @@
 -- `rules::output::write_group` meets its contract. The invariant: the output has the first j characters that the group writes, from the count on.
 -- The measure is the characters left. Assumes nothing.
-use mathlib.Core.Path.{_≡_, refl, sym, ap, _∙_}
+use mathlib.Core.Path.{_≡_, refl, ap, _∙_}
 use mathlib.Core.List.{List, _++_}
 use Prim.Native.Nat.{ℕ, _+_, _-_, _*_, _≤_, _<_}
 use native.Mathlib.Omega.{arith}
