@@ -115,9 +115,9 @@ module _ {M : Type 1} {𝓤 : URA M} {H : Heap 𝓤} {A : Atoms 𝓤} {K : Type 
       → {κ : Lft} {q : Share} {γ : GName} (b o : ℕ) (h : D .D) {Γ : List (Item 𝓤)} {Λ : Loops 𝓤 H} {E : Env 𝓤 H} {Kf : Val → SProp 𝓤} {xs : List Operand}
       {s c t : ℕ} {σ : Ty} {at-s at-c at-t at-0 : ℕ} {found : Item 𝓤}
       → spotOf 𝓤 H E s ≡ (σ, at-s, 0) → spotOf 𝓤 H E c ≡ (layout (shape F), at-c, 0) → spotOf 𝓤 H E t ≡ (tyBool, at-t, 0) → spotOf 𝓤 H E 0 ≡ (ν, at-0, 0)
-      → (toks : Item 𝓤) {Z : Type 0} (last : Z → Fml) (Said : F .D → Z → Type 0)
+      → (toks : Item 𝓤) {Z : Type 0} (last : Z → Fml) (Told : F .D → Type 0) → ((r : F .D) → Told r → R .accepted r ≡ false → R .struct r ≡ h) → (Said : F .D → Z → Type 0)
       → ((w : Val) → ent 𝓤 (core .post g w) (mean 𝓤 H A (later (some (λ (r : F .D). (toks ⊛ ‵ (row F .own r (w ∷ [])))
-      ⊛ some (λ (z : Z). ‵ (last z) ⊛ raw (fact 𝓤 (R .accepted r ≡ false → R .struct r ≡ h)) ⊛ raw (fact 𝓤 (Said r z))))))))
+      ⊛ some (λ (z : Z). ‵ (last z) ⊛ raw (fact 𝓤 (Told r)) ⊛ raw (fact 𝓤 (Said r z))))))))
       → Opds K W (raw (core .pre g) ∷ Opened 𝓤 D L κ q γ b o h
       (‵ (fat fullShare σ at-s 0 (vptr b o)) ∷ found ∷ ‵ (froom tyBool at-t 0) ∷ ‵ (froom (layout (shape F)) at-c 0) ∷ ‵ (froom ν at-0 0) ∷ Γ)) E xs (core .args g)
       → ((r : F .D) (z : Z) → Said r z → Is N (R .answer r) (R .value r ∷ [])
@@ -129,18 +129,18 @@ module _ {M : Type 1} {𝓤 : URA M} {H : Heap 𝓤} {A : Atoms 𝓤} {K : Type 
       (runs C Λ E (seq (call name xs (place c [])) (seq (assign (place t []) (rvOpd (copy (place c (field 1 ∷ [])))))
       (seq (cond (copy (place t [])) (assign (place s (deref (layout (shape D)) ∷ [])) (rvOpd (copy (place c (field 2 ∷ []))))) skip)
       (seq (assign (place 0 []) (rvOpd (copy (place c (field 0 ∷ []))))) return)))) (atRet E Kf))
-  calls-core i {C} fm core known g D L plain {F} {G} {N} {ν} R {κ} {q} {γ} b o h {Γ} {Λ} {E} {Kf} {at-c = at-c} e₁ e₂ e₃ e₄ toks {Z} last Said post args k =
+  calls-core i {C} fm core known g D L plain {F} {G} {N} {ν} R {κ} {q} {γ} b o h {Γ} {Λ} {E} {Kf} {at-c = at-c} e₁ e₂ e₃ e₄ toks {Z} last Told unchanged Said post args k =
       calls-at i fm core known g args (λ w.
       use1 W (later (some (λ (r : F .D). (toks ⊛ ‵ (row F .own r (w ∷ [])))
-      ⊛ some (λ (z : Z). ‵ (last z) ⊛ raw (fact 𝓤 (R .accepted r ≡ false → R .struct r ≡ h)) ⊛ raw (fact 𝓤 (Said r z)))))) (post w) $
+      ⊛ some (λ (z : Z). ‵ (last z) ⊛ raw (fact 𝓤 (Told r)) ⊛ raw (fact 𝓤 (Said r z)))))) (post w) $
       await i tt $ pick i (λ r. split i $ move i (1 ∷ []) $ pick i (λ z. split i $ move i (1 ∷ []) $ split i $
-      heard i (R .accepted r ≡ false → R .struct r ≡ h) (λ kept. heard i (Said r z) (λ e.
+      heard i (Told r) (λ told. heard i (Said r z) (λ e.
       move i (1 ∷ []) $ split i $ move i (1 ∷ []) $ peeks i (row F) (Is (row F)) (shows 𝓤 H A (row F)) r (w ∷ []) (λ is. drop i $
       -- [the tokens; the last values; the open borrow's five; the locals s at 7, found, t at 9, c at 10, 0 at 11]
       move i (2 ∷ 3 ∷ 4 ∷ 5 ∷ 6 ∷ []) $ land i (from-at i e₂ (stop i)) (init i 10 refl (LL.lawful F G 𝓤 H A W .typed r _ is .0)) $
       rewrite i 10 (λ (u : Val). ‵ (fat fullShare (layout (shape F)) at-c 0 u)) (ap only (LL.tells F G r _ is) ∙ R .values r) refl $
       assigns i (of-opd i (load i (from-at i e₂ (fld i (R .accepted-at) (stop i))) (look-in i 10 (sub i 1 (R .accepted-at) (whole i))))) (from-at i e₃ (stop i)) (init i 9 refl (tt, tt)) $
-      stores-accepted i D L plain b o h (R .struct r) (R .accepted r) kept (R .struct-is r _ is) (load i (from-at i e₃ (stop i)) (look i 9 refl))
+      stores-accepted i D L plain b o h (R .struct r) (R .accepted r) (unchanged r told) (R .struct-is r _ is) (load i (from-at i e₃ (stop i)) (look i 9 refl))
       (load i (from-at i e₂ (fld i (R .struct-at) (stop i))) (look-in i 10 (sub i 2 (R .struct-at) (whole i)))) (from-at i e₁ (hop i (look i 7 refl) (stop i))) $
       assigns i (of-opd i (load i (from-at i e₂ (fld i (R .answer-at) (stop i))) (look-in i 8 (sub i 0 (R .answer-at) (whole i))))) (from-at i e₄ (stop i))
       (init i 9 refl (R .answer-typed 𝓤 H A W r _ is)) $

@@ -42,6 +42,7 @@ use denote.Triple.Walked.{says, Stays, stay-ref, stay-dropped, gave-ref, gave-sl
 use denote.Triple.Walked.{AllGo, goes-ref, goes-dropped, goes-gave-ref, goes-gave-slice}
 use denote.Exit.{yes}
 use Rattle.cobbletwill.specs.Sessions as Spec
+use Rattle.cobbletwill.specs.bridge.Lent.{Unchanged}
 use Rattle.cobbletwill.specs.declared.sessions.SessionNumbers.{SessionNumbers}
 use Rattle.cobbletwill.specs.declared.sessions.CalledNumbers.{CalledNumbers}
 use Rattle.session.proofs.Laws.Lending.{hands, copies-out, calls-core}
@@ -186,7 +187,7 @@ module _ {M : Type 1} (𝓤 : URA M) (H : Heap 𝓤) (A : Atoms 𝓤) (W : Given
         move ! (11 ∷ 10 ∷ []) $ join ! $ move ! (0 ∷ 12 ∷ 11 ∷ []) $
         use3 W (raw (Core 𝓤 H A at-mem run .pre to-core)) (hands W T.the-type T′.the-laws T′.the-plain toks words-own rest-own h g) $
         calls-core ! fm (Core 𝓤 H A at-mem run) known to-core T.the-type T′.the-laws T′.the-plain returned b o h refl refl refl refl
-        toks (lasts core.ended cκs cx) (λ r zs. Ensured r (zs .1 .1 .1 .0) (zs .1 .1 .1 .1 .0)) (λ w. id⊢ 𝓤 _)
+        toks (lasts core.ended cκs cx) (λ r. Unchanged r h) (λ r told. told) (λ r zs. Ensured r (zs .1 .1 .1 .0) (zs .1 .1 .1 .1 .0)) (λ w. id⊢ 𝓤 _)
         (and-then ! (load ! (from ! (stop !)) (look ! 27 refl)) (and-then ! (load ! (from ! (stop !)) (look ! 7 refl)) (and-then ! (load ! (from ! (stop !)) (look ! 24 refl))
         (and-then ! (load ! (from ! (stop !)) (look ! 14 refl)) (and-then ! (load ! (from ! (stop !)) (look ! 12 refl)) (no-more !))))))
         -- [the closed borrow's three; the tokens; the last values; the five locals; the others]: every local is freed
