@@ -1,27 +1,42 @@
-# `make test` is the gate; `make demo` runs the main job on an example; `make tables` builds the tables; `make bench` times the library.
-.PHONY: test demo tables bench fmt
+# `make demo` converts two samples, unproved; `make build` proves and builds the library and the program; `make test` is the gate;
+# `make install` installs the library; `make tables` builds the tables; `make bench` times the library.
+.PHONY: demo build test install tables bench fmt
+
+demo:
+	@bash examples/demo.sh
+
+build:
+	@bash .ci/build
 
 test:
 	@bash .ci/run
 
-demo:
-	rt staticlib cobbletwill
-	@bash examples/demo.sh
+# The library, where it is not there yet.
+target/staticlib/libcobbletwill.a:
+	@bash .ci/build
 
-# The example in C; `rt staticlib cobbletwill` writes the library.
+# The library, its header and a file for pkg-config, below $(DESTDIR)$(PREFIX).
+PREFIX ?= /usr/local
+install: target/staticlib/libcobbletwill.a
+	install -d "$(DESTDIR)$(PREFIX)/include" "$(DESTDIR)$(PREFIX)/lib/pkgconfig"
+	install -m 644 include/cobbletwill.h "$(DESTDIR)$(PREFIX)/include"
+	install -m 644 target/staticlib/libcobbletwill.a "$(DESTDIR)$(PREFIX)/lib"
+	version=$$(sed -n 's/^#define COBBLETWILL_VERSION "\(.*\)"$$/\1/p' include/cobbletwill.h) && \
+	    sed -e "s,@PREFIX@,$(PREFIX)," -e "s,@VERSION@,$$version," include/cobbletwill.pc.in > "$(DESTDIR)$(PREFIX)/lib/pkgconfig/cobbletwill.pc"
+
+# The example in C.
 target/examples/station: examples/c/station.c include/cobbletwill.h target/staticlib/libcobbletwill.a
 	@mkdir -p $(@D)
 	cc -std=c11 -Wall -Wextra -Werror -O2 -Iinclude -o $@ $< target/staticlib/libcobbletwill.a
 
 # The tables of tables/ from their sources.
-tables:
+tables: target/staticlib/libcobbletwill.a
 	@cargo build --release --offline --locked --quiet --manifest-path tools/Cargo.toml --target-dir target/cargo
 	@for folder in tables/*/; do \
 	    echo "$$folder" && target/cargo/release/build_table "$$folder/rules.txt" "$$folder/rules.tab" || exit 1; \
 	done
 
-bench:
-	rt staticlib cobbletwill
+bench: build
 	cargo run --release --offline --locked --quiet --manifest-path compare/Cargo.toml --target-dir target/cargo --features flex --bin bench
 
 fmt:

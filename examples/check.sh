@@ -1,5 +1,5 @@
 #!/usr/bin/env bash
-# The two stations, in C and in Rust, against every table's expected text, and where they stop or are refused.
+# The two stations, in C and in Rust, against every table's expected text, and where they stop or are refused; and what `make demo` shows.
 set -euo pipefail
 cd "$(dirname "$0")/.."
 
@@ -40,4 +40,9 @@ printf '"a" ==> [256];' > "$out/high.txt"
 target/cargo/release/build_table "$out/high.txt" "$out/high.tab" > "$out/counts"
 expect high 1 "$out/high.tab" "$out/input" "$out/empty" 'an output character above 255'
 
-echo "stations: all tables as expected"
+make --no-print-directory demo > "$out/demo"
+awk '/^-- counts/ { shown = 0 } shown; /^-- output/ { shown = 1 }' "$out/demo" > "$out/text"
+for name in html-decimal sdi12; do cat "tables/$name/expected.txt"; echo; done | cmp - "$out/text"
+tail -n 1 "$out/demo" | grep -qF 'not proved. `make build` proves' || { echo "demo: the last line does not say that nothing is proved" >&2; exit 1; }
+
+echo "stations and demo: all tables as expected"

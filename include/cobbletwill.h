@@ -3,13 +3,26 @@
  * into machine words, and conversion by the words, piece by piece.
  *
  * Document 01 says what tables, characters, direct conversion, machine words and
- * sessions are. The functions are those of the crate `cobbletwill`, in
- * target/staticlib/libcobbletwill.a, which `rt staticlib cobbletwill` writes for x86-64 Linux.
+ * sessions are; docs/FORMAT.md has them byte by byte. The functions are those of
+ * the crate `cobbletwill`, in target/staticlib/libcobbletwill.a, which
+ * `rt staticlib cobbletwill` writes for x86-64 Linux.
  *
- * A buffer is a pointer to its first element and then its number of elements.
- * With the number 0 the pointer is not used and may be null. A buffer that is
- * written must not overlap another one. Nothing is kept after a call, no memory
- * is taken from a heap, and calls on buffers of their own may run at once.
+ * Buffers. A buffer is a pointer to its first element and then its number of
+ * elements. With the number 0 the pointer is not used and may be null. No other
+ * pointer may be null: `session`, `place` and `written` always point to one
+ * object. Pointers are aligned as their type.
+ *
+ * Overlaps. What a call may write (the words of compile, `output`, `*session`,
+ * `*place`, `*written`) must not overlap anything else that is passed to it. What
+ * it only reads (`table`, `input`, `piece`, the words of feed and finish) may
+ * overlap, and may lie in read-only memory.
+ *
+ * A refused call writes nothing, but for a compile refused by 1 to 9, which
+ * leaves its words 0. So at any other refusal what could have been written may
+ * lie in read-only memory too.
+ *
+ * Nothing is kept after a call, no memory is taken from a heap, there is no static
+ * data that is written, and calls on buffers of their own may run at once.
  */
 #ifndef COBBLETWILL_H
 #define COBBLETWILL_H
@@ -17,12 +30,29 @@
 #include <stddef.h>
 #include <stdint.h>
 
+/* The version of this header and its library: session layout, answers, functions. */
+#define COBBLETWILL_VERSION_MAJOR 0
+#define COBBLETWILL_VERSION_MINOR 2
+#define COBBLETWILL_VERSION_PATCH 0
+#define COBBLETWILL_VERSION "0.2.0"
+
 #ifdef __cplusplus
 extern "C" {
 #endif
 
 /* The machine words of a table: 19,697 of 16 bits. */
 enum { COBBLETWILL_WORDS = 19697 };
+
+/* The most stack that a call takes on x86-64, in bytes: its return address, and
+ * all below but for the frames of memcpy and memset. */
+enum {
+    COBBLETWILL_STACK_CHECK = 12288,
+    COBBLETWILL_STACK_CONVERT = 12288,
+    COBBLETWILL_STACK_COMPILE = 14336,
+    COBBLETWILL_STACK_IS_SOUND = 256,
+    COBBLETWILL_STACK_FEED = 1536,
+    COBBLETWILL_STACK_FINISH = 1536
+};
 
 /* The answers of the check, of conversion, of compiling, of feed and of finish. A
  * refusal answers its number. */
@@ -76,6 +106,51 @@ enum {
     COBBLETWILL_OPEN = 65
 };
 
+/* Whether an answer is a refusal, which is none of 0, 64 and 65: a number from 1
+ * to 63, of which 1 to 15 are in use. */
+#define COBBLETWILL_REFUSED(answer) ((answer) - UINT32_C(1) < UINT32_C(63))
+
+/* A refusal in document 01's words; for any other answer, "no refusal". */
+static inline const char *cobbletwill_refusal_text(uint32_t answer) {
+    switch (answer) {
+    case COBBLETWILL_TABLE_LENGTH:
+        return "length no multiple of 8";
+    case COBBLETWILL_FIELD:
+        return "unknown kind, a field outside its own range, "
+               "a byte that must be zero and isn't, lowest above highest";
+    case COBBLETWILL_PLACE:
+        return "a record where its kind can't come, a position not below K, "
+               "ranges or terms out of order";
+    case COBBLETWILL_UNFILLED:
+        return "a position skipped, or unfilled when the ranges end";
+    case COBBLETWILL_NO_RULE:
+        return "no rule";
+    case COBBLETWILL_TOO_MANY:
+        return "a 33rd rule, fifth range of a position, ninth output character";
+    case COBBLETWILL_VALUE:
+        return "an output value may leave 0 to 65535";
+    case COBBLETWILL_CLASSES:
+        return "a 65th class";
+    case COBBLETWILL_STATES:
+        return "a 257th state";
+    case COBBLETWILL_SHORT_WORDS:
+        return "under 19,697 words for compiling";
+    case COBBLETWILL_UNSOUND_WORDS:
+        return "under 19,697 words or not sound";
+    case COBBLETWILL_UNSOUND_SESSION:
+        return "session not sound";
+    case COBBLETWILL_ENDED:
+        return "session closed or stopped";
+    case COBBLETWILL_TOO_LONG:
+        return "received plus piece (direct: input) above 1,099,511,627,776";
+    case COBBLETWILL_SHORT_OUTPUT:
+        return "output shorter than E times (held + piece); "
+               "finish: E times held; direct: E times input";
+    default:
+        return "no refusal";
+    }
+}
+
 /*
  * The table check. `table` has `table_length` bytes, in records of 8.
  *
@@ -87,20 +162,20 @@ uint32_t cobbletwill_check(const uint8_t *table, size_t table_length);
 /*
  * Direct conversion. `table` has `table_length` bytes, `input` has
  * `input_length` characters of 16 bits, `output` has room for `output_length`
- * characters. `place` and `count` each point to one number.
+ * characters. `place` and `written` each point to one number.
  *
  * Answers 0 where the input's end was reached, or 64 where the conversion
  * stopped before it. Then `*place` is the place where it ended (at 0, the
- * number of characters of the input), `*count` is the number of characters
+ * number of characters of the input), `*written` is the number of characters
  * written from the start of `output`, and the rest of `output` is as found.
  *
  * Else answers the first refusal of 1 to 7, 14, 15 in this order, and `output`,
- * `*place` and `*count` are as found.
+ * `*place` and `*written` are as found.
  */
 uint32_t cobbletwill_convert(const uint8_t *table, size_t table_length,
                              const uint16_t *input, size_t input_length,
                              uint16_t *output, size_t output_length,
-                             uint64_t *place, uint64_t *count);
+                             uint64_t *place, uint64_t *written);
 
 /*
  * Compiling. `table` has `table_length` bytes, in records of 8. `words` has room
@@ -141,12 +216,19 @@ uint32_t cobbletwill_compile(const uint8_t *table, size_t table_length,
  */
 uint32_t cobbletwill_is_sound(const uint16_t *words, size_t words_length);
 
+/* What a session has counted. */
+typedef struct cobbletwill_tally {
+    /* Characters written. */
+    uint64_t produced;
+    /* Steps of the machine. */
+    uint64_t steps;
+} cobbletwill_tally;
+
 /*
  * What a feed or a finish leaves for the next one: 48 bytes aligned as a uint64_t,
- * the fields in this order without gaps, and 2 bytes at the end that are not in
- * use. With all fields 0 a session is fresh, as
+ * the fields in this order without gaps. With all of it 0 a session is fresh, as
  *
- *     cobbletwill_session session = {0};
+ *     cobbletwill_session session = COBBLETWILL_FRESH;
  *
  * makes it. A session belongs to the words that it was fed by. It may be copied,
  * kept anywhere and lent again later. One that was altered meanwhile is refused
@@ -156,35 +238,60 @@ typedef struct cobbletwill_session {
     /* Characters received; when stopped, those consumed. At most
      * 1,099,511,627,776. */
     uint64_t received;
-    /* Characters written. */
-    uint64_t produced;
-    /* Steps of the machine. */
-    uint64_t steps;
+    /* What was counted. */
+    cobbletwill_tally tally;
     /* 0 open, 1 closed, 2 stopped. */
-    uint16_t status;
+    uint32_t status;
     /* The number of the machine's state. */
     uint16_t state;
     /* How many characters are held, at most 8. Received less this is consumed. */
-    uint16_t count;
-    /* The characters held: received, but not decided yet. Places from `count` on
-     * are 0. */
+    uint16_t held_count;
+    /* The characters held: received, but not decided yet. Places from
+     * `held_count` on are 0. */
     uint16_t held[8];
 } cobbletwill_session;
+
+/* The value that a fresh session is initialized by. */
+#define COBBLETWILL_FRESH {0, {0, 0}, 0, 0, 0, {0, 0, 0, 0, 0, 0, 0, 0}}
+
+/* The layout that the library was built for. */
+#if defined(__cplusplus) && __cplusplus >= 201103L
+#define COBBLETWILL_HOLDS(condition) static_assert(condition, #condition)
+#elif defined(__STDC_VERSION__) && __STDC_VERSION__ >= 202311L
+#define COBBLETWILL_HOLDS(condition) static_assert(condition, #condition)
+#elif defined(__STDC_VERSION__) && __STDC_VERSION__ >= 201112L
+#define COBBLETWILL_HOLDS(condition) _Static_assert(condition, #condition)
+#endif
+#ifdef COBBLETWILL_HOLDS
+COBBLETWILL_HOLDS(COBBLETWILL_WORDS == 6 + 64 + 3 * 256 + 64 * 256 + 33 * (3 + 8 * 9));
+COBBLETWILL_HOLDS(sizeof(cobbletwill_tally) == 16);
+COBBLETWILL_HOLDS(offsetof(cobbletwill_tally, produced) == 0);
+COBBLETWILL_HOLDS(offsetof(cobbletwill_tally, steps) == 8);
+COBBLETWILL_HOLDS(sizeof(cobbletwill_session) == 8 + 16 + 4 + 2 + 2 + 8 * 2);
+COBBLETWILL_HOLDS(offsetof(cobbletwill_session, received) == 0);
+COBBLETWILL_HOLDS(offsetof(cobbletwill_session, tally) == 8);
+COBBLETWILL_HOLDS(offsetof(cobbletwill_session, status) == 24);
+COBBLETWILL_HOLDS(offsetof(cobbletwill_session, state) == 28);
+COBBLETWILL_HOLDS(offsetof(cobbletwill_session, held_count) == 30);
+COBBLETWILL_HOLDS(offsetof(cobbletwill_session, held) == 32);
+#undef COBBLETWILL_HOLDS
+#endif
 
 /*
  * Feed. `words` has `words_length` words, which are only read; at most the first
  * 19,697 are looked at. `session` points to one session. `piece` has
  * `piece_length` characters of 16 bits: what follows those received so far.
- * `output` has room for `output_length` characters. `count` points to one number.
+ * `output` has room for `output_length` characters. `written` points to one
+ * number.
  *
  * Answers 65 where the session waits for more, or 64 where it stopped, since no
  * rule fits and there is no default. Then `*session` is the session after the
- * piece, `*count` is the number of characters written from the start of `output`,
+ * piece, `*written` is the number of characters written from the start of `output`,
  * and the rest of `output` is as found. Characters that a pattern may still take
  * are held and written by a later call.
  *
  * Else answers the first refusal in this order, and `*session`, `output` and
- * `*count` are as found:
+ * `*written` are as found:
  *
  *   11  fewer than 19,697 words, or words that are not sound
  *   12  a session that is not sound for these words, a status above 2 included
@@ -197,18 +304,18 @@ uint32_t cobbletwill_feed(const uint16_t *words, size_t words_length,
                           cobbletwill_session *session,
                           const uint16_t *piece, size_t piece_length,
                           uint16_t *output, size_t output_length,
-                          uint64_t *count);
+                          uint64_t *written);
 
 /*
  * Finish: the input ends with the characters received. The arguments are those of
  * feed, without a piece.
  *
  * Answers 0 where the session closed at the input's end, or 64 where it stopped
- * before it. `*session`, `output` and `*count` are then as after a feed, and
+ * before it. `*session`, `output` and `*written` are then as after a feed, and
  * nothing is held.
  *
  * Else answers the first refusal in this order, and `*session`, `output` and
- * `*count` are as found:
+ * `*written` are as found:
  *
  *   11  fewer than 19,697 words, or words that are not sound
  *   12  a session that is not sound for these words, a status above 2 included
@@ -218,7 +325,7 @@ uint32_t cobbletwill_feed(const uint16_t *words, size_t words_length,
 uint32_t cobbletwill_finish(const uint16_t *words, size_t words_length,
                             cobbletwill_session *session,
                             uint16_t *output, size_t output_length,
-                            uint64_t *count);
+                            uint64_t *written);
 
 #ifdef __cplusplus
 }

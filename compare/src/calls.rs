@@ -9,7 +9,7 @@ use reference::session::{self, Answer};
 use reference::words::Words;
 
 use crate::cases::{pattern, room};
-use crate::face::{self, Session, OK, OPEN, STOPPED};
+use crate::face::{self, Session, Tally, OK, OPEN, STOPPED};
 
 /// The most characters of a random piece.
 const LONGEST_PIECE: usize = 40;
@@ -107,10 +107,10 @@ pub fn read(session: &Session) -> Option<session::Session> {
         status,
         state: session.state,
         held: session.held,
-        count: session.count,
+        count: session.held_count,
         received: session.received,
-        produced: session.produced,
-        steps: session.steps,
+        produced: session.tally.produced,
+        steps: session.tally.steps,
     })
 }
 
@@ -118,15 +118,17 @@ pub fn read(session: &Session) -> Option<session::Session> {
 pub fn written(session: &session::Session) -> Session {
     Session {
         received: session.received,
-        produced: session.produced,
-        steps: session.steps,
+        tally: Tally {
+            produced: session.produced,
+            steps: session.steps,
+        },
         status: match session.status {
             Status::Open => 0,
             Status::Closed => 1,
             Status::Stopped => 2,
         },
         state: session.state,
-        count: session.count,
+        held_count: session.count,
         held: session.held,
     }
 }
@@ -192,7 +194,7 @@ pub fn random_call(
 ) -> Call {
     // Words and sessions may be damaged; the buffer stays small.
     let most_outputs = usize::from(words[3]).min(8);
-    let held = usize::from(session.count).min(8);
+    let held = usize::from(session.held_count).min(8);
     if random.one_in(12) {
         let output = room(random, most_outputs * held) as u64;
         return Call::Finish { output };

@@ -143,7 +143,7 @@ pub enum Field {
     /// The state number.
     State,
     /// The number of held characters.
-    Count,
+    HeldCount,
     /// A place for a held character.
     Held(usize),
 }
@@ -157,7 +157,7 @@ impl Field {
             Field::Steps,
             Field::Status,
             Field::State,
-            Field::Count,
+            Field::HeldCount,
         ];
         single.into_iter().chain((0..8).map(Field::Held))
     }
@@ -179,11 +179,13 @@ pub fn damaged_session(
     let limits = Limits::of(words, &damaged);
     match field {
         Field::Received => damaged.received = received(random, session),
-        Field::Produced => damaged.produced = large(random, session.produced, limits.produced),
-        Field::Steps => damaged.steps = large(random, session.steps, limits.steps),
-        Field::Status => damaged.status = small(random, session.status, 3),
+        Field::Produced => {
+            damaged.tally.produced = large(random, session.tally.produced, limits.produced)
+        }
+        Field::Steps => damaged.tally.steps = large(random, session.tally.steps, limits.steps),
+        Field::Status => damaged.status = status(random, session.status),
         Field::State => damaged.state = small(random, session.state, words[0]),
-        Field::Count => damaged.count = small(random, session.count, 8),
+        Field::HeldCount => damaged.held_count = small(random, session.held_count, 8),
         Field::Held(place) => {
             let start = words[6 + random.below(usize::from(words[1]))];
             damaged.held[place] = small(random, session.held[place], start);
@@ -205,10 +207,10 @@ pub fn further(random: &mut Random, words: &[u16], session: &Session) -> Option<
     }
     let class = *random.pick(&classes);
     let mut further = *session;
-    *further.held.get_mut(usize::from(session.count))? = words[6 + class];
-    further.count += 1;
+    *further.held.get_mut(usize::from(session.held_count))? = words[6 + class];
+    further.held_count += 1;
     further.received += 1;
-    further.steps += 1;
+    further.tally.steps += 1;
     further.state = words[838 + 64 * state + class];
     Some(further)
 }
@@ -225,7 +227,7 @@ impl Limits {
     /// plus held", closed or stopped "(L + 3) times (consumed + 1)".
     fn of(words: &[u16], session: &Session) -> Limits {
         let [longest, most_outputs] = [words[2], words[3]].map(u64::from);
-        let held = u64::from(session.count);
+        let held = u64::from(session.held_count);
         let consumed = session.received - held;
         Limits {
             produced: most_outputs * consumed,
@@ -241,7 +243,7 @@ impl Limits {
 /// greatest leave no room for a piece.
 fn received(random: &mut Random, session: &Session) -> u64 {
     let near_greatest = MAX_RECEIVED - random.below(50) as u64;
-    let limit = *random.pick(&[u64::from(session.count), MAX_RECEIVED, near_greatest]);
+    let limit = *random.pick(&[u64::from(session.held_count), MAX_RECEIVED, near_greatest]);
     large(random, session.received, limit)
 }
 
@@ -254,6 +256,14 @@ fn large(random: &mut Random, found: u64, limit: u64) -> u64 {
         4..=5 => limit.wrapping_add(1),
         6 => limit.wrapping_sub(1),
         _ => random.number(),
+    }
+}
+
+/// Another status: near, small, or one whose lower 16 bits are as found.
+fn status(random: &mut Random, found: u32) -> u32 {
+    match random.below(4) {
+        0 => found | 1 << random.between(16, 31),
+        _ => u32::from(small(random, found as u16, 3)),
     }
 }
 

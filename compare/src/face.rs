@@ -2,7 +2,7 @@
 //! what direct conversion answers in the independent version's terms.
 
 pub use cobbletwill::raw::{check, compile, convert, feed, finish, is_sound, OK, OPEN, STOPPED};
-pub use cobbletwill::Session;
+pub use cobbletwill::{Session, Tally};
 use reference::direct::Conversion;
 use reference::meaning::Ending;
 

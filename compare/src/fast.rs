@@ -63,7 +63,7 @@ struct Place {
     count: usize,
     /// The steps, modulo 2^64, but for the reads into the store.
     steps: u64,
-    status: u16,
+    status: u32,
 }
 
 impl Fast {
@@ -141,7 +141,7 @@ impl Fast {
 
     /// The number of characters held.
     fn admit(&self, session: &Session, piece: &[u16], output: &[u16]) -> usize {
-        let held = usize::from(session.count);
+        let held = usize::from(session.held_count);
         assert!(session.status == 0, "an open session");
         assert!(
             output.len() >= self.most_outputs * (held + piece.len()),
@@ -278,10 +278,10 @@ fn start(session: &Session) -> Place {
     Place {
         state: 64 * session.state,
         from: 0,
-        at: usize::from(session.count),
+        at: usize::from(session.held_count),
         count: 0,
         // The held characters were read before.
-        steps: 0u64.wrapping_sub(u64::from(session.count)),
+        steps: 0u64.wrapping_sub(u64::from(session.held_count)),
         status: 0,
     }
 }
@@ -297,7 +297,7 @@ fn joined<'h>(head: &'h mut [u16; 8 + AHEAD], held: &[u16], piece: &[u16]) -> &'
 /// Brings a session up to a run over so many more characters, of which it has
 /// consumed so many with those held before; the number of characters written.
 fn leave(session: &mut Session, piece: usize, gone: usize, text: &[u16], run: &Place) -> usize {
-    let consumed = session.received - u64::from(session.count) + gone as u64;
+    let consumed = session.received - u64::from(session.held_count) + gone as u64;
     let store = match run.status {
         0 => &text[run.from..run.at],
         _ => &[],
@@ -306,11 +306,11 @@ fn leave(session: &mut Session, piece: usize, gone: usize, text: &[u16], run: &P
         2 => consumed,
         _ => session.received + piece as u64,
     };
-    session.produced += run.count as u64;
-    session.steps += run.steps.wrapping_add(store.len() as u64);
+    session.tally.produced += run.count as u64;
+    session.tally.steps += run.steps.wrapping_add(store.len() as u64);
     session.status = run.status;
     session.state = run.state / 64;
-    session.count = store.len() as u16;
+    session.held_count = store.len() as u16;
     session.held = [0; 8];
     session.held[..store.len()].copy_from_slice(store);
     run.count

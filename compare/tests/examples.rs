@@ -191,11 +191,11 @@ fn feed(words: &[u16], session: Session, piece: &str) -> Left {
 
 /// What feeds of the pieces and a finish come to: the status, the joined outputs,
 /// the characters consumed and the steps.
-fn fed_text(table: &[u8], pieces: &[&str]) -> (u16, String, u64, u64) {
+fn fed_text(table: &[u8], pieces: &[&str]) -> (u32, String, u64, u64) {
     let pieces: Vec<Vec<u16>> = pieces.iter().map(|piece| characters(piece)).collect();
     let (session, text) = fed(&machine(table), pieces.iter().map(Vec::as_slice));
     let text = String::from_utf16(&text).expect("the examples write text");
-    (session.status, text, session.received, session.steps)
+    (session.status, text, session.received, session.tally.steps)
 }
 
 /// An input that is closed, fed whole, in single characters and with empty pieces
@@ -205,7 +205,7 @@ fn expect_fed(table: &[u8], input: &str, text: &str, steps: u64) {
 }
 
 /// As [`expect_fed`], to any end.
-fn expect_fed_to(table: &[u8], input: &str, expected: (u16, &str, usize, u64)) {
+fn expect_fed_to(table: &[u8], input: &str, expected: (u32, &str, usize, u64)) {
     let (status, text, consumed, steps) = expected;
     let expected = (status, text.to_string(), consumed as u64, steps);
     let single: Vec<&str> = (0..input.len())
@@ -249,7 +249,7 @@ fn where_compilers_of_this_kind_slip() {
     assert_eq!(first.session.held[..2], characters("&#"));
     let second = feed(&words, first.session, "38;");
     assert_eq!((second.code, second.text()), (OPEN, &[38][..]));
-    assert_eq!(second.session.count, 0);
+    assert_eq!(second.session.held_count, 0);
     assert_eq!(fed_text(&t1(), &["&#", "38;"]).1, "&");
     // After a rollback, skipping all the characters given back instead of one.
     assert_eq!(fed_text(&t1(), &["&", "&#", "65;"]).1, "&A");
@@ -266,7 +266,10 @@ fn a_feed_writes_as_soon_as_no_pattern_may_go_on() {
         (second.code, second.text()),
         (STOPPED, &characters("Y")[..])
     );
-    assert_eq!((second.session.received, second.session.steps), (1, 4));
+    assert_eq!(
+        (second.session.received, second.session.tally.steps),
+        (1, 4)
+    );
     assert_eq!(feed(&words, second.session, "a").code, 13);
     assert_eq!(by_library(&words, second.session, &ROOMY_FINISH).code, 13);
 }

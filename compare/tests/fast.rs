@@ -20,7 +20,7 @@ const SEED: u64 = 1;
 const TABLES: usize = 2_000;
 
 /// Feeds an input in random pieces and finishes, by both; answers the status.
-fn compare(random: &mut Random, words: &[u16], mut input: &[u16]) -> u16 {
+fn compare(random: &mut Random, words: &[u16], mut input: &[u16]) -> u32 {
     let fast = Fast::new(words).expect("compiled words are sound");
     let mut session = Session::FRESH;
     while session.status == 0 {

@@ -71,7 +71,7 @@ impl Met {
             Call::Feed { piece, .. } => (&piece[..], false),
             Call::Finish { .. } => (&[][..], true),
         };
-        let held = &session.held[..usize::from(session.count)];
+        let held = &session.held[..usize::from(session.held_count)];
         let mut machine = Machine::resume(&words, StateNo(session.state), held, piece, ended);
         loop {
             let state = machine.state();

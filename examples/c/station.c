@@ -25,6 +25,11 @@ static uint16_t words[COBBLETWILL_WORDS];
 static uint16_t piece[PIECE];
 static uint16_t output[ROOM];
 
+/* Says why a call was refused. */
+static void report_refusal(uint32_t answer) {
+    fprintf(stderr, "station: refused %" PRIu32 ": %s\n", answer, cobbletwill_refusal_text(answer));
+}
+
 /* Compiles the table of a file; says why not. */
 static bool compile(const char *path) {
     FILE *file = fopen(path, "rb");
@@ -34,11 +39,11 @@ static bool compile(const char *path) {
     }
     size_t length = fread(table, 1, sizeof table, file);
     fclose(file);
-    uint32_t refusal = cobbletwill_compile(table, length, words, COBBLETWILL_WORDS);
-    if (refusal != 0) {
-        fprintf(stderr, "station: refused %" PRIu32 "\n", refusal);
+    uint32_t answer = cobbletwill_compile(table, length, words, COBBLETWILL_WORDS);
+    if (COBBLETWILL_REFUSED(answer)) {
+        report_refusal(answer);
     }
-    return refusal == 0;
+    return answer == COBBLETWILL_OK;
 }
 
 /* Reads a piece, one character a byte; its length, 0 at the end. */
@@ -56,8 +61,8 @@ static size_t read_piece(void) {
 }
 
 /* Prints output characters, one a byte; none above 255 is printed as another. */
-static bool print_text(uint64_t count) {
-    for (uint64_t i = 0; i < count; i++) {
+static bool print_text(uint64_t written) {
+    for (uint64_t i = 0; i < written; i++) {
         if (output[i] > 255) {
             fputs("station: an output character above 255\n", stderr);
             return false;
@@ -69,12 +74,12 @@ static bool print_text(uint64_t count) {
 
 /* The counts, with the steps beside their bound. */
 static void report(const cobbletwill_session *session, uint32_t answer, uint64_t fed) {
-    uint64_t consumed = session->received - session->count;
+    uint64_t consumed = session->received - session->held_count;
     uint64_t longest = words[2];
     fprintf(stderr, "%s: %" PRIu64 " characters fed, %" PRIu64 " consumed, %" PRIu64 " produced\n",
-            answer == COBBLETWILL_STOPPED ? "stopped" : "closed", fed, consumed, session->produced);
+            answer == COBBLETWILL_STOPPED ? "stopped" : "closed", fed, consumed, session->tally.produced);
     fprintf(stderr, "%" PRIu64 " steps, at most (%" PRIu64 " + 3) * %" PRIu64 " + 1 = %" PRIu64 "\n",
-            session->steps, longest, fed, (longest + 3) * fed + 1);
+            session->tally.steps, longest, fed, (longest + 3) * fed + 1);
 }
 
 int main(int argc, char **argv) {
@@ -85,24 +90,24 @@ int main(int argc, char **argv) {
     if (!compile(argv[1])) {
         return 1;
     }
-    cobbletwill_session session = {0};
+    cobbletwill_session session = COBBLETWILL_FRESH;
     uint64_t fed = 0;
     uint32_t answer = COBBLETWILL_OPEN;
     while (answer == COBBLETWILL_OPEN) {
-        uint64_t count = 0;
+        uint64_t written = 0;
         size_t length = read_piece();
         if (length == 0) {
-            answer = cobbletwill_finish(words, COBBLETWILL_WORDS, &session, output, ROOM, &count);
+            answer = cobbletwill_finish(words, COBBLETWILL_WORDS, &session, output, ROOM, &written);
         } else {
-            answer = cobbletwill_feed(words, COBBLETWILL_WORDS, &session, piece, length, output, ROOM, &count);
+            answer = cobbletwill_feed(words, COBBLETWILL_WORDS, &session, piece, length, output, ROOM, &written);
         }
         fed += length;
-        if (!print_text(count)) {
+        if (!print_text(written)) {
             return 1;
         }
     }
-    if (answer != COBBLETWILL_OK && answer != COBBLETWILL_STOPPED) {
-        fprintf(stderr, "station: refused %" PRIu32 "\n", answer);
+    if (COBBLETWILL_REFUSED(answer)) {
+        report_refusal(answer);
         return 1;
     }
     report(&session, answer, fed);

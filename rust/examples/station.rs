@@ -8,7 +8,7 @@ use std::io::{self, Read, Write};
 use std::process::ExitCode;
 use std::{env, fs};
 
-use cobbletwill::{Machine, Progress, Session, Status};
+use cobbletwill::{Machine, Progress, Session, Status, Tally};
 
 /// The most bytes that are read at once.
 const PIECE: usize = 4096;
@@ -36,12 +36,12 @@ fn station() -> Result<Status, Box<dyn Error>> {
         let length = io::stdin().read(&mut bytes)?;
         let piece: Vec<u16> = bytes[..length].iter().copied().map(u16::from).collect();
         let mut output = vec![0; session.room(&machine, length)];
-        let Progress { count, status } = match length {
+        let Progress { written, status } = match length {
             0 => session.finish(&machine, &mut output)?,
             _ => session.feed(&machine, &piece, &mut output)?,
         };
         fed += length as u64;
-        print_text(&output[..count])?;
+        print_text(&output[..written])?;
         if status != Status::Open {
             break status;
         }
@@ -61,7 +61,8 @@ fn print_text(text: &[u16]) -> Result<(), Box<dyn Error>> {
 
 /// The counts, with the steps beside their bound.
 fn report(machine: &Machine, session: &Session, status: Status, fed: u64) {
-    let (consumed, produced, steps) = (session.consumed(), session.produced, session.steps);
+    let Tally { produced, steps } = session.tally;
+    let consumed = session.consumed();
     let ending = match status {
         Status::Stopped => "stopped",
         Status::Open | Status::Closed => "closed",

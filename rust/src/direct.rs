@@ -21,7 +21,7 @@ pub struct Conversion {
     /// The input's end, or the place at which conversion stopped.
     pub place: usize,
     /// The number of characters written from the buffer's start.
-    pub count: usize,
+    pub written: usize,
 }
 
 /// The table check: refused by the first of 1 to 7 in document 01's order.
@@ -37,8 +37,8 @@ pub fn check(table: &[u8]) -> Result<(), Refusal> {
 ///
 /// [`MOST_OUTPUTS`](crate::MOST_OUTPUTS) times the input is room enough.
 pub fn convert(table: &[u8], input: &[u16], output: &mut [u16]) -> Result<Conversion, Refusal> {
-    let (mut place, mut count) = (0, 0);
-    let ending = match raw::convert(table, input, output, &mut place, &mut count) {
+    let (mut place, mut written) = (0, 0);
+    let ending = match raw::convert(table, input, output, &mut place, &mut written) {
         raw::OK => Ending::Closed,
         raw::STOPPED => Ending::Stopped,
         number => return Err(Refusal::answered(number)),
@@ -47,6 +47,6 @@ pub fn convert(table: &[u8], input: &[u16], output: &mut [u16]) -> Result<Conver
     Ok(Conversion {
         ending,
         place: place as usize,
-        count: count as usize,
+        written: written as usize,
     })
 }

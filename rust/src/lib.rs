@@ -15,7 +15,7 @@
 //! let mut text = [0; 5];
 //! let piece: Vec<u16> = "0+214".encode_utf16().collect();
 //! let fed = session.feed(&machine, &piece, &mut text)?;
-//! assert_eq!((fed.status, fed.count), (Status::Open, 5));
+//! assert_eq!((fed.status, fed.written), (Status::Open, 5));
 //! assert_eq!(String::from_utf16_lossy(&text), "0 214");
 //! assert_eq!(session.finish(&machine, &mut [])?.status, Status::Closed);
 //! # Ok::<(), cobbletwill::Refusal>(())
@@ -40,11 +40,9 @@ mod session;
 
 pub use direct::{check, convert, Conversion, Ending};
 pub use machine::Machine;
+pub use raw::{Session, Tally, WORDS};
 pub use refusal::Refusal;
-pub use session::{run, Progress, Session, Status};
-
-/// The machine words of a table: 19,697 of 16 bits.
-pub const WORDS: usize = 19_697;
+pub use session::{run, Progress, Status};
 
 /// The most output characters that a group has, so that so many times the input
 /// is room enough under every table.

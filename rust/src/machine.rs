@@ -2,9 +2,8 @@
 
 use std::fmt;
 
-use crate::raw;
+use crate::raw::{self, WORDS};
 use crate::refusal::Refusal;
-use crate::WORDS;
 
 /// A machine: sound words, compiled from a table or tested.
 #[derive(Clone, PartialEq, Eq)]

@@ -1,10 +1,14 @@
-//! The functions of `include/cobbletwill.h` as they are, safe to call: answers
-//! are numbers, and words and sessions may have any content. This module has the
-//! package's only unsafe code.
+//! The functions of `include/cobbletwill.h` as they are, safe to call, and the
+//! session as C holds it: answers are numbers, and words and sessions may have any
+//! content. This module has the package's only unsafe code, and stands on none of
+//! the others.
 
 #![allow(unsafe_code)]
 
-use crate::session::Session;
+use std::mem::offset_of;
+
+/// The machine words of a table: 19,697 of 16 bits.
+pub const WORDS: usize = 19_697;
 
 /// The answer for a table that is accepted or compiled, and for a conversion or
 /// a session that closed.
@@ -14,9 +18,67 @@ pub const STOPPED: u32 = 64;
 /// The answer for a session that waits for more.
 pub const OPEN: u32 = 65;
 
+/// What a session has counted, as the header's `cobbletwill_tally`.
+#[repr(C)]
+#[derive(Clone, Copy, Debug, PartialEq, Eq)]
+pub struct Tally {
+    /// Characters written.
+    pub produced: u64,
+    /// Steps of the machine.
+    pub steps: u64,
+}
+
+/// What is kept between calls, as the header's `cobbletwill_session`. The fields
+/// may have any values; a call on a session that is not sound is refused by 12.
+#[repr(C)]
+#[derive(Clone, Copy, Debug, PartialEq, Eq)]
+pub struct Session {
+    /// Characters received; when stopped, those consumed.
+    pub received: u64,
+    /// What was counted.
+    pub tally: Tally,
+    /// 0 open, 1 closed, 2 stopped.
+    pub status: u32,
+    /// The number of the machine's state.
+    pub state: u16,
+    /// How many characters are held.
+    pub held_count: u16,
+    /// The characters held; places from `held_count` on are 0.
+    pub held: [u16; 8],
+}
+
+impl Session {
+    /// "Fresh: open, all 0."
+    pub const FRESH: Session = Session {
+        received: 0,
+        tally: Tally {
+            produced: 0,
+            steps: 0,
+        },
+        status: 0,
+        state: 0,
+        held_count: 0,
+        held: [0; 8],
+    };
+}
+
+// The header's layout, which has no padding.
+const _: () = {
+    assert!(size_of::<Tally>() == 16 && align_of::<Tally>() == 8);
+    assert!(size_of::<Session>() == 48 && align_of::<Session>() == 8);
+    assert!(offset_of!(Tally, produced) == 0);
+    assert!(offset_of!(Tally, steps) == 8);
+    assert!(offset_of!(Session, received) == 0);
+    assert!(offset_of!(Session, tally) == 8);
+    assert!(offset_of!(Session, status) == 24);
+    assert!(offset_of!(Session, state) == 28);
+    assert!(offset_of!(Session, held_count) == 30);
+    assert!(offset_of!(Session, held) == 32);
+};
+
 /// The declarations, as C has them.
 mod c {
-    use crate::session::Session;
+    use super::Session;
 
     extern "C" {
         pub fn cobbletwill_check(table: *const u8, table_length: usize) -> u32;
@@ -29,7 +91,7 @@ mod c {
             output: *mut u16,
             output_length: usize,
             place: *mut u64,
-            count: *mut u64,
+            written: *mut u64,
         ) -> u32;
 
         pub fn cobbletwill_compile(
@@ -49,7 +111,7 @@ mod c {
             piece_length: usize,
             output: *mut u16,
             output_length: usize,
-            count: *mut u64,
+            written: *mut u64,
         ) -> u32;
 
         pub fn cobbletwill_finish(
@@ -58,7 +120,7 @@ mod c {
             session: *mut Session,
             output: *mut u16,
             output_length: usize,
-            count: *mut u64,
+            written: *mut u64,
         ) -> u32;
     }
 }
@@ -71,13 +133,13 @@ pub fn check(table: &[u8]) -> u32 {
 }
 
 /// Direct conversion: 0 for closed or 64 for stopped, with the place and the
-/// count set, or the number of a refusal.
+/// number of characters written set, or the number of a refusal.
 pub fn convert(
     table: &[u8],
     input: &[u16],
     output: &mut [u16],
     place: &mut u64,
-    count: &mut u64,
+    written: &mut u64,
 ) -> u32 {
     // SAFETY: each pointer and length are those of a slice, and what is written
     // is borrowed for this call alone.
@@ -90,7 +152,7 @@ pub fn convert(
             output.as_mut_ptr(),
             output.len(),
             place,
-            count,
+            written,
         )
     }
 }
@@ -109,14 +171,14 @@ pub fn is_sound(words: &[u16]) -> u32 {
     unsafe { c::cobbletwill_is_sound(words.as_ptr(), words.len()) }
 }
 
-/// A feed: 65 for open, 0 for closed or 64 for stopped, with the count set, or
-/// the number of a refusal.
+/// A feed: 65 for open or 64 for stopped, with the number of characters written
+/// set, or the number of a refusal.
 pub fn feed(
     words: &[u16],
     session: &mut Session,
     piece: &[u16],
     output: &mut [u16],
-    count: &mut u64,
+    written: &mut u64,
 ) -> u32 {
     // SAFETY: each pointer and length are those of a slice, the session has the
     // layout of the header's, and what is written is borrowed for this call alone.
@@ -129,13 +191,13 @@ pub fn feed(
             piece.len(),
             output.as_mut_ptr(),
             output.len(),
-            count,
+            written,
         )
     }
 }
 
-/// A finish: answers as [`feed`] does.
-pub fn finish(words: &[u16], session: &mut Session, output: &mut [u16], count: &mut u64) -> u32 {
+/// A finish: 0 for closed or 64 for stopped, else as [`feed`].
+pub fn finish(words: &[u16], session: &mut Session, output: &mut [u16], written: &mut u64) -> u32 {
     // SAFETY: as for a feed.
     unsafe {
         c::cobbletwill_finish(
@@ -144,7 +206,7 @@ pub fn finish(words: &[u16], session: &mut Session, output: &mut [u16], count: &
             session,
             output.as_mut_ptr(),
             output.len(),
-            count,
+            written,
         )
     }
 }
@@ -154,8 +216,7 @@ pub fn finish(words: &[u16], session: &mut Session, output: &mut [u16], count: &
 mod tests {
     use std::ptr::{null, null_mut};
 
-    use super::c;
-    use crate::{Session, WORDS};
+    use super::{c, Session, WORDS};
 
     /// One rule without output, which takes `a`.
     const TABLE: [u8; 16] = [1, 1, 0, 0, 0, 0, 0, 0, 2, 0, 0, 0, 97, 0, 97, 0];
@@ -173,16 +234,25 @@ mod tests {
     #[test]
     fn empty_inputs_and_outputs_of_a_conversion() {
         let (table, length) = (TABLE.as_ptr(), TABLE.len());
-        let (mut place, mut count) = (17, 19);
+        let (mut place, mut written) = (17, 19);
         // SAFETY: with the length 0 a pointer is not used; the others are those
         // of a slice and of numbers that are borrowed for this call alone.
         let mut convert = |table, length| unsafe {
             let output = null_mut();
-            c::cobbletwill_convert(table, length, null(), 0, output, 0, &mut place, &mut count)
+            c::cobbletwill_convert(
+                table,
+                length,
+                null(),
+                0,
+                output,
+                0,
+                &mut place,
+                &mut written,
+            )
         };
         assert_eq!(convert(null(), 0), 5);
         assert_eq!(convert(table, length), 0);
-        assert_eq!((place, count), (0, 0));
+        assert_eq!((place, written), (0, 0));
     }
 
     #[test]
@@ -190,17 +260,17 @@ mod tests {
         let mut words = vec![0; WORDS];
         assert_eq!(super::compile(&TABLE, &mut words), 0);
         let (words, length) = (words.as_ptr(), words.len());
-        let (mut session, mut count) = (Session::fresh(), 19);
+        let (mut session, mut written) = (Session::FRESH, 19);
         // SAFETY: with the length 0 a pointer is not used; the others are those
         // of the words, of a session and of a number borrowed for this call alone.
         unsafe {
             let (at, out) = (&mut session, null_mut());
-            let fed = c::cobbletwill_feed(words, length, at, null(), 0, out, 0, &mut count);
-            assert_eq!((fed, count), (65, 0));
-            let refused = c::cobbletwill_finish(null(), 0, at, out, 0, &mut count);
+            let fed = c::cobbletwill_feed(words, length, at, null(), 0, out, 0, &mut written);
+            assert_eq!((fed, written), (65, 0));
+            let refused = c::cobbletwill_finish(null(), 0, at, out, 0, &mut written);
             assert_eq!(refused, 11);
-            let closed = c::cobbletwill_finish(words, length, at, out, 0, &mut count);
-            assert_eq!((closed, count), (0, 0));
+            let closed = c::cobbletwill_finish(words, length, at, out, 0, &mut written);
+            assert_eq!((closed, written), (0, 0));
         }
     }
 }

@@ -1,30 +1,8 @@
 //! Sessions, feed and finish.
 
 use crate::machine::Machine;
-use crate::raw;
+use crate::raw::{self, Session};
 use crate::refusal::Refusal;
-
-/// What is kept between calls. The fields are those of the header's
-/// `cobbletwill_session` and may have any values; a call on a session that is
-/// not sound is refused by 12.
-#[repr(C)]
-#[derive(Clone, Copy, Debug, PartialEq, Eq)]
-pub struct Session {
-    /// Characters received.
-    pub received: u64,
-    /// Characters produced.
-    pub produced: u64,
-    /// Steps counted.
-    pub steps: u64,
-    /// 0 open, 1 closed, 2 stopped.
-    pub status: u16,
-    /// The state number.
-    pub state: u16,
-    /// The number of held characters.
-    pub count: u16,
-    /// The held characters; places not in use are 0.
-    pub held: [u16; 8],
-}
 
 /// The status of a session.
 #[derive(Clone, Copy, Debug, PartialEq, Eq)]
@@ -41,23 +19,12 @@ pub enum Status {
 #[derive(Clone, Copy, Debug, PartialEq, Eq)]
 pub struct Progress {
     /// The number of characters written from the buffer's start.
-    pub count: usize,
+    pub written: usize,
     /// The session's status after the call.
     pub status: Status,
 }
 
 impl Session {
-    /// "Fresh: open, all 0."
-    pub const FRESH: Session = Session {
-        received: 0,
-        produced: 0,
-        steps: 0,
-        status: 0,
-        state: 0,
-        count: 0,
-        held: [0; 8],
-    };
-
     /// A fresh session.
     pub fn fresh() -> Session {
         Session::FRESH
@@ -65,13 +32,13 @@ impl Session {
 
     /// "Consumed is received less held", of a sound session.
     pub fn consumed(&self) -> u64 {
-        self.received.saturating_sub(u64::from(self.count))
+        self.received.saturating_sub(u64::from(self.held_count))
     }
 
     /// The output room that a feed of so many characters asks for, a finish with
     /// 0: E times (held + piece).
     pub fn room(&self, machine: &Machine, piece_length: usize) -> usize {
-        let held = usize::from(self.count);
+        let held = usize::from(self.held_count);
         usize::from(machine.most_outputs()).saturating_mul(held.saturating_add(piece_length))
     }
 
@@ -83,16 +50,16 @@ impl Session {
         piece: &[u16],
         output: &mut [u16],
     ) -> Result<Progress, Refusal> {
-        let mut count = 0;
-        let answer = raw::feed(machine.words(), self, piece, output, &mut count);
-        progress(answer, count)
+        let mut written = 0;
+        let answer = raw::feed(machine.words(), self, piece, output, &mut written);
+        progress(answer, written)
     }
 
     /// Gives the input its end. Refused by 12, 13 or 15, with nothing changed.
     pub fn finish(&mut self, machine: &Machine, output: &mut [u16]) -> Result<Progress, Refusal> {
-        let mut count = 0;
-        let answer = raw::finish(machine.words(), self, output, &mut count);
-        progress(answer, count)
+        let mut written = 0;
+        let answer = raw::finish(machine.words(), self, output, &mut written);
+        progress(answer, written)
     }
 }
 
@@ -106,19 +73,19 @@ pub fn run<'a>(
     for piece in pieces {
         let mut output = vec![0; session.room(machine, piece.len())];
         let fed = session.feed(machine, piece, &mut output)?;
-        text.extend(&output[..fed.count]);
+        text.extend(&output[..fed.written]);
         if fed.status == Status::Stopped {
             return Ok((text, session));
         }
     }
     let mut output = vec![0; session.room(machine, 0)];
     let finished = session.finish(machine, &mut output)?;
-    text.extend(&output[..finished.count]);
+    text.extend(&output[..finished.written]);
     Ok((text, session))
 }
 
-/// The answer of a feed or finish; its count is at most the output's length.
-fn progress(answer: u32, count: u64) -> Result<Progress, Refusal> {
+/// The answer of a feed or finish; what it wrote is at most the output's length.
+fn progress(answer: u32, written: u64) -> Result<Progress, Refusal> {
     let status = match answer {
         raw::OK => Status::Closed,
         raw::STOPPED => Status::Stopped,
@@ -126,7 +93,7 @@ fn progress(answer: u32, count: u64) -> Result<Progress, Refusal> {
         number => return Err(Refusal::answered(number)),
     };
     Ok(Progress {
-        count: count as usize,
+        written: written as usize,
         status,
     })
 }

@@ -1,11 +1,13 @@
 //! For those who write tables: [`source`] makes a table from a readable text,
-//! [`listing`] prints a table's records in words and says where it is refused.
+//! [`build`] says where one is refused, [`listing`] prints a table's records in
+//! words.
 //!
 //! Whether a table is accepted is decided by the proved library alone.
 
 #![forbid(unsafe_code)]
 #![warn(missing_docs)]
 
+pub mod build;
 mod expression;
 pub mod listing;
 mod place;

@@ -3,7 +3,7 @@
 use cobbletwill::record::Record;
 use cobbletwill::{Machine, Refusal};
 
-use crate::place::{opens_group, place, Place};
+use crate::place::{opens_group, opens_rule, place, Place};
 
 /// The table's records, one a line, group by group, and the verdict.
 pub fn listing(table: &[u8]) -> String {
@@ -136,7 +136,7 @@ fn group_of(records: &[Record], number: usize) -> String {
         None => "no group".to_owned(),
         Some([5, ..]) => "the default".to_owned(),
         Some(_) => {
-            let rules = before.iter().filter(|record| record[0] == 1).count();
+            let rules = before.iter().filter(|record| opens_rule(record)).count();
             format!("rule {}", rules - 1)
         }
     }

@@ -48,9 +48,14 @@ fn refused_record(records: &[Record]) -> Option<usize> {
     (first < records.len()).then_some(first)
 }
 
+/// Whether a record opens a rule's group.
+pub fn opens_rule(record: &Record) -> bool {
+    record[0] == 1
+}
+
 /// Whether a record opens a group.
 pub fn opens_group(record: &Record) -> bool {
-    matches!(record[0], 1 | 5)
+    opens_rule(record) || record[0] == 5
 }
 
 /// Whether a record is an output character.

@@ -3,24 +3,44 @@
 use std::error::Error;
 use std::fmt;
 
-/// Why a text is no source, and where.
+/// A place in a source.
 #[derive(Clone, Copy, Debug, PartialEq, Eq)]
-pub struct Fault {
+pub struct At {
     /// The line, counted from 1.
     pub line: usize,
     /// The column, counted from 1 in 16-bit units.
     pub column: usize,
+}
+
+impl At {
+    /// The place behind a text.
+    pub fn behind(text: &[u16]) -> At {
+        let line_start = text.iter().rposition(|&unit| unit == 10);
+        At {
+            line: text.iter().filter(|&&unit| unit == 10).count() + 1,
+            column: text.len() - line_start.map_or(0, |end| end + 1) + 1,
+        }
+    }
+}
+
+impl fmt::Display for At {
+    fn fmt(&self, f: &mut fmt::Formatter<'_>) -> fmt::Result {
+        write!(f, "line {}, column {}", self.line, self.column)
+    }
+}
+
+/// Why a text is no source, and where.
+#[derive(Clone, Copy, Debug, PartialEq, Eq)]
+pub struct Fault {
+    /// Where.
+    pub at: At,
     /// What is wrong there.
     pub what: &'static str,
 }
 
 impl fmt::Display for Fault {
     fn fmt(&self, f: &mut fmt::Formatter<'_>) -> fmt::Result {
-        write!(
-            f,
-            "line {}, column {}: {}",
-            self.line, self.column, self.what
-        )
+        write!(f, "{}: {}", self.at, self.what)
     }
 }
 
@@ -44,6 +64,17 @@ impl Reader {
     /// The place of the next character.
     pub fn place(&self) -> usize {
         self.at
+    }
+
+    /// The next character's line and column.
+    pub fn here(&self) -> At {
+        At::behind(&self.units[..self.at])
+    }
+
+    /// The next symbol's line and column, after blanks and line ends.
+    pub fn symbol(&mut self) -> At {
+        self.skip();
+        self.here()
     }
 
     /// The next character, not yet read.
@@ -111,12 +142,7 @@ impl Reader {
 
     /// A fault at a place.
     pub fn fault_at(&self, place: usize, what: &'static str) -> Fault {
-        let before = &self.units[..place];
-        let line_start = before.iter().rposition(|&unit| unit == 10);
-        Fault {
-            line: before.iter().filter(|&&unit| unit == 10).count() + 1,
-            column: place - line_start.map_or(0, |end| end + 1) + 1,
-            what,
-        }
+        let at = At::behind(&self.units[..place]);
+        Fault { at, what }
     }
 }

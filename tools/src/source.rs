@@ -5,23 +5,79 @@
 use cobbletwill::record::{output, range, rule, term, Record, DEFAULT};
 
 use crate::expression::{sum, Linear};
-pub use crate::reader::Fault;
+use crate::place::{opens_rule, Place};
 use crate::reader::Reader;
+pub use crate::reader::{At, Fault};
 
 /// The most items of a pattern.
 const LONGEST: u8 = 8;
 
+const NO_TEXT: &str = "a byte that is no UTF-8";
 const CONTROL: &str = "a control character; its picture, as ␊, may stand here";
 
-/// The table of a source, with its records in the source's order. It may still be
-/// refused by 3 to 9.
-pub fn table(source: &str) -> Result<Vec<u8>, Fault> {
-    let mut reader = Reader::new(&without_comments(source));
-    let mut records = Vec::new();
-    while !reader.at_end() {
-        line(&mut reader, &mut records)?;
+/// The records of a source in its order, and where each of them stands there. The
+/// table may still be refused by 3 to 9.
+#[derive(Clone, Debug, PartialEq, Eq)]
+pub struct Source {
+    records: Vec<Record>,
+    places: Vec<At>,
+    end: At,
+}
+
+impl Source {
+    /// Reads a source.
+    pub fn read(text: &str) -> Result<Source, Fault> {
+        let mut reader = Reader::new(&without_comments(text));
+        let mut source = Source {
+            records: Vec::new(),
+            places: Vec::new(),
+            end: reader.here(),
+        };
+        while !reader.at_end() {
+            line(&mut reader, &mut source)?;
+        }
+        source.end = reader.here();
+        Ok(source)
     }
-    Ok(records.concat())
+
+    /// The table.
+    pub fn table(&self) -> Vec<u8> {
+        self.records.concat()
+    }
+
+    /// Where the source has what stands at a place of the table.
+    pub(crate) fn at(&self, place: Place) -> At {
+        let record = match place {
+            Place::Record(number) => Some(number),
+            Place::Rule(number) => {
+                let numbers = 0..self.records.len();
+                { numbers.filter(|&at| opens_rule(&self.records[at])) }.nth(number)
+            }
+            Place::Bytes(_) | Place::End => None,
+        };
+        record.map_or(self.end, |number| self.places[number])
+    }
+
+    /// Adds a record that stands at a place.
+    fn push(&mut self, at: At, record: Record) {
+        self.records.push(record);
+        self.places.push(at);
+    }
+}
+
+/// The table of a source.
+pub fn table(text: &str) -> Result<Vec<u8>, Fault> {
+    Ok(Source::read(text)?.table())
+}
+
+/// The text that a source's bytes are.
+pub fn text(bytes: &[u8]) -> Result<&str, Fault> {
+    str::from_utf8(bytes).map_err(|fault| {
+        let before = &bytes[..fault.valid_up_to()];
+        let units: Vec<u16> = { String::from_utf8_lossy(before).encode_utf16() }.collect();
+        let at = At::behind(&units);
+        Fault { at, what: NO_TEXT }
+    })
 }
 
 /// The source with its comments empty, so that lines keep their numbers.
@@ -32,24 +88,25 @@ fn without_comments(source: &str) -> String {
 }
 
 /// A pattern or `else`, `==>`, output expressions and a semicolon.
-fn line(reader: &mut Reader, records: &mut Vec<Record>) -> Result<(), Fault> {
+fn line(reader: &mut Reader, source: &mut Source) -> Result<(), Fault> {
+    let at = reader.symbol();
     if reader.takes("else") {
-        records.push(DEFAULT);
+        source.push(at, DEFAULT);
     } else {
         reader.expect("\"", "a pattern in quotes or `else` has to come here")?;
-        pattern(reader, records)?;
+        pattern(reader, at, source)?;
     }
     reader.expect("==>", "`==>` has to come here")?;
     reader.expect("[", "`[` has to come here")?;
     if !reader.takes("]") {
-        outputs(reader, records)?;
+        outputs(reader, source)?;
     }
     reader.expect(";", "`;` has to come here")
 }
 
-/// The items of a pattern and the closing quote: the rule's record and its
-/// ranges.
-fn pattern(reader: &mut Reader, records: &mut Vec<Record>) -> Result<(), Fault> {
+/// The items of a pattern, whose opening quote stands at a place, and the closing
+/// quote: the rule's record and its ranges.
+fn pattern(reader: &mut Reader, at: At, source: &mut Source) -> Result<(), Fault> {
     let mut ranges = Vec::new();
     let mut length = 0;
     let anchored = loop {
@@ -71,25 +128,29 @@ fn pattern(reader: &mut Reader, records: &mut Vec<Record>) -> Result<(), Fault> 
     if !reader.reads(b'"') {
         return Err(reader.fault("a quote has to come here"));
     }
-    records.push(rule(length, anchored));
-    records.append(&mut ranges);
+    source.push(at, rule(length, anchored));
+    for (at, range) in ranges {
+        source.push(at, range);
+    }
     Ok(())
 }
 
 /// One character, or in square brackets single characters and ranges.
-fn item(reader: &mut Reader, position: u8, ranges: &mut Vec<Record>) -> Result<(), Fault> {
+fn item(reader: &mut Reader, position: u8, ranges: &mut Vec<(At, Record)>) -> Result<(), Fault> {
+    let at = reader.here();
     if !reader.reads(b'[') {
         let character = character(reader, false)?;
-        ranges.push(range(position, character, character));
+        ranges.push((at, range(position, character, character)));
         return Ok(());
     }
     loop {
+        let at = reader.here();
         let lowest = character(reader, true)?;
         let highest = match reader.reads(b'-') {
             true => character(reader, true)?,
             false => lowest,
         };
-        ranges.push(range(position, lowest, highest));
+        ranges.push((at, range(position, lowest, highest)));
         if reader.reads(b']') {
             return Ok(());
         }
@@ -114,26 +175,27 @@ fn character(reader: &mut Reader, in_brackets: bool) -> Result<u16, Fault> {
 }
 
 /// Expressions with commas between, and the closing bracket.
-fn outputs(reader: &mut Reader, records: &mut Vec<Record>) -> Result<(), Fault> {
+fn outputs(reader: &mut Reader, source: &mut Source) -> Result<(), Fault> {
     loop {
+        let at = reader.symbol();
         let value = sum(reader, 0)?;
-        write(reader, value, records)?;
+        write(reader, at, value, source)?;
         if !reader.takes(",") {
             return reader.expect("]", "`,` or `]` has to come here");
         }
     }
 }
 
-/// An output character and its terms by position, "a final coefficient of 0
-/// giving no record".
-fn write(reader: &Reader, value: Linear, records: &mut Vec<Record>) -> Result<(), Fault> {
+/// An output character, which stands at a place, and its terms by position, "a
+/// final coefficient of 0 giving no record".
+fn write(reader: &Reader, at: At, value: Linear, source: &mut Source) -> Result<(), Fault> {
     let constant = i32::try_from(value.constant);
-    records.push(output(constant.expect("parts are within 32 bits")));
+    source.push(at, output(constant.expect("parts are within 32 bits")));
     for (position, coefficient) in (0..).zip(value.coefficients) {
         let coefficient = i16::try_from(coefficient);
         match coefficient.map_err(|_| reader.fault("a coefficient outside signed 16 bits"))? {
             0 => (),
-            coefficient => records.push(term(position, coefficient)),
+            coefficient => source.push(at, term(position, coefficient)),
         }
     }
     Ok(())

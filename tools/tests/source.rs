@@ -16,7 +16,7 @@ fn gives(source: &str, records: &[Record]) {
 fn faulty(source: &str, line: usize, column: usize) {
     let fault = table(source).expect_err(source);
     assert_eq!(
-        (fault.line, fault.column),
+        (fault.at.line, fault.at.column),
         (line, column),
         "{source}: {fault}"
     );

@@ -44,7 +44,7 @@ fn direct(table: &[u8], input: &[u16]) -> Vec<u16> {
     let mut output = vec![0; MOST_OUTPUTS * input.len()];
     let answer = convert(table, input, &mut output).expect("accepted");
     assert_eq!((answer.ending, answer.place), (Ending::Closed, input.len()));
-    output.truncate(answer.count);
+    output.truncate(answer.written);
     output
 }
 
@@ -54,8 +54,8 @@ fn fed(machine: &Machine, pieces: &[&[u16]], expected: &[u16]) -> u64 {
     assert_eq!(joined, expected);
     let length = pieces.concat().len() as u64;
     assert_eq!((session.status, session.received), (1, length));
-    assert!(session.steps <= machine.most_steps(length));
-    session.steps
+    assert!(session.tally.steps <= machine.most_steps(length));
+    session.tally.steps
 }
 
 #[test]

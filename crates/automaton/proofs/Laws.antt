@@ -6,6 +6,7 @@ pub mod Levels
 pub mod Adding
 pub mod Exploring
 pub mod States
+pub mod Reached
 pub mod Places
 pub mod Blocks
 pub mod Alike

@@ -1,6 +1,7 @@
 -- What the rollback machine reads, made from a table and from machine words.
 use mathlib.Core.Bool.{Bool}
-use mathlib.Core.List.{List}
+use mathlib.Core.List.{List, [], _∷_}
+use mathlib.Core.Logic.{_≢_}
 use Prim.Native.Nat.{ℕ}
 use lib.Dec.{eqb}
 use lib.ListN.{getD, take, drop}
@@ -23,6 +24,16 @@ pub record Automaton : Type 0 where
   pub default : Bool
   -- what a group writes for a word
   pub write : ℕ → List ℕ → List ℕ
+
+-- the state that a word leads to from state q
+unfoldable pub after : Automaton → ℕ → List ℕ → ℕ
+after A q [] = q
+after A q (x ∷ w) = after A (A .target q x) w
+
+-- each character of w has a target, from state q on
+abbrev pub Leads : Automaton → ℕ → List ℕ → Type 0
+Leads A q [] = Unit {0}
+Leads A q (x ∷ w) = (A .target q x ≢ 0) × Leads A (A .target q x) w
 
 -- "with the states, classes and groups defined above from the table"
 unfoldable pub fromTable : Table → Automaton

@@ -10,7 +10,7 @@ use session::kept::Status;
 use session::tally::Tally;
 ghost use mathlib.Core.Path.{_≡_};
 ghost use Rattle.automaton.specs.Sound.{sound};
-ghost use Rattle.session.specs.Keeping.{statusOf, sessionOf};
+ghost use Rattle.session.specs.Keeping.{meantStatus, sessionOf};
 ghost use Rattle.session.specs.Contracts.{answerOf};
 ghost use Rattle.cobbletwill.specs.Sessions as Spec;
 ghost use Rattle.cobbletwill.specs.bridge.Lent.{Unchanged};
@@ -36,7 +36,7 @@ pub struct CalledNumbers {
 
 // The status of a number up to 2.
 fn status_from(number: u32) -> Status
-    ensures { λ r. ⌜ statusOf r ≡ Spec.statusFrom number ⌝ }
+    ensures { λ r. ⌜ meantStatus r ≡ Spec.statusFrom number ⌝ }
 {
     match number {
         0 => Status::Open,
@@ -47,7 +47,7 @@ fn status_from(number: u32) -> Status
 
 // A session's status as it is kept.
 fn status_number(status: Status) -> u32
-    ensures { λ r. ⌜ r ≡ Spec.statusNumber (statusOf status) ⌝ }
+    ensures { λ r. ⌜ r ≡ Spec.statusNumber (meantStatus status) ⌝ }
 {
     match status {
         Status::Open => 0,
@@ -58,7 +58,7 @@ fn status_number(status: Status) -> u32
 
 // A session's status as an accepted call answers it.
 fn status_code(status: Status) -> u32
-    ensures { λ r. ⌜ r ≡ Spec.statusCode (statusOf status) ⌝ }
+    ensures { λ r. ⌜ r ≡ Spec.statusCode (meantStatus status) ⌝ }
 {
     match status {
         Status::Open => 65,

@@ -1,2 +1,3 @@
 pub mod Text
+pub mod Turns
 pub mod bridge

@@ -4,10 +4,13 @@ use mathlib.Core.List.{List, [], _∷_, _++_}
 use mathlib.Core.Path.{_≡_}
 use Prim.Native.Nat.{ℕ, _+_, _/_, _%_}
 use lib.Dec.{ltb}
+use lib.ListN.{take}
 use Rattle.io.specs.Digits.{digits, Fewest}
 use Rattle.lists.specs.Lists.{flatMap}
-use Rattle.session.specs.declared.kept.Status.{Status}
-use Rattle.session.specs.declared.kept.Status.the-variants.{Open, Closed, Stopped}
+use Rattle.meaning.specs.Refusal.{Outcome, refused, accepted}
+use Rattle.reckoning.specs.Machine.{Status, Open, Closed, Stopped}
+use Rattle.reckoning.specs.Session.{Session, consumed}
+use Rattle.reckoning.specs.Calls.{Answer, CallOutcome}
 
 -- the code of a digit below 16: `0` to `9`, then `A` to `F`
 abbrev pub hexDigit : ℕ → ℕ
@@ -52,3 +55,19 @@ pub record RefusalLine (number : ℕ) (line : List ℕ) : Type 0 where
   pub first : List ℕ
   pub refuses : Numbered (114 ∷ 101 ∷ 102 ∷ 117 ∷ 115 ∷ 101 ∷ 100 ∷ []) number first
   pub text : line ≡ first ++ 10 ∷ []
+
+-- what is printed for an accepted call: the lines of the characters that it wrote, then the last line, and nothing behind
+pub record AcceptedLines (characters : List ℕ) (status : Status) (consumed steps : ℕ) (printed : List ℕ) : Type 0 where
+  pub line : List ℕ
+  pub last : StatusLine status consumed steps line
+  pub text : printed ≡ hexLines characters ++ line
+
+-- what is printed for an answer, with the session and the buffer that the call left
+abbrev pub PrintedFor : Outcome Answer → Session → List ℕ → List ℕ → Type 0
+PrintedFor (accepted a) session output printed =
+    AcceptedLines (take (a .count) output) (a .status) (consumed session) (session .steps) printed
+PrintedFor (refused n) session output printed = RefusalLine n printed
+
+-- what is printed for a feed or a finish
+abbrev pub Printed : CallOutcome → List ℕ → Type 0
+Printed o printed = PrintedFor (o .answer) (o .session) (o .output) printed

@@ -4,6 +4,7 @@ ghost use mathlib.Core.Path.{_≡_};
 ghost use Prim.Native.Nat.{_+_, _*_, _≤_, _<_};
 ghost use lib.ListN.{length, take};
 ghost use Rattle.io.specs.Counts.{Counts};
+ghost use Rattle.session.specs.Keeping.{meantStatus};
 ghost use Rattle.convert.specs.Text.{hexDigit, hexLine, hexLines, Numbered, EndLine, StatusLine, RefusalLine};
 use session::kept::Status;
 
@@ -33,7 +34,7 @@ fn put_line(c: u16, text: &mut [u8], at: usize)
 // The characters' lines go to the start of the text; how many bytes they have.
 pub fn put_lines(characters: &[u16], text: &mut [u8]) -> usize
     requires { ⌜ 5 * length (now characters) ≤ length (now text) ⌝ }
-    ensures { λ r. ⌜ Counts r (now (text .exit)) ⌝ }
+    ensures { λ r. ⌜ r ≡ 5 * length (now (characters .entry)) ⌝ }
     ensures { λ r. ⌜ take r (now (text .exit)) ≡ hexLines (now (characters .entry)) ⌝ }
 {
     let mut at: usize = 0;
@@ -47,7 +48,7 @@ pub fn put_lines(characters: &[u16], text: &mut [u8]) -> usize
 }
 
 // The bytes go to the text from `at` on; the place after them.
-fn put(bytes: &[u8], text: &mut [u8], at: usize) -> usize
+pub fn put(bytes: &[u8], text: &mut [u8], at: usize) -> usize
     requires { ⌜ at + length (now bytes) ≤ length (now text) ⌝ }
     ensures { λ r. ⌜ r ≡ at + length (now (bytes .entry)) ⌝ }
     ensures { λ r. ⌜ take r (now (text .exit)) ≡ take at (now (text .entry)) ++ now (bytes .entry) ⌝ }
@@ -89,7 +90,7 @@ fn put_end(word: &[u8], consumed: u64, steps: u64, text: &mut [u8]) -> usize
 pub fn put_status(status: Status, consumed: u64, steps: u64, text: &mut [u8]) -> usize
     requires { ⌜ 64 ≤ length (now text) ⌝ }
     ensures { λ r. ⌜ Counts r (now (text .exit)) ⌝ }
-    ensures { λ r. ⌜ StatusLine status consumed steps (take r (now (text .exit))) ⌝ }
+    ensures { λ r. ⌜ StatusLine (meantStatus status) consumed steps (take r (now (text .exit))) ⌝ }
 {
     match status {
         Status::Open => 0,

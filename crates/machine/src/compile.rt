@@ -1,25 +1,32 @@
-// Compiling: a table's machine words, by way of its flat arrays.
+// Compiling: a table's machine words, by way of its loaded array.
 ghost use mathlib.Core.List.{[], _∷_, _++_};
 ghost use mathlib.Core.Path.{_≡_};
 ghost use Prim.Native.Nat.{_≤_};
 ghost use lib.ListN.{length, take, drop};
 ghost use Rattle.lists.specs.Lists.{pad};
 ghost use Rattle.meaning.specs.Block.{bit, blocksSize};
-ghost use Rattle.meaning.specs.bridge.Flat.{Flat};
+ghost use Rattle.meaning.specs.bridge.Flat.{Flat, blocksOf};
 ghost use Rattle.automaton.specs.Layout.{wordCount, blocksFrom, classesFrom};
 ghost use Rattle.automaton.specs.Compile as Spec;
 ghost use Rattle.machine.specs.Compiled.{compiledOf};
 ghost use Rattle.machine.specs.bridge.Building.{longestAt, built};
 use crate::gather::gather_starts;
+use crate::layout::BLOCKS_FROM;
+use crate::layout::CLASS_COUNT;
+use crate::layout::DEFAULTED;
+use crate::layout::EXPANSION;
+use crate::layout::LONGEST;
+use crate::layout::RULE_COUNT;
+use crate::layout::STATE_COUNT;
+use crate::layout::WORDS;
 use crate::states::build_states;
 use rules::convert::expansion;
+use rules::layout::BLOCK;
+use rules::layout::BLOCKS;
+use rules::layout::LOADED;
 use rules::load::Load;
 use rules::load::load_table;
 use rules::reader::bit_of;
-use rules::layout::BLOCK;
-use rules::layout::BLOCKS;
-use crate::layout::BLOCKS_FROM;
-use crate::layout::WORDS;
 
 pub enum Compiled {
     Accepted,
@@ -39,26 +46,26 @@ fn clear(words: &mut [u16])
 }
 
 // The blocks go to the last words.
-fn copy_blocks(words: &mut [u16], blocks: &[u16])
-    requires { ⌜ (wordCount ≤ length (now words)) × (length (now blocks) ≡ blocksSize) ⌝ }
-    ensures { λ _. ⌜ now (words .exit) ≡ take blocksFrom (now (words .entry)) ++ now (blocks .entry) ++ drop wordCount (now (words .entry)) ⌝ }
+fn copy_blocks(words: &mut [u16], loaded: &[u16])
+    requires { ⌜ (wordCount ≤ length (now words)) × (blocksSize ≤ length (now loaded)) ⌝ }
+    ensures { λ _. ⌜ now (words .exit) ≡ take blocksFrom (now (words .entry)) ++ blocksOf (now (loaded .entry)) ++ drop wordCount (now (words .entry)) ⌝ }
 {
     let mut i: usize = 0;
     while i < BLOCKS {
-        words[BLOCKS_FROM + i] = blocks[i];
+        words[BLOCKS_FROM + i] = loaded[i];
         i += 1;
     }
 }
 
 // L: the greatest length of the first `rules` groups.
-fn longest_of(blocks: &[u16], rules: usize) -> usize
-    requires { ⌜ (length (now blocks) ≡ blocksSize) × (rules ≤ 32) ⌝ }
-    ensures { λ r. ⌜ r ≡ longestAt (now (blocks .entry)) rules ⌝ }
+fn longest_of(loaded: &[u16], rules: usize) -> usize
+    requires { ⌜ (blocksSize ≤ length (now loaded)) × (rules ≤ 32) ⌝ }
+    ensures { λ r. ⌜ r ≡ longestAt (now (loaded .entry)) rules ⌝ }
 {
     let mut most: usize = 0;
     let mut group = 0;
     while group < rules {
-        let size = blocks[BLOCK * group] as usize;
+        let size = loaded[BLOCK * group] as usize;
         if most < size {
             most = size;
         }
@@ -82,45 +89,38 @@ fn put_header(
         ⌜ now (words .exit) ≡ (states ∷ classes ∷ longest ∷ expansion ∷ rules ∷ bit defaulted ∷ []) ++ drop classesFrom (now (words .entry)) ⌝ }
 {
     let last = bit_of(defaulted);
-    words[0] = states as u16;
-    words[1] = classes as u16;
-    words[2] = longest as u16;
-    words[3] = expansion as u16;
-    words[4] = rules as u16;
-    words[5] = last;
+    words[STATE_COUNT] = states as u16;
+    words[CLASS_COUNT] = classes as u16;
+    words[LONGEST] = longest as u16;
+    words[EXPANSION] = expansion as u16;
+    words[RULE_COUNT] = rules as u16;
+    words[DEFAULTED] = last;
 }
 
-// Refusals 8 and 9, then the words by the arrays of a table, into words that are 0.
-fn build(
-    slots: &[u16],
-    ranges: &[u16],
-    blocks: &[u16],
-    rules: usize,
-    defaulted: bool,
-    words: &mut [u16],
-) -> Compiled
-    requires { ⌜ Flat (now slots) (now ranges) (now blocks) × (rules ≤ 32) ⌝ }
+// Refusals 8 and 9, then the words by the array of a table, into words that are 0.
+fn build(loaded: &[u16], rules: usize, defaulted: bool, words: &mut [u16]) -> Compiled
+    requires { ⌜ Flat (now loaded) × (rules ≤ 32) ⌝ }
     requires { ⌜ (wordCount ≤ length (now words)) × (now words ≡ pad wordCount [] ++ drop wordCount (now words)) ⌝ }
     ensures answer { λ r.
-        ⌜ compiledOf r ≡ built (now (slots .entry)) (now (ranges .entry)) (now (blocks .entry)) rules defaulted (now (words .entry)) .answer ⌝ }
+        ⌜ compiledOf r ≡ built (now (loaded .entry)) rules defaulted (now (words .entry)) .answer ⌝ }
     ensures words { λ _.
-        ⌜ now (words .exit) ≡ built (now (slots .entry)) (now (ranges .entry)) (now (blocks .entry)) rules defaulted (now (words .entry)) .words ⌝ }
+        ⌜ now (words .exit) ≡ built (now (loaded .entry)) rules defaulted (now (words .entry)) .words ⌝ }
 {
-    let classes = gather_starts(slots, ranges, blocks, rules, words);
+    let classes = gather_starts(loaded, rules, words);
     if classes > 64 {
         clear(words);
         return Compiled::Refused(8);
     }
     let mut sets = [0u32; 256];
-    let states = build_states(slots, ranges, blocks, rules, classes, words, &mut sets);
+    let states = build_states(loaded, rules, classes, words, &mut sets);
     if states > 256 {
         clear(words);
         return Compiled::Refused(9);
     }
-    let longest = longest_of(blocks, rules);
-    let most = expansion(blocks, rules, defaulted);
+    let longest = longest_of(loaded, rules);
+    let most = expansion(loaded, rules, defaulted);
     put_header(words, states, classes, longest, most, rules, defaulted);
-    copy_blocks(words, blocks);
+    copy_blocks(words, loaded);
     Compiled::Accepted
 }
 
@@ -133,14 +133,10 @@ pub fn compile(table: &[u8], words: &mut [u16]) -> Compiled
         return Compiled::Refused(10);
     }
     clear(words);
-    let mut slots = [0u16; 264];
-    let mut ranges = [0u16; 2112];
-    let mut blocks = [0u16; BLOCKS];
-    let loaded = load_table(table, &mut slots, &mut ranges, &mut blocks);
-    match loaded {
+    let mut loaded = [0u16; LOADED];
+    let load = load_table(table, &mut loaded);
+    match load {
         Load::Refused(n) => Compiled::Refused(n),
-        Load::Accepted { rules, defaulted } => {
-            build(&slots, &ranges, &blocks, rules, defaulted, words)
-        }
+        Load::Accepted { rules, defaulted } => build(&loaded, rules, defaulted, words),
     }
 }

@@ -7,12 +7,14 @@ ghost use lib.Dec.{eqb, ltb};
 ghost use lib.ListN.{length, take, drop};
 ghost use Rattle.lists.specs.Lists.{flatMap, pad};
 ghost use Rattle.meaning.specs.Block.{at, blockSize};
-ghost use Rattle.meaning.specs.bridge.Flat.{rangesAt, patternAt, tableAt, Flat};
+ghost use Rattle.meaning.specs.bridge.Flat.{slotsFrom, loadedSize, rangesAt, patternAt, tableAt, Flat};
 ghost use Rattle.automaton.specs.Classes.{edges, starts};
 ghost use Rattle.automaton.specs.bridge.Gathered.{placeIn, rangeFrom, Gathers, Gathered};
 ghost use Rattle.automaton.specs.Layout.{classesFrom, statesFrom};
-use rules::layout::BLOCK;
 use crate::layout::CLASSES_FROM;
+use rules::layout::BLOCK;
+use rules::layout::RANGES_FROM;
+use rules::layout::SLOTS_FROM;
 
 // The place of `start` among the `count` rising words from word 6 on.
 fn place_of(words: &[u16], count: usize, start: u16) -> usize
@@ -76,12 +78,12 @@ fn insert_start(words: &mut [u16], count: usize, start: u16) -> usize
 }
 
 // The edges of the range whose two numbers start at `i`.
-fn gather_range(ranges: &[u16], i: usize, words: &mut [u16], count: usize) -> usize
-    requires { ⌜ (i + 2 ≤ length (now ranges)) × (statesFrom ≤ length (now words)) × (count ≤ 65) ⌝ }
-    ensures { λ r. ⌜ Gathers (edges (rangeFrom (now (ranges .entry)) i)) (now (words .entry)) count (now (words .exit)) r ⌝ }
+fn gather_range(loaded: &[u16], i: usize, words: &mut [u16], count: usize) -> usize
+    requires { ⌜ (i + 2 ≤ length (now loaded)) × (statesFrom ≤ length (now words)) × (count ≤ 65) ⌝ }
+    ensures { λ r. ⌜ Gathers (edges (rangeFrom (now (loaded .entry)) i)) (now (words .entry)) count (now (words .exit)) r ⌝ }
 {
-    let lowest = ranges[i];
-    let highest = ranges[i + 1];
+    let lowest = loaded[i];
+    let highest = loaded[i + 1];
     let met = insert_start(words, count, lowest);
     if highest < 65535 {
         return insert_start(words, met, highest + 1);
@@ -90,71 +92,52 @@ fn gather_range(ranges: &[u16], i: usize, words: &mut [u16], count: usize) -> us
 }
 
 // The edges of a place's ranges: position p of group g has place 8 g + p.
-fn gather_place(
-    slots: &[u16],
-    ranges: &[u16],
-    place: usize,
-    words: &mut [u16],
-    count: usize,
-) -> usize
-    requires { ⌜ (place < 264) × (length (now slots) ≡ 264) × (length (now ranges) ≡ 2112) × (at (now slots) place ≤ 4) ⌝ }
+fn gather_place(loaded: &[u16], place: usize, words: &mut [u16], count: usize) -> usize
+    requires { ⌜ (place < 33 * 8) × (length (now loaded) ≡ loadedSize) × (at (now loaded) (slotsFrom + place) ≤ 4) ⌝ }
     requires { ⌜ (statesFrom ≤ length (now words)) × (count ≤ 65) ⌝ }
     ensures { λ r.
-        ⌜ Gathers (flatMap edges (rangesAt (now (slots .entry)) (now (ranges .entry)) place)) (now (words .entry)) count (now (words .exit)) r ⌝ }
+        ⌜ Gathers (flatMap edges (rangesAt (now (loaded .entry)) place)) (now (words .entry)) count (now (words .exit)) r ⌝ }
 {
-    let number = slots[place] as usize;
+    let number = loaded[SLOTS_FROM + place] as usize;
     let mut met = count;
     let mut k: usize = 0;
     while k < number {
-        met = gather_range(ranges, 8 * place + 2 * k, words, met);
+        met = gather_range(loaded, RANGES_FROM + 8 * place + 2 * k, words, met);
         k += 1;
     }
     met
 }
 
 // The edges of a rule's ranges.
-fn gather_rule(
-    slots: &[u16],
-    ranges: &[u16],
-    blocks: &[u16],
-    rule: usize,
-    words: &mut [u16],
-    count: usize,
-) -> usize
-    requires { ⌜ Flat (now slots) (now ranges) (now blocks) × (rule < 32) ⌝ }
+fn gather_rule(loaded: &[u16], rule: usize, words: &mut [u16], count: usize) -> usize
+    requires { ⌜ Flat (now loaded) × (rule < 32) ⌝ }
     requires { ⌜ (statesFrom ≤ length (now words)) × (count ≤ 65) ⌝ }
     ensures { λ r.
-        ⌜ Gathers (flatMap (flatMap edges) (patternAt (now (slots .entry)) (now (ranges .entry)) rule (at (now (blocks .entry)) (blockSize * rule))))
+        ⌜ Gathers (flatMap (flatMap edges) (patternAt (now (loaded .entry)) rule (at (now (loaded .entry)) (blockSize * rule))))
         (now (words .entry)) count (now (words .exit)) r ⌝ }
 {
-    let size = blocks[BLOCK * rule] as usize;
+    let size = loaded[BLOCK * rule] as usize;
     let mut met = count;
     let mut p: usize = 0;
     while p < size {
-        met = gather_place(slots, ranges, 8 * rule + p, words, met);
+        met = gather_place(loaded, 8 * rule + p, words, met);
         p += 1;
     }
     met
 }
 
 // The class starts of the table go to the words from word 6 on, which are 0; their number, and 65 for more than 64.
-pub fn gather_starts(
-    slots: &[u16],
-    ranges: &[u16],
-    blocks: &[u16],
-    rules: usize,
-    words: &mut [u16],
-) -> usize
-    requires { ⌜ Flat (now slots) (now ranges) (now blocks) × (rules ≤ 32) ⌝ }
+pub fn gather_starts(loaded: &[u16], rules: usize, words: &mut [u16]) -> usize
+    requires { ⌜ Flat (now loaded) × (rules ≤ 32) ⌝ }
     requires { ⌜ (statesFrom ≤ length (now words)) × (take 64 (drop classesFrom (now words)) ≡ pad 64 []) ⌝ }
     ensures { λ r.
-        ⌜ Gathered (starts (tableAt (now (slots .entry)) (now (ranges .entry)) (now (blocks .entry)) rules false))
+        ⌜ Gathered (starts (tableAt (now (loaded .entry)) rules false))
         (now (words .entry)) (now (words .exit)) r ⌝ }
 {
     let mut met: usize = 1;
     let mut rule: usize = 0;
     while rule < rules {
-        met = gather_rule(slots, ranges, blocks, rule, words, met);
+        met = gather_rule(loaded, rule, words, met);
         rule += 1;
     }
     met

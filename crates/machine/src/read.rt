@@ -2,31 +2,106 @@
 use crate::numbers::ClassNo;
 use crate::numbers::RuleNo;
 use crate::numbers::StateNo;
-use rules::output::write_group;
 ghost use mathlib.Core.Path.{_≡_};
 ghost use mathlib.Core.Bool.{_&&_};
 ghost use mathlib.Core.List.{_++_};
 ghost use Prim.Native.Nat.{_+_, _≤_, _<_};
 ghost use lib.Dec.{T, eqb};
 ghost use lib.ListN.{length, take, drop};
-ghost use Rattle.meaning.specs.Block.{at, blockOutput, blockSize};
+ghost use Rattle.meaning.specs.Block.{at, entryValue, blockOutput, blockSize};
 ghost use Rattle.automaton.specs.Classes.{classOf};
 ghost use Rattle.automaton.specs.Layout.{wordCount, classesFrom};
-ghost use Rattle.automaton.specs.Sound.{classCount, longestWord, expansionWord, depthWord, acceptAtEndWord, acceptWord, targetWord, blockAt, used, sound};
+ghost use Rattle.automaton.specs.Sound.{stateCount, classCount, ruleCount, longestWord, expansionWord, depthWord, acceptAtEndWord, acceptWord, targetWord, blockAt, used, sound};
 ghost use Rattle.machine.specs.bridge.Readings.{wordOf};
 use crate::layout::ACCEPT_FROM;
 use crate::layout::AT_END_FROM;
-use rules::layout::BLOCK;
 use crate::layout::BLOCKS_FROM;
+use crate::layout::CLASS_COUNT;
 use crate::layout::CLASSES_FROM;
+use crate::layout::DEFAULTED;
+use crate::layout::EXPANSION;
+use crate::layout::LONGEST;
+use crate::layout::RULE_COUNT;
+use crate::layout::STATE_COUNT;
 use crate::layout::STATES_FROM;
 use crate::layout::TARGETS_FROM;
-use crate::layout::WORDS;
+use rules::layout::BLOCK;
 
 // The rule that a state accepts, or nothing.
 pub enum Accept {
     Rule(RuleNo),
     Nothing,
+}
+
+// A word as a size.
+fn size(word: u16) -> usize
+    ensures { λ r. ⌜ r ≡ word ⌝ }
+{
+    word as usize
+}
+
+// How many states there are.
+pub fn state_count(words: &[u16]) -> usize
+    requires { ⌜ wordCount ≤ length (now words) ⌝ }
+    ensures { λ r. ⌜ r ≡ stateCount (now (words .entry)) ⌝ }
+{
+    size(words[STATE_COUNT])
+}
+
+// How many classes there are.
+pub fn class_count(words: &[u16]) -> usize
+    requires { ⌜ wordCount ≤ length (now words) ⌝ }
+    ensures { λ r. ⌜ r ≡ classCount (now (words .entry)) ⌝ }
+{
+    size(words[CLASS_COUNT])
+}
+
+// L, the longest rule's K.
+pub fn longest(words: &[u16]) -> usize
+    requires { ⌜ wordCount ≤ length (now words) ⌝ }
+    ensures { λ r. ⌜ r ≡ longestWord (now (words .entry)) ⌝ }
+{
+    size(words[LONGEST])
+}
+
+// E, the most characters that a group writes.
+pub fn expansion(words: &[u16]) -> usize
+    requires { ⌜ wordCount ≤ length (now words) ⌝ }
+    ensures { λ r. ⌜ r ≡ expansionWord (now (words .entry)) ⌝ }
+{
+    size(words[EXPANSION])
+}
+
+// How many rules there are.
+pub fn rule_count(words: &[u16]) -> usize
+    requires { ⌜ wordCount ≤ length (now words) ⌝ }
+    ensures { λ r. ⌜ r ≡ ruleCount (now (words .entry)) ⌝ }
+{
+    size(words[RULE_COUNT])
+}
+
+// The word for a default: 1 where the table has one, else 0.
+pub fn default_word(words: &[u16]) -> u16
+    requires { ⌜ wordCount ≤ length (now words) ⌝ }
+    ensures { λ r. ⌜ r ≡ at (now (words .entry)) 5 ⌝ }
+{
+    words[DEFAULTED]
+}
+
+// The table has a default.
+pub fn has_default(words: &[u16]) -> bool
+    requires { ⌜ wordCount ≤ length (now words) ⌝ }
+    ensures { λ r. ⌜ r ≡ eqb (at (now (words .entry)) 5) 1 ⌝ }
+{
+    words[DEFAULTED] == 1
+}
+
+// The first character of a class.
+pub fn class_start(words: &[u16], class: usize) -> u16
+    requires { ⌜ (wordCount ≤ length (now words)) × (class < 64) ⌝ }
+    ensures { λ r. ⌜ r ≡ at (now (words .entry)) (classesFrom + class) ⌝ }
+{
+    words[CLASSES_FROM + class]
 }
 
 // The class of a character, by halving: the last start not above it is that of a class from `low` on and below `high`.
@@ -35,10 +110,10 @@ pub fn class_of(words: &[u16], c: u16) -> ClassNo
     ensures { λ r. ⌜ r .0 ≡ classOf (take (classCount (now (words .entry))) (drop classesFrom (now (words .entry)))) c ⌝ }
 {
     let mut low: usize = 0;
-    let mut high = size(words[1]);
+    let mut high = class_count(words);
     while low + 1 < high {
         let middle = (low + high) / 2;
-        if words[CLASSES_FROM + middle] <= c {
+        if class_start(words, middle) <= c {
             low = middle;
         } else {
             high = middle;
@@ -123,37 +198,6 @@ pub fn settled(words: &[u16], state: StateNo) -> bool
     go == accept_at_end_word(words, state)
 }
 
-// The table has a default.
-pub fn has_default(words: &[u16]) -> bool
-    requires { ⌜ wordCount ≤ length (now words) ⌝ }
-    ensures { λ r. ⌜ r ≡ eqb (at (now (words .entry)) 5) 1 ⌝ }
-{
-    words[5] == 1
-}
-
-// A word as a size.
-fn size(word: u16) -> usize
-    ensures { λ r. ⌜ r ≡ word ⌝ }
-{
-    word as usize
-}
-
-// L, the longest rule's K.
-pub fn longest(words: &[u16]) -> usize
-    requires { ⌜ wordCount ≤ length (now words) ⌝ }
-    ensures { λ r. ⌜ r ≡ longestWord (now (words .entry)) ⌝ }
-{
-    size(words[2])
-}
-
-// E, the most characters that a group writes.
-pub fn expansion(words: &[u16]) -> usize
-    requires { ⌜ wordCount ≤ length (now words) ⌝ }
-    ensures { λ r. ⌜ r ≡ expansionWord (now (words .entry)) ⌝ }
-{
-    size(words[3])
-}
-
 // Word `i` of a group's block.
 fn block_word(words: &[u16], group: usize, i: usize) -> u16
     requires { ⌜ (wordCount ≤ length (now words)) × (group < 33) × (i < blockSize) ⌝ }
@@ -170,12 +214,29 @@ pub fn group_size(words: &[u16], group: usize) -> usize
     size(block_word(words, group, 0))
 }
 
+// Whether a group is anchored: 1 or 0.
+pub fn group_anchored(words: &[u16], group: usize) -> usize
+    requires { ⌜ (wordCount ≤ length (now words)) × (group < 33) ⌝ }
+    ensures { λ r. ⌜ r ≡ at (blockAt (now (words .entry)) group) 1 ⌝ }
+{
+    size(block_word(words, group, 1))
+}
+
 // How many characters a group writes.
 pub fn group_outputs(words: &[u16], group: usize) -> usize
     requires { ⌜ (wordCount ≤ length (now words)) × (group < 33) ⌝ }
     ensures { λ r. ⌜ r ≡ at (blockAt (now (words .entry)) group) 2 ⌝ }
 {
     size(block_word(words, group, 2))
+}
+
+// What an entry of a group writes for the group's characters.
+pub fn entry_value(words: &[u16], group: usize, entry: usize, word: &[u16]) -> u16
+    requires { ⌜ (wordCount ≤ length (now words)) × (group < 33) × (entry < 8) ⌝ }
+    requires { ⌜ (length (now word) ≡ at (blockAt (now words) group) 0) × (length (now word) ≤ 8) ⌝ }
+    ensures { λ r. ⌜ r ≡ entryValue (blockAt (now (words .entry)) group) entry (now (word .entry)) ⌝ }
+{
+    rules::output::entry_value(&words[BLOCKS_FROM..], group, entry, word)
 }
 
 // What a group writes for the first K characters of the store goes to `output` from `count` on; the count after it.
@@ -196,5 +257,5 @@ pub fn write_rule(
         ++ blockOutput (blockAt (now (words .entry)) group) (take (at (blockAt (now (words .entry)) group) 0) (now (store .entry)))
         ++ drop (count + at (blockAt (now (words .entry)) group) 2) (now (output .entry)) ⌝ }
 {
-    write_group(&words[BLOCKS_FROM..WORDS], group, store, 0, output, count)
+    rules::output::write_group(&words[BLOCKS_FROM..], group, store, 0, output, count)
 }

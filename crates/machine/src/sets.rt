@@ -1,8 +1,7 @@
 // Sets of rules kept as numbers, rule r by bit r: built by doubling and adding, taken apart by halves.
-ghost use mathlib.Core.Bool.{Bool, false, _&&_, not};
-ghost use mathlib.Core.List.{List};
+ghost use mathlib.Core.Bool.{false, _&&_, not};
 ghost use mathlib.Core.Path.{_≡_};
-ghost use Prim.Native.Nat.{ℕ, _+_, _*_, _^_, _≤_, _<_};
+ghost use Prim.Native.Nat.{_+_, _*_, _^_, _≤_, _<_};
 ghost use lib.Dec.{eqb, ltb};
 ghost use lib.ListN.{length};
 ghost use Rattle.lists.specs.Lists.{filter, upTo};
@@ -28,31 +27,23 @@ pub fn all_rules(rules: usize) -> u32
 }
 
 // The rule is longer than the depth, and takes the character there.
-fn goes_on(slots: &[u16], ranges: &[u16], blocks: &[u16], rule: usize, depth: usize, c: u16) -> bool
-    requires { ⌜ Flat (now slots) (now ranges) (now blocks) ⌝ }
+fn goes_on(loaded: &[u16], rule: usize, depth: usize, c: u16) -> bool
+    requires { ⌜ Flat (now loaded) ⌝ }
     requires { ⌜ rule < 32 ⌝ }
-    ensures { λ r. ⌜ r ≡ ltb depth (at (now (blocks .entry)) (blockSize * rule)) && inRanges (rangesAt (now (slots .entry)) (now (ranges .entry)) (8 * rule + depth)) c ⌝ }
+    ensures { λ r. ⌜ r ≡ ltb depth (at (now (loaded .entry)) (blockSize * rule)) && inRanges (rangesAt (now (loaded .entry)) (8 * rule + depth)) c ⌝ }
 {
-    if depth < blocks[BLOCK * rule] as usize {
-        return rules::pattern::in_ranges(slots, ranges, 8 * rule + depth, c);
+    if depth < loaded[BLOCK * rule] as usize {
+        return rules::pattern::in_ranges(loaded, 8 * rule + depth, c);
     }
     false
 }
 
 // The rules of the set that are longer than the depth and take the character there.
-pub fn longer_rules(
-    slots: &[u16],
-    ranges: &[u16],
-    blocks: &[u16],
-    rules: usize,
-    set: u32,
-    depth: usize,
-    c: u16,
-) -> u32
-    requires { ⌜ Flat (now slots) (now ranges) (now blocks) ⌝ }
+pub fn longer_rules(loaded: &[u16], rules: usize, set: u32, depth: usize, c: u16) -> u32
+    requires { ⌜ Flat (now loaded) ⌝ }
     requires { ⌜ (rules ≤ 32) × (set < 2 ^ rules) ⌝ }
     ensures { λ r.
-        ⌜ (membersFrom 0 rules r ≡ longerRules (tableAt (now (slots .entry)) (now (ranges .entry)) (now (blocks .entry)) rules false) (stateOf rules depth set) c)
+        ⌜ (membersFrom 0 rules r ≡ longerRules (tableAt (now (loaded .entry)) rules false) (stateOf rules depth set) c)
         × (r < 2 ^ rules) ⌝ }
 {
     let mut longer: u64 = 0;
@@ -61,7 +52,7 @@ pub fn longer_rules(
     let mut rule: usize = 0;
     while rest > 0 {
         if rest % 2 == 1 {
-            if goes_on(slots, ranges, blocks, rule, depth, c) {
+            if goes_on(loaded, rule, depth, c) {
                 longer += weight;
             }
         }
@@ -73,30 +64,30 @@ pub fn longer_rules(
 }
 
 // The rule ends at the depth, and where only free rules count it is not anchored.
-fn ends_at(blocks: &[u16], rule: usize, depth: usize, free: bool) -> bool
-    requires { ⌜ (length (now blocks) ≡ blocksSize) × (rule < 32) ⌝ }
-    ensures { λ r. ⌜ r ≡ eqb (at (now (blocks .entry)) (blockSize * rule)) depth && not (free && eqb (at (now (blocks .entry)) (blockSize * rule + 1)) 1) ⌝ }
+fn ends_at(loaded: &[u16], rule: usize, depth: usize, free: bool) -> bool
+    requires { ⌜ (blocksSize ≤ length (now loaded)) × (rule < 32) ⌝ }
+    ensures { λ r. ⌜ r ≡ eqb (at (now (loaded .entry)) (blockSize * rule)) depth && not (free && eqb (at (now (loaded .entry)) (blockSize * rule + 1)) 1) ⌝ }
 {
-    if blocks[BLOCK * rule] as usize != depth {
+    if loaded[BLOCK * rule] as usize != depth {
         return false;
     }
     if free {
-        return blocks[BLOCK * rule + 1] != 1;
+        return loaded[BLOCK * rule + 1] != 1;
     }
     true
 }
 
 // The lowest rule + 1 of the set that ends at the depth, or 0.
-fn lowest_ending(blocks: &[u16], rules: usize, set: u32, depth: usize, free: bool) -> u16
-    requires { ⌜ (length (now blocks) ≡ blocksSize) × (rules ≤ 32) × (set < 2 ^ rules) ⌝ }
+fn lowest_ending(loaded: &[u16], rules: usize, set: u32, depth: usize, free: bool) -> u16
+    requires { ⌜ (blocksSize ≤ length (now loaded)) × (rules ≤ 32) × (set < 2 ^ rules) ⌝ }
     ensures { λ r.
-        ⌜ r ≡ firstNumber (filter (λ k. eqb (at (now (blocks .entry)) (blockSize * k)) depth && not (free && eqb (at (now (blocks .entry)) (blockSize * k + 1)) 1)) (membersFrom 0 rules set)) ⌝ }
+        ⌜ r ≡ firstNumber (filter (λ k. eqb (at (now (loaded .entry)) (blockSize * k)) depth && not (free && eqb (at (now (loaded .entry)) (blockSize * k + 1)) 1)) (membersFrom 0 rules set)) ⌝ }
 {
     let mut rest = set;
     let mut rule: usize = 0;
     while rest > 0 {
         if rest % 2 == 1 {
-            if ends_at(blocks, rule, depth, free) {
+            if ends_at(loaded, rule, depth, free) {
                 return (rule + 1) as u16;
             }
         }
@@ -107,17 +98,17 @@ fn lowest_ending(blocks: &[u16], rules: usize, set: u32, depth: usize, free: boo
 }
 
 // The rule + 1 that a state accepts at once, or 0.
-pub fn accept_of(blocks: &[u16], rules: usize, set: u32, depth: usize) -> u16
-    requires { ⌜ (length (now blocks) ≡ blocksSize) × (rules ≤ 32) × (set < 2 ^ rules) ⌝ }
-    ensures { λ r. ⌜ ((slots ranges : List ℕ) (d : Bool) → r ≡ acceptOf (tableAt slots ranges (now (blocks .entry)) rules d) (stateOf rules depth set)) ⌝ }
+pub fn accept_of(loaded: &[u16], rules: usize, set: u32, depth: usize) -> u16
+    requires { ⌜ (blocksSize ≤ length (now loaded)) × (rules ≤ 32) × (set < 2 ^ rules) ⌝ }
+    ensures { λ r. ⌜ r ≡ acceptOf (tableAt (now (loaded .entry)) rules false) (stateOf rules depth set) ⌝ }
 {
-    lowest_ending(blocks, rules, set, depth, true)
+    lowest_ending(loaded, rules, set, depth, true)
 }
 
 // The rule + 1 that a state accepts where the input ends, or 0.
-pub fn accept_at_end_of(blocks: &[u16], rules: usize, set: u32, depth: usize) -> u16
-    requires { ⌜ (length (now blocks) ≡ blocksSize) × (rules ≤ 32) × (set < 2 ^ rules) ⌝ }
-    ensures { λ r. ⌜ ((slots ranges : List ℕ) (d : Bool) → r ≡ acceptAtEndOf (tableAt slots ranges (now (blocks .entry)) rules d) (stateOf rules depth set)) ⌝ }
+pub fn accept_at_end_of(loaded: &[u16], rules: usize, set: u32, depth: usize) -> u16
+    requires { ⌜ (blocksSize ≤ length (now loaded)) × (rules ≤ 32) × (set < 2 ^ rules) ⌝ }
+    ensures { λ r. ⌜ r ≡ acceptAtEndOf (tableAt (now (loaded .entry)) rules false) (stateOf rules depth set) ⌝ }
 {
-    lowest_ending(blocks, rules, set, depth, false)
+    lowest_ending(loaded, rules, set, depth, false)
 }

@@ -1,5 +1,4 @@
 // "Sound words": the test of words before a machine runs on them, a function for each clause. It looks only at words in use.
-// The words: the header from 0, class starts from 6, three words a state from 70, 64 targets a state from 838, 75 words a block from 17222.
 ghost use mathlib.Core.Bool.{cond, not};
 ghost use mathlib.Core.List.{[], _∷_};
 ghost use mathlib.Core.Path.{_≡_};
@@ -10,19 +9,28 @@ ghost use Rattle.lists.specs.Decide.{allOf, forBelow, implies};
 ghost use Rattle.meaning.specs.Block.{at};
 ghost use Rattle.automaton.specs.Sound.{stateCount, classCount, ruleCount, longestWord, depthWord, acceptAtEndWord, acceptWord, targetWord, blockAt, between, used, soundHeader, soundStarts, soundBlock, soundBlocks, namesRule, soundTarget, soundState, sound};
 ghost use Rattle.automaton.specs.Layout.{wordCount};
+use crate::layout::WORDS;
 use crate::numbers::ClassNo;
 use crate::numbers::RuleNo;
 use crate::numbers::StateNo;
 use crate::read::accept_at_end_word;
 use crate::read::accept_word;
+use crate::read::class_count;
+use crate::read::class_start;
+use crate::read::default_word;
 use crate::read::depth_word;
+use crate::read::expansion;
+use crate::read::group_anchored;
+use crate::read::group_outputs;
+use crate::read::group_size;
+use crate::read::has_default;
+use crate::read::longest;
+use crate::read::rule_count;
+use crate::read::state_count;
 use crate::read::target;
-use rules::layout::BLOCK;
-use crate::layout::BLOCKS_FROM;
-use crate::layout::CLASSES_FROM;
-use crate::layout::WORDS;
+use rules::layout::DEFAULT_GROUP;
 
-fn within(low: u16, high: u16, x: u16) -> bool
+fn within(low: usize, high: usize, x: usize) -> bool
     ensures { λ r. ⌜ r ≡ between low high x ⌝ }
 {
     if low <= x {
@@ -36,22 +44,22 @@ fn header_sound(words: &[u16]) -> bool
     requires { ⌜ wordCount ≤ length (now words) ⌝ }
     ensures { λ r. ⌜ r ≡ soundHeader (now (words .entry)) ⌝ }
 {
-    if !within(1, 256, words[0]) {
+    if !within(1, 256, state_count(words)) {
         return false;
     }
-    if !within(1, 64, words[1]) {
+    if !within(1, 64, class_count(words)) {
         return false;
     }
-    if !within(1, 8, words[2]) {
+    if !within(1, 8, longest(words)) {
         return false;
     }
-    if words[3] > 8 {
+    if expansion(words) > 8 {
         return false;
     }
-    if !within(1, 32, words[4]) {
+    if !within(1, 32, rule_count(words)) {
         return false;
     }
-    words[5] <= 1
+    default_word(words) <= 1
 }
 
 // "The class starts begin at 0 and rise strictly."
@@ -59,13 +67,13 @@ fn starts_sound(words: &[u16]) -> bool
     requires { ⌜ (wordCount ≤ length (now words)) × (classCount (now words) ≤ 64) ⌝ }
     ensures { λ r. ⌜ r ≡ soundStarts (now (words .entry)) ⌝ }
 {
-    if words[6] != 0 {
+    if class_start(words, 0) != 0 {
         return false;
     }
-    let classes = words[1] as usize;
+    let classes = class_count(words);
     let mut k: usize = 0;
     while k + 1 < classes {
-        if words[CLASSES_FROM + k] >= words[7 + k] {
+        if class_start(words, k) >= class_start(words, k + 1) {
             return false;
         }
         k += 1;
@@ -74,27 +82,28 @@ fn starts_sound(words: &[u16]) -> bool
 }
 
 // K is at least 1 and at most `most`, anchored at most `anchored`, the output count at most E. Block 32 is the default's.
-fn block_sound(words: &[u16], block: usize, most: u16, anchored: u16) -> bool
+fn block_sound(words: &[u16], block: usize, most: usize, anchored: usize) -> bool
     requires { ⌜ (wordCount ≤ length (now words)) × (block ≤ 32) ⌝ }
     ensures { λ r. ⌜ r ≡ soundBlock (now (words .entry)) block most anchored ⌝ }
 {
-    if !within(1, most, words[BLOCKS_FROM + BLOCK * block]) {
+    if !within(1, most, group_size(words, block)) {
         return false;
     }
-    if words[17223 + BLOCK * block] > anchored {
+    if group_anchored(words, block) > anchored {
         return false;
     }
-    words[17224 + BLOCK * block] <= words[3]
+    group_outputs(words, block) <= expansion(words)
 }
 
 fn rule_blocks_sound(words: &[u16]) -> bool
     requires { ⌜ (wordCount ≤ length (now words)) × (ruleCount (now words) ≤ 32) ⌝ }
     ensures { λ r. ⌜ r ≡ forBelow (ruleCount (now (words .entry))) (λ g. soundBlock (now (words .entry)) g (longestWord (now (words .entry))) 1) ⌝ }
 {
-    let rules = words[4] as usize;
+    let rules = rule_count(words);
+    let most = longest(words);
     let mut rule: usize = 0;
     while rule < rules {
-        if !block_sound(words, rule, words[2], 1) {
+        if !block_sound(words, rule, most, 1) {
             return false;
         }
         rule += 1;
@@ -109,8 +118,8 @@ fn blocks_sound(words: &[u16]) -> bool
     if !rule_blocks_sound(words) {
         return false;
     }
-    if words[5] == 1 {
-        return block_sound(words, 32, 1, 0);
+    if has_default(words) {
+        return block_sound(words, DEFAULT_GROUP, 1, 0);
     }
     true
 }
@@ -120,12 +129,11 @@ fn names_rule(words: &[u16], depth: u16, rule: RuleNo) -> bool
     requires { ⌜ (wordCount ≤ length (now words)) × (ruleCount (now words) ≤ 32) ⌝ }
     ensures { λ r. ⌜ r ≡ namesRule (now (words .entry)) depth (suc (rule .0)) ⌝ }
 {
-    let number = rule.0;
-    if number >= words[4] {
+    let block = rule.0 as usize;
+    if block >= rule_count(words) {
         return false;
     }
-    let block = number as usize;
-    words[BLOCKS_FROM + BLOCK * block] == depth
+    group_size(words, block) == depth as usize
 }
 
 fn one_deeper(deeper: u16, depth: u16) -> bool
@@ -139,11 +147,10 @@ fn target_sound(words: &[u16], state: StateNo, target: StateNo) -> bool
     requires { ⌜ (wordCount ≤ length (now words)) × (stateCount (now words) ≤ 256) × (state .0 < 256) ⌝ }
     ensures { λ r. ⌜ r ≡ soundTarget (now (words .entry)) (state .0) (target .0) ⌝ }
 {
-    let number = target.0;
-    if number <= state.0 {
+    if target.0 <= state.0 {
         return false;
     }
-    if number >= words[0] {
+    if target.0 as usize >= state_count(words) {
         return false;
     }
     one_deeper(depth_word(words, target), depth_word(words, state))
@@ -160,7 +167,7 @@ fn depth_sound(words: &[u16], state: StateNo) -> bool
     if state.0 == 0 {
         return depth == 0;
     }
-    within(1, words[2], depth)
+    within(1, longest(words), depth as usize)
 }
 
 // The state's "end", if it has one, names a rule.
@@ -195,8 +202,7 @@ fn accept_sound(words: &[u16], state: StateNo) -> bool
     if !names_rule(words, depth_word(words, state), RuleNo(rule)) {
         return false;
     }
-    let block = rule as usize;
-    if words[17223 + BLOCK * block] != 0 {
+    if group_anchored(words, rule as usize) != 0 {
         return false;
     }
     accept_at_end_word(words, state) != 0
@@ -230,10 +236,10 @@ fn targets_sound(words: &[u16], state: StateNo) -> bool
         ∷ soundTarget (now (words .entry)) (state .0) (targetWord (now (words .entry)) (state .0) k)
         ∷ []))) ⌝ }
 {
-    let classes = words[1];
-    let mut class: u16 = 0;
+    let classes = class_count(words);
+    let mut class: usize = 0;
     while class < classes {
-        if !class_target_sound(words, state, ClassNo(class)) {
+        if !class_target_sound(words, state, ClassNo(class as u16)) {
             return false;
         }
         class += 1;
@@ -261,10 +267,10 @@ fn states_sound(words: &[u16]) -> bool
     requires { ⌜ (wordCount ≤ length (now words)) × (stateCount (now words) ≤ 256) × (classCount (now words) ≤ 64) × (ruleCount (now words) ≤ 32) ⌝ }
     ensures { λ r. ⌜ r ≡ forBelow (stateCount (now (words .entry))) (soundState (now (words .entry))) ⌝ }
 {
-    let states = words[0];
-    let mut state: u16 = 0;
+    let states = state_count(words);
+    let mut state: usize = 0;
     while state < states {
-        if !state_sound(words, StateNo(state)) {
+        if !state_sound(words, StateNo(state as u16)) {
             return false;
         }
         state += 1;

@@ -49,9 +49,7 @@ fn find_state(
 
 // Class `class` of a state that accepts nothing: the target is noted, and a state that is met first is added. The new count, or 257.
 fn note_class(
-    slots: &[u16],
-    ranges: &[u16],
-    blocks: &[u16],
+    loaded: &[u16],
     rules: usize,
     words: &mut [u16],
     sets: &mut [u32],
@@ -59,19 +57,17 @@ fn note_class(
     state: usize,
     class: usize,
 ) -> usize
-    requires { ⌜ Flat (now slots) (now ranges) (now blocks) ⌝ }
-    requires { ⌜ (let t = tableAt (now slots) (now ranges) (now blocks) rules false in
+    requires { ⌜ Flat (now loaded) ⌝ }
+    requires { ⌜ (let t = tableAt (now loaded) rules false in
         (rules ≤ 32) × (state < count) × (state < length (states t)) × (class < length (starts t)) × (acceptOf t (getD (states t) state (initial t)) ≡ 0)) ⌝ }
-    requires { ⌜ NotedAt (tableAt (now slots) (now ranges) (now blocks) rules false) rules (suc state) state class (now words) (now sets) count ⌝ }
+    requires { ⌜ NotedAt (tableAt (now loaded) rules false) rules (suc state) state class (now words) (now sets) count ⌝ }
     ensures { λ r.
-        ⌜ Onward (tableAt (now (slots .entry)) (now (ranges .entry)) (now (blocks .entry)) rules false)
+        ⌜ Onward (tableAt (now (loaded .entry)) rules false)
         rules (suc state) state (suc class) (now (words .entry)) (now (words .exit)) (now (sets .exit)) r ⌝ }
 {
     let depth = words[STATES_FROM + 3 * state] as usize;
     let set = crate::sets::longer_rules(
-        slots,
-        ranges,
-        blocks,
+        loaded,
         rules,
         sets[state],
         depth,
@@ -97,9 +93,7 @@ fn note_class(
 
 // The classes of a state that accepts nothing. The new count, or 257.
 fn note_classes(
-    slots: &[u16],
-    ranges: &[u16],
-    blocks: &[u16],
+    loaded: &[u16],
     rules: usize,
     classes: usize,
     words: &mut [u16],
@@ -107,28 +101,18 @@ fn note_classes(
     count: usize,
     state: usize,
 ) -> usize
-    requires { ⌜ Flat (now slots) (now ranges) (now blocks) ⌝ }
-    requires { ⌜ (let t = tableAt (now slots) (now ranges) (now blocks) rules false in
+    requires { ⌜ Flat (now loaded) ⌝ }
+    requires { ⌜ (let t = tableAt (now loaded) rules false in
         (rules ≤ 32) × (classes ≡ length (starts t)) × (state < length (states t)) × (acceptOf t (getD (states t) state (initial t)) ≡ 0)) ⌝ }
-    requires { ⌜ NotedAt (tableAt (now slots) (now ranges) (now blocks) rules false) rules (suc state) state 0 (now words) (now sets) count ⌝ }
+    requires { ⌜ NotedAt (tableAt (now loaded) rules false) rules (suc state) state 0 (now words) (now sets) count ⌝ }
     ensures { λ r.
-        ⌜ Onward (tableAt (now (slots .entry)) (now (ranges .entry)) (now (blocks .entry)) rules false)
+        ⌜ Onward (tableAt (now (loaded .entry)) rules false)
         rules (suc state) (suc state) 0 (now (words .entry)) (now (words .exit)) (now (sets .exit)) r ⌝ }
 {
     let mut total = count;
     let mut class: usize = 0;
     while class < classes {
-        total = note_class(
-            slots,
-            ranges,
-            blocks,
-            rules,
-            words,
-            sets,
-            total,
-            state,
-            class,
-        );
+        total = note_class(loaded, rules, words, sets, total, state, class);
         if total > 256 {
             return total;
         }
@@ -139,9 +123,7 @@ fn note_classes(
 
 // A state: what it accepts is noted, and where that is nothing at once its classes. The new count, or 257.
 fn note_state(
-    slots: &[u16],
-    ranges: &[u16],
-    blocks: &[u16],
+    loaded: &[u16],
     rules: usize,
     classes: usize,
     words: &mut [u16],
@@ -149,55 +131,43 @@ fn note_state(
     count: usize,
     state: usize,
 ) -> usize
-    requires { ⌜ Flat (now slots) (now ranges) (now blocks) ⌝ }
-    requires { ⌜ (let t = tableAt (now slots) (now ranges) (now blocks) rules false in
+    requires { ⌜ Flat (now loaded) ⌝ }
+    requires { ⌜ (let t = tableAt (now loaded) rules false in
         (rules ≤ 32) × (classes ≡ length (starts t)) × (state < length (states t)) × (state < count)) ⌝ }
-    requires { ⌜ NotedAt (tableAt (now slots) (now ranges) (now blocks) rules false) rules state state 0 (now words) (now sets) count ⌝ }
+    requires { ⌜ NotedAt (tableAt (now loaded) rules false) rules state state 0 (now words) (now sets) count ⌝ }
     ensures { λ r.
-        ⌜ Onward (tableAt (now (slots .entry)) (now (ranges .entry)) (now (blocks .entry)) rules false)
+        ⌜ Onward (tableAt (now (loaded .entry)) rules false)
         rules (suc state) (suc state) 0 (now (words .entry)) (now (words .exit)) (now (sets .exit)) r ⌝ }
 {
     let depth = words[STATES_FROM + 3 * state] as usize;
     let set = sets[state];
-    let end = crate::sets::accept_at_end_of(blocks, rules, set, depth);
-    let accept = crate::sets::accept_of(blocks, rules, set, depth);
+    let end = crate::sets::accept_at_end_of(loaded, rules, set, depth);
+    let accept = crate::sets::accept_of(loaded, rules, set, depth);
     words[AT_END_FROM + 3 * state] = end;
     words[ACCEPT_FROM + 3 * state] = accept;
     if accept != 0 {
         return count;
     }
-    note_classes(
-        slots,
-        ranges,
-        blocks,
-        rules,
-        classes,
-        words,
-        sets,
-        count,
-        state,
-    )
+    note_classes(loaded, rules, classes, words, sets, count, state)
 }
 
 // The words of states and targets, of a table whose class starts stand in place; how many states there are, or 257 where there are more than 256.
 pub fn build_states(
-    slots: &[u16],
-    ranges: &[u16],
-    blocks: &[u16],
+    loaded: &[u16],
     rules: usize,
     classes: usize,
     words: &mut [u16],
     sets: &mut [u32],
 ) -> usize
-    requires { ⌜ Flat (now slots) (now ranges) (now blocks) ⌝ }
-    requires { ⌜ (let t = tableAt (now slots) (now ranges) (now blocks) rules false in
+    requires { ⌜ Flat (now loaded) ⌝ }
+    requires { ⌜ (let t = tableAt (now loaded) rules false in
         (rules ≤ 32) × (classes ≡ length (starts t)) × (classes ≤ 64) × ((k : ℕ) → k < length (starts t) → at (now words) (classesFrom + k) ≡ getD (starts t) k 0)) ⌝ }
     requires { ⌜ (wordCount ≤ length (now words)) × (length (now sets) ≡ 256) × ((i : ℕ) → statesFrom ≤ i → i < blocksFrom → at (now words) i ≡ 0) ⌝ }
     ensures answer { λ r.
-        ⌜ (let t = tableAt (now (slots .entry)) (now (ranges .entry)) (now (blocks .entry)) rules false in
+        ⌜ (let t = tableAt (now (loaded .entry)) rules false in
         r ≡ cond (ltb 256 (length (states t))) 257 (length (states t))) ⌝ }
     ensures words { λ _.
-        ⌜ (let t = tableAt (now (slots .entry)) (now (ranges .entry)) (now (blocks .entry)) rules false in
+        ⌜ (let t = tableAt (now (loaded .entry)) rules false in
         length (states t) ≤ 256 →
         now (words .exit)
         ≡ take statesFrom (now (words .entry)) ++ pad statesSize (flatMap (stateWords t) (states t)) ++ pad targetsSize (flatMap (targetWords t) (states t)) ++ drop blocksFrom (now (words .entry))) ⌝ }
@@ -208,17 +178,7 @@ pub fn build_states(
     let mut count: usize = 1;
     let mut state: usize = 0;
     while state < count {
-        count = note_state(
-            slots,
-            ranges,
-            blocks,
-            rules,
-            classes,
-            words,
-            sets,
-            count,
-            state,
-        );
+        count = note_state(loaded, rules, classes, words, sets, count, state);
         if count > 256 {
             return count;
         }

@@ -11,10 +11,16 @@ pub mod Exact
 pub mod Direct
 pub mod Narrow
 pub mod Decoding
+pub mod Encoding
+pub mod Appended
+pub mod Described
+pub mod Readable
+pub mod Numbered
 pub mod Choosing
 pub mod Writing
 pub mod Extremes
 pub mod Rows
+pub mod Loaded
 pub mod Numbers
 pub mod Stored
 pub mod Bare

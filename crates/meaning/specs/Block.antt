@@ -45,6 +45,10 @@ wordSum v [] w = v
 wordSum v (a ∷ ks) [] = v
 wordSum v (a ∷ ks) (c ∷ w) = wordSum ((v + a * c) % 65536) ks w
 
--- what a block writes for a word, its coefficients below K
+-- what entry j of a block writes for a word: its constant and its coefficients below K
+unfoldable pub entryValue : List ℕ → ℕ → List ℕ → ℕ
+entryValue b j w = wordSum (at b (3 + entrySize * j)) (take (at b 0) (drop (4 + entrySize * j) b)) w
+
+-- what a block writes for a word
 unfoldable pub blockOutput : List ℕ → List ℕ → List ℕ
-blockOutput b w = tabFrom 0 (at b 2) (λ j. wordSum (at b (3 + entrySize * j)) (take (at b 0) (drop (4 + entrySize * j) b)) w)
+blockOutput b w = tabFrom 0 (at b 2) (λ j. entryValue b j w)

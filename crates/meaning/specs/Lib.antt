@@ -1,5 +1,7 @@
 pub mod Refusal
 pub mod Table
+pub mod WellFormed
+pub mod Records
 pub mod Record
 pub mod Value
 pub mod Reader

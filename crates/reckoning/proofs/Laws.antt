@@ -9,5 +9,6 @@ pub mod Swap
 pub mod Calls
 pub mod Demand3
 pub mod Examples
+pub mod Instances
 pub mod Keeping
 pub mod Admitting

@@ -1,4 +1,4 @@
--- Demand 3, one field a sentence, and for the outcome functions; and demand 1 for feed and finish.
+-- Demand 3, one field a sentence, and for the outcome functions; demand 1 for feed and finish, and that accepted calls keep a session sound.
 use mathlib.Core.Bool.{Bool, true, false, _||_}
 use mathlib.Core.List.{List, [], _∷_, _++_}
 use mathlib.Core.Logic.{_↔_}
@@ -9,31 +9,27 @@ use lib.ListN.{length, drop}
 use Rattle.lists.specs.Lists.{Each, pad}
 use Rattle.meaning.specs.Refusal.{refused, accepted, RefusedBy}
 use Rattle.meaning.specs.Table.{Characters, Table, longest}
-use Rattle.meaning.specs.Meaning.{textOf, covered, convert, meaningText, meaningPlace}
+use Rattle.meaning.specs.Meaning.{covered, convert, meaningText, meaningPlace}
 use Rattle.automaton.specs.Layout.{wordCount}
 use Rattle.automaton.specs.Compile.{compile}
-use Rattle.automaton.specs.Automaton.{fromTable}
 use Rattle.automaton.specs.Claims.{KeepsCompiling}
 use Rattle.reckoning.specs.Machine.{Status, Open, Closed, Stopped, Ended}
-use Rattle.reckoning.specs.Session.{Session, consumed}
+use Rattle.reckoning.specs.Session.{Session, consumed, soundSession}
 use Rattle.reckoning.specs.Calls.{Answer, CallOutcome, receivedBy}
-use Rattle.reckoning.specs.Reckoning.{Call, piece, bufferOf, called, acceptedPieces, Served, unserved, serve, Input, noInput, ran, reckon}
+use Rattle.reckoning.specs.Reckoning.{Call, piece, bufferOf, called, acceptedPieces, Served, unserved, serve, Input, noInput, ran, ranText, reckon}
 
 abbrev pub isStopped : Status → Bool
 isStopped Open = false
 isStopped Closed = false
 isStopped Stopped = true
 
--- what the machine wrote over the input
-abbrev pub ranText : Table → Ended → List ℕ
-ranText t r = textOf (fromTable t .write) (r .final .log)
-
 -- Demand 3: v is what the calls cs answered, wrote and left, i is the reckoning's input, r the plain machine's run over it.
 pub record Agrees (t : Table) (cs : List Call) (v : Served) (i : Input) (r : Ended) : Type 0 where
   -- "Each call is accepted, or refused with its number, exactly as document 01 reckons."
-  pub verdicts : v .verdicts ≡ i .verdicts
+  -- An accepted one answers the plain machine's status after it and how much more that machine wrote.
+  pub answers : v .answers ≡ i .answers
   -- "The accepted pieces joined are the input, of n characters."
-  pub input : i .characters ≡ acceptedPieces cs (v .verdicts)
+  pub input : i .characters ≡ acceptedPieces cs (v .answers)
   -- "After the list the joined outputs, the session and the steps counted are those reckoned there by the plain machine on the whole input."
   pub output : v .output ≡ ranText t r
   pub status : v .session .status ≡ r .status
@@ -80,3 +76,9 @@ pub record CallAnswers (s : Session) (buffer : List ℕ) (o : CallOutcome) : Typ
 
 unfoldable pub CallsAnswer : Type 0
 CallsAnswer = (w : List ℕ) (s : Session) (c : Call) → CallAnswers s (bufferOf c) (called w s c)
+
+-- An accepted call, of any words, leaves a session of eight places sound, and of eight places.
+unfoldable pub CallsKeep : Type 0
+CallsKeep =
+    (w : List ℕ) (s : Session) (c : Call) (a : Answer) → length (s .held) ≡ 8 → called w s c .answer ≡ accepted a →
+    T (soundSession w (called w s c .session)) × (length (called w s c .session .held) ≡ 8)

@@ -4,3 +4,4 @@ pub mod Calls
 pub mod Reckoning
 pub mod Claims
 pub mod Examples
+pub mod Instances

@@ -1,12 +1,13 @@
 -- "Demand 3 is a single claim about the whole list": a list of calls in turn, and the reckoning from the table and the calls alone.
-use mathlib.Core.Bool.{Bool, true, false, not, cond}
+use mathlib.Core.Bool.{Bool, true, false, not}
 use mathlib.Core.List.{List, [], _∷_, _++_}
-use Prim.Native.Nat.{ℕ, _+_, _*_}
-use lib.Dec.{eqb, ltb}
+use Prim.Native.Nat.{ℕ, _+_, _-_, _*_}
+use lib.Dec.{ltb}
 use lib.ListN.{length, take}
 use Rattle.lists.specs.Decide.{select}
 use Rattle.meaning.specs.Refusal.{Outcome, refused, accepted}
 use Rattle.meaning.specs.Table.{Table, expansion}
+use Rattle.meaning.specs.Meaning.{textOf}
 use Rattle.meaning.specs.Direct.{limit}
 use Rattle.automaton.specs.Automaton.{fromTable}
 use Rattle.reckoning.specs.Machine.{Ended, start, run}
@@ -33,23 +34,19 @@ abbrev pub ends : Call → Bool
 ends (ofFeed p buffer) = false
 ends (ofFinish buffer) = true
 
--- The calls as they are made, each "lent the compiled words and the session as the last call left it": each one's refusal (0 where it was
--- accepted), "the joined outputs, those of accepted calls in order", and the session at the end.
+-- The calls as they are made, each "lent the compiled words and the session as the last call left it": each one's answer, "the joined
+-- outputs, those of accepted calls in order", and the session at the end.
 pub record Served : Type 0 where
-  pub verdicts : List ℕ
+  pub answers : List (Outcome Answer)
   pub output : List ℕ
   pub session : Session
 
 abbrev pub unserved : Served
-unserved = record { verdicts = []; output = []; session = fresh }
+unserved = record { answers = []; output = []; session = fresh }
 
 abbrev pub called : List ℕ → Session → Call → CallOutcome
 called w s (ofFeed p buffer) = feed w s p buffer
 called w s (ofFinish buffer) = finish w s buffer
-
-abbrev pub verdict : {A : Type 0} → Outcome A → ℕ
-verdict (refused n) = n
-verdict (accepted a) = 0
 
 -- the characters written, of a buffer as the call left it
 abbrev pub outputBy : Outcome Answer → List ℕ → List ℕ
@@ -60,7 +57,7 @@ abbrev pub serveCall : List ℕ → Served → Call → Served
 serveCall w v c =
     let o = called w (v .session) c in
     record {
-      verdicts = v .verdicts ++ (verdict (o .answer) ∷ []);
+      answers = v .answers ++ (o .answer ∷ []);
       output = v .output ++ outputBy (o .answer) (o .output);
       session = o .session;
     }
@@ -69,26 +66,31 @@ unfoldable pub serve : List ℕ → List Call → Served → Served
 serve w [] v = v
 serve w (c ∷ cs) v = serve w cs (serveCall w v c)
 
--- "The accepted pieces joined": of the calls whose verdict is 0
-abbrev pub acceptedPieces : List Call → List ℕ → List ℕ
-acceptedPieces [] vs = []
+-- "The accepted pieces joined"
+abbrev pub acceptedPieces : List Call → List (Outcome Answer) → List ℕ
+acceptedPieces [] answers = []
 acceptedPieces (c ∷ cs) [] = []
-acceptedPieces (c ∷ cs) (v ∷ vs) = cond (eqb v 0) (piece c) [] ++ acceptedPieces cs vs
+acceptedPieces (c ∷ cs) (refused n ∷ answers) = acceptedPieces cs answers
+acceptedPieces (c ∷ cs) (accepted a ∷ answers) = piece c ++ acceptedPieces cs answers
 
--- The reckoning: the calls' refusals, the input so far, and whether it has its end.
+-- The reckoning: the calls' answers, the input so far, and whether it has its end.
 pub record Input : Type 0 where
-  pub verdicts : List ℕ
+  pub answers : List (Outcome Answer)
   pub characters : List ℕ
   pub ended : Bool
 
 -- "The input is empty at first, without an end."
 abbrev pub noInput : Input
-noInput = record { verdicts = []; characters = []; ended = false }
+noInput = record { answers = []; characters = []; ended = false }
 
 -- "the plain machine, with the states, classes and groups defined above from the table, runs from an empty store and state 0 over the input
 -- so far, as one piece, until it waits, closes or stops"
 unfoldable pub ran : Table → List ℕ → Bool → Ended
 ran t characters ended = run (fromTable t) ended (start [] characters 0)
+
+-- what it wrote over the input
+abbrev pub ranText : Table → Ended → List ℕ
+ranText t r = textOf (fromTable t .write) (r .final .log)
 
 -- "If it closed or stopped, the call is refused by 13. Else 14 takes the input's length as received, and 15 the number of characters that
 -- the machine holds as held"
@@ -100,13 +102,19 @@ reckoned t r received c =
     ∷ (ltb (room c) (expansion t * (length (r .final .store) + length (piece c))), refused 15)
     ∷ []) (accepted tt)
 
+-- "Feed and finish ... answer its count and the status": how much more the machine wrote with the call than before it, and its status
+abbrev pub answerBy : Table → Ended → Ended → Answer
+answerBy t before after = record { count = length (ranText t after) - length (ranText t before); status = after .status }
+
 -- "A refused call changes nothing. An accepted feed adds its piece to the input; an accepted finish gives it its end."
-abbrev pub inputBy : Outcome (Unit {0}) → Input → Call → Input
-inputBy (refused n) i c = record { verdicts = i .verdicts ++ (n ∷ []); characters = i .characters; ended = i .ended }
-inputBy (accepted u) i c = record { verdicts = i .verdicts ++ (0 ∷ []); characters = i .characters ++ piece c; ended = ends c }
+abbrev pub inputBy : Table → Outcome (Unit {0}) → Input → Call → Input
+inputBy t (refused n) i c = record { answers = i .answers ++ (refused n ∷ []); characters = i .characters; ended = i .ended }
+inputBy t (accepted u) i c =
+    let answer = answerBy t (ran t (i .characters) (i .ended)) (ran t (i .characters ++ piece c) (ends c)) in
+    record { answers = i .answers ++ (accepted answer ∷ []); characters = i .characters ++ piece c; ended = ends c }
 
 abbrev pub reckonCall : Table → Input → Call → Input
-reckonCall t i c = inputBy (reckoned t (ran t (i .characters) (i .ended)) (length (i .characters)) c) i c
+reckonCall t i c = inputBy t (reckoned t (ran t (i .characters) (i .ended)) (length (i .characters)) c) i c
 
 unfoldable pub reckon : Table → List Call → Input → Input
 reckon t [] i = i

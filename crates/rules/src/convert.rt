@@ -9,14 +9,14 @@ ghost use Rattle.meaning.specs.Meaning.{covered};
 ghost use Rattle.meaning.specs.bridge.Flat.{Flat, expansionAt, flatConversion, flatText, flatDirect};
 ghost use Rattle.meaning.specs.Direct.{over, checked, direct};
 ghost use Rattle.rules.specs.Answers.{conversionOf, checkOf};
+use crate::layout::BLOCK;
+use crate::layout::DEFAULT_OUTPUTS;
+use crate::layout::LOADED;
 use crate::load::Load;
 use crate::load::load_table;
 use crate::output::write_group;
 use crate::pattern::Choice;
 use crate::pattern::choose_at;
-use crate::layout::BLOCK;
-use crate::layout::BLOCKS;
-use crate::layout::DEFAULT_OUTPUTS;
 
 // The place where a conversion ended and the characters written, or the refusal.
 pub enum Conversion {
@@ -32,17 +32,17 @@ pub enum Verdict {
 }
 
 // E: the greatest number of output characters of the first `rules` groups, and of group 32 where there is a default.
-pub fn expansion(blocks: &[u16], rules: usize, defaulted: bool) -> usize
-    requires { ⌜ (length (now blocks) ≡ blocksSize) × (rules ≤ 32) ⌝ }
-    ensures { λ r. ⌜ r ≡ expansionAt (now (blocks .entry)) rules defaulted ⌝ }
+pub fn expansion(loaded: &[u16], rules: usize, defaulted: bool) -> usize
+    requires { ⌜ (blocksSize ≤ length (now loaded)) × (rules ≤ 32) ⌝ }
+    ensures { λ r. ⌜ r ≡ expansionAt (now (loaded .entry)) rules defaulted ⌝ }
 {
     let mut most: usize = 0;
     if defaulted {
-        most = blocks[DEFAULT_OUTPUTS] as usize;
+        most = loaded[DEFAULT_OUTPUTS] as usize;
     }
     let mut group = 0;
     while group < rules {
-        let count = blocks[BLOCK * group + 2] as usize;
+        let count = loaded[BLOCK * group + 2] as usize;
         if most < count {
             most = count;
         }
@@ -51,70 +51,65 @@ pub fn expansion(blocks: &[u16], rules: usize, defaulted: bool) -> usize
     most
 }
 
-// The conversion of an input by a table's arrays, where each group has characters and the text has room.
+// The conversion of an input by a loaded table, where each group has characters and the text has room.
 pub fn convert_flat(
-    slots: &[u16],
-    ranges: &[u16],
-    blocks: &[u16],
+    loaded: &[u16],
     rules: usize,
     defaulted: bool,
     input: &[u16],
     output: &mut [u16],
 ) -> Conversion
-    requires { ⌜ Flat (now slots) (now ranges) (now blocks) ⌝ }
+    requires { ⌜ Flat (now loaded) ⌝ }
     requires { ⌜ rules ≤ 32 ⌝ }
-    requires { ⌜ ((g : ℕ) → g < rules → 1 ≤ at (now blocks) (blockSize * g)) ⌝ }
-    requires { ⌜ (defaulted ≡ true → at (now blocks) (32 * blockSize) ≡ 1) ⌝ }
-    requires { ⌜ length (flatText (now blocks) (flatConversion (now slots) (now ranges) (now blocks) rules defaulted (now input) .log)) ≤ length (now output) ⌝ }
+    requires { ⌜ ((g : ℕ) → g < rules → 1 ≤ at (now loaded) (blockSize * g)) ⌝ }
+    requires { ⌜ (defaulted ≡ true → at (now loaded) (32 * blockSize) ≡ 1) ⌝ }
+    requires { ⌜ length (flatText (now loaded) (flatConversion (now loaded) rules defaulted (now input) .log)) ≤ length (now output) ⌝ }
     ensures answer { λ r. ⌜ (
-        let whole = flatConversion (now (slots .entry)) (now (ranges .entry)) (now (blocks .entry)) rules defaulted (now (input .entry)) in
+        let whole = flatConversion (now (loaded .entry)) rules defaulted (now (input .entry)) in
         conversionOf r
-        ≡ accepted (record { closed = whole .closed; place = covered (whole .log); count = length (flatText (now (blocks .entry)) (whole .log)) })) ⌝ }
+        ≡ accepted (record { closed = whole .closed; place = covered (whole .log); count = length (flatText (now (loaded .entry)) (whole .log)) })) ⌝ }
     ensures text { λ _. ⌜ (
-        let whole = flatConversion (now (slots .entry)) (now (ranges .entry)) (now (blocks .entry)) rules defaulted (now (input .entry)) in
-        now (output .exit) ≡ over (flatText (now (blocks .entry)) (whole .log)) (now (output .entry))) ⌝ }
+        let whole = flatConversion (now (loaded .entry)) rules defaulted (now (input .entry)) in
+        now (output .exit) ≡ over (flatText (now (loaded .entry)) (whole .log)) (now (output .entry))) ⌝ }
 {
     let mut place = 0;
     let mut count = 0;
     while place < input.len() {
-        let Choice::Group(group) = choose_at(slots, ranges, blocks, rules, defaulted, input, place)
-        else {
+        let Choice::Group(group) = choose_at(loaded, rules, defaulted, input, place) else {
             return Conversion::Stopped { place, count };
         };
-        count = write_group(blocks, group, input, place, output, count);
-        place += blocks[BLOCK * group] as usize;
+        count = write_group(loaded, group, input, place, output, count);
+        place += loaded[BLOCK * group] as usize;
     }
     Conversion::Closed { place, count }
 }
 
 // Refusals 14 and 15, then the conversion.
 fn convert_loaded(
-    slots: &[u16],
-    ranges: &[u16],
-    blocks: &[u16],
+    loaded: &[u16],
     rules: usize,
     defaulted: bool,
     input: &[u16],
     output: &mut [u16],
 ) -> Conversion
-    requires { ⌜ Flat (now slots) (now ranges) (now blocks) ⌝ }
+    requires { ⌜ Flat (now loaded) ⌝ }
     requires { ⌜ rules ≤ 32 ⌝ }
-    requires { ⌜ ((g : ℕ) → g < rules → 1 ≤ at (now blocks) (blockSize * g)) ⌝ }
-    requires { ⌜ (defaulted ≡ true → at (now blocks) (32 * blockSize) ≡ 1) ⌝ }
-    requires { ⌜ length (flatText (now blocks) (flatConversion (now slots) (now ranges) (now blocks) rules defaulted (now input) .log))
-        ≤ expansionAt (now blocks) rules defaulted * length (now input) ⌝ }
+    requires { ⌜ ((g : ℕ) → g < rules → 1 ≤ at (now loaded) (blockSize * g)) ⌝ }
+    requires { ⌜ (defaulted ≡ true → at (now loaded) (32 * blockSize) ≡ 1) ⌝ }
+    requires { ⌜ length (flatText (now loaded) (flatConversion (now loaded) rules defaulted (now input) .log))
+        ≤ expansionAt (now loaded) rules defaulted * length (now input) ⌝ }
     ensures answer { λ r. ⌜ conversionOf r
-        ≡ flatDirect (now (slots .entry)) (now (ranges .entry)) (now (blocks .entry)) rules defaulted (now (input .entry)) (now (output .entry)) .answer ⌝ }
+        ≡ flatDirect (now (loaded .entry)) rules defaulted (now (input .entry)) (now (output .entry)) .answer ⌝ }
     ensures text { λ _. ⌜ now (output .exit)
-        ≡ flatDirect (now (slots .entry)) (now (ranges .entry)) (now (blocks .entry)) rules defaulted (now (input .entry)) (now (output .entry)) .output ⌝ }
+        ≡ flatDirect (now (loaded .entry)) rules defaulted (now (input .entry)) (now (output .entry)) .output ⌝ }
 {
     if 1099511627776 < input.len() {
         return Conversion::Refused(14);
     }
-    if output.len() < expansion(blocks, rules, defaulted) * input.len() {
+    if output.len() < expansion(loaded, rules, defaulted) * input.len() {
         return Conversion::Refused(15);
     }
-    convert_flat(slots, ranges, blocks, rules, defaulted, input, output)
+    convert_flat(loaded, rules, defaulted, input, output)
 }
 
 // Direct conversion of an input by a table, into an output buffer.
@@ -122,14 +117,12 @@ pub fn convert(table: &[u8], input: &[u16], output: &mut [u16]) -> Conversion
     ensures answer { λ r. ⌜ conversionOf r ≡ direct (now (table .entry)) (now (input .entry)) (now (output .entry)) .answer ⌝ }
     ensures output { λ _. ⌜ now (output .exit) ≡ direct (now (table .entry)) (now (input .entry)) (now (output .entry)) .output ⌝ }
 {
-    let mut slots = [0u16; 264];
-    let mut ranges = [0u16; 2112];
-    let mut blocks = [0u16; BLOCKS];
-    let loaded = load_table(table, &mut slots, &mut ranges, &mut blocks);
-    match loaded {
+    let mut loaded = [0u16; LOADED];
+    let load = load_table(table, &mut loaded);
+    match load {
         Load::Refused(n) => Conversion::Refused(n),
         Load::Accepted { rules, defaulted } => {
-            convert_loaded(&slots, &ranges, &blocks, rules, defaulted, input, output)
+            convert_loaded(&loaded, rules, defaulted, input, output)
         }
     }
 }
@@ -138,11 +131,9 @@ pub fn convert(table: &[u8], input: &[u16], output: &mut [u16]) -> Conversion
 pub fn check(table: &[u8]) -> Verdict
     ensures { λ r. ⌜ checkOf r ≡ checked (now (table .entry)) ⌝ }
 {
-    let mut slots = [0u16; 264];
-    let mut ranges = [0u16; 2112];
-    let mut blocks = [0u16; BLOCKS];
-    let loaded = load_table(table, &mut slots, &mut ranges, &mut blocks);
-    match loaded {
+    let mut loaded = [0u16; LOADED];
+    let load = load_table(table, &mut loaded);
+    match load {
         Load::Refused(n) => Verdict::Refused(n),
         Load::Accepted {
             rules: _,

@@ -3,33 +3,38 @@ ghost use mathlib.Core.Path.{_≡_};
 ghost use mathlib.Core.List.{_++_};
 ghost use Prim.Native.Nat.{_+_, _*_, _%_, _≤_, _<_};
 ghost use lib.ListN.{length, take, drop};
-ghost use Rattle.meaning.specs.Block.{at, wordSum, blockOutput, blockSize, blocksSize};
+ghost use Rattle.meaning.specs.Block.{at, wordSum, entryValue, blockOutput, blockSize, blocksSize};
 use crate::layout::BLOCK;
 use crate::layout::ENTRY;
 
 // a * c, modulo 65536.
-pub fn wrapping_product(a: u16, c: u16) -> u16
+fn wrapping_product(a: u16, c: u16) -> u16
     ensures { λ r. ⌜ r ≡ (a * c) % 65536 ⌝ }
 {
     (a as u32 * c as u32 % 65536) as u16
 }
 
-// The output character whose constant stands at `entry`, its coefficients after it, for the `size` characters from `place` on.
-pub fn sum_at(blocks: &[u16], entry: usize, size: usize, input: &[u16], place: usize) -> u16
-    requires { ⌜ entry + 1 + size ≤ length (now blocks) ⌝ }
-    requires { ⌜ place + size ≤ length (now input) ⌝ }
-    ensures { λ r. ⌜ r ≡ wordSum (at (now (blocks .entry)) entry) (take size (drop (entry + 1) (now (blocks .entry)))) (take size (drop place (now (input .entry)))) ⌝ }
+// The constant that stands at `from`, and each coefficient after it times its character of `word`.
+fn sum_at(blocks: &[u16], from: usize, word: &[u16]) -> u16
+    requires { ⌜ from + 1 + length (now word) ≤ length (now blocks) ⌝ }
+    ensures { λ r. ⌜ r ≡ wordSum (at (now (blocks .entry)) from) (take (length (now (word .entry))) (drop (from + 1) (now (blocks .entry)))) (now (word .entry)) ⌝ }
 {
-    let mut sum = blocks[entry];
+    let mut sum = blocks[from];
     let mut i = 0;
-    while i < size {
-        sum = std::num::wrapping_add_u16(
-            sum,
-            wrapping_product(blocks[entry + 1 + i], input[place + i]),
-        );
+    while i < word.len() {
+        sum = std::num::wrapping_add_u16(sum, wrapping_product(blocks[from + 1 + i], word[i]));
         i += 1;
     }
     sum
+}
+
+// What an entry of a group writes for the group's characters.
+pub fn entry_value(blocks: &[u16], group: usize, entry: usize, word: &[u16]) -> u16
+    requires { ⌜ (group < 33) × (entry < 8) × (blocksSize ≤ length (now blocks)) ⌝ }
+    requires { ⌜ (length (now word) ≡ at (now blocks) (blockSize * group)) × (length (now word) ≤ 8) ⌝ }
+    ensures { λ r. ⌜ r ≡ entryValue (drop (blockSize * group) (now (blocks .entry))) entry (now (word .entry)) ⌝ }
+{
+    sum_at(blocks, BLOCK * group + 3 + ENTRY * entry, word)
 }
 
 // What a group writes for the characters from `place` on goes to `output` from `count` on; the count after it.
@@ -41,7 +46,7 @@ pub fn write_group(
     output: &mut [u16],
     count: usize,
 ) -> usize
-    requires { ⌜ (group < 33) × (length (now blocks) ≡ blocksSize) ⌝ }
+    requires { ⌜ (group < 33) × (blocksSize ≤ length (now blocks)) ⌝ }
     requires { ⌜ (at (now blocks) (blockSize * group) ≤ 8) × (at (now blocks) (blockSize * group + 2) ≤ 8) ⌝ }
     requires { ⌜ place + at (now blocks) (blockSize * group) ≤ length (now input) ⌝ }
     requires { ⌜ count + at (now blocks) (blockSize * group + 2) ≤ length (now output) ⌝ }
@@ -54,9 +59,10 @@ pub fn write_group(
     let base = BLOCK * group;
     let size = blocks[base] as usize;
     let number = blocks[base + 2] as usize;
+    let word = &input[place..place + size];
     let mut j = 0;
     while j < number {
-        output[count + j] = sum_at(blocks, base + 3 + ENTRY * j, size, input, place);
+        output[count + j] = entry_value(blocks, group, j, word);
         j += 1;
     }
     count + number

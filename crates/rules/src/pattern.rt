@@ -1,7 +1,7 @@
-// Definition 7's choice, on the flat arrays.
+// Definition 7's choice, on a loaded table's array.
 ghost use mathlib.Core.Path.{_≡_};
 ghost use mathlib.Core.Bool.{_&&_};
-ghost use Prim.Native.Nat.{ℕ, _+_, _*_, _≤_, _<_};
+ghost use Prim.Native.Nat.{_+_, _*_, _≤_, _<_};
 ghost use lib.Dec.{leb};
 ghost use lib.ListN.{length, take, drop};
 ghost use Rattle.lists.specs.Lists.{tabFrom};
@@ -9,9 +9,11 @@ ghost use Rattle.meaning.specs.Table.{inRanges};
 ghost use Rattle.meaning.specs.Block.{at};
 ghost use Rattle.meaning.specs.Value.{fitsWord};
 ghost use Rattle.meaning.specs.Meaning.{fits, choose};
-ghost use Rattle.meaning.specs.bridge.Flat.{rangesAt, groupAt, tableAt, Flat};
+ghost use Rattle.meaning.specs.bridge.Flat.{slotsFrom, loadedSize, rangesAt, groupAt, tableAt, Flat};
 ghost use Rattle.rules.specs.bridge.Readings.{choiceOf};
 use crate::layout::BLOCK;
+use crate::layout::RANGES_FROM;
+use crate::layout::SLOTS_FROM;
 
 // The number of the group chosen, or nothing where no rule fits and there is no default.
 pub enum Choice {
@@ -20,25 +22,25 @@ pub enum Choice {
 }
 
 // The character lies in the range whose two numbers start at `i`.
-fn in_range(ranges: &[u16], i: usize, c: u16) -> bool
-    requires { ⌜ i + 2 ≤ length (now ranges) ⌝ }
-    ensures { λ r. ⌜ r ≡ leb (at (now (ranges .entry)) i) c && leb c (at (now (ranges .entry)) (i + 1)) ⌝ }
+fn in_range(loaded: &[u16], i: usize, c: u16) -> bool
+    requires { ⌜ i + 2 ≤ length (now loaded) ⌝ }
+    ensures { λ r. ⌜ r ≡ leb (at (now (loaded .entry)) i) c && leb c (at (now (loaded .entry)) (i + 1)) ⌝ }
 {
-    if ranges[i] <= c {
-        return c <= ranges[i + 1];
+    if loaded[i] <= c {
+        return c <= loaded[i + 1];
     }
     false
 }
 
 // The character lies in the ranges of a place: position p of group g has place 8 g + p.
-pub fn in_ranges(slots: &[u16], ranges: &[u16], place: usize, c: u16) -> bool
-    requires { ⌜ (place < length (now slots)) × (8 * place + 8 ≤ length (now ranges)) × (at (now slots) place ≤ 4) ⌝ }
-    ensures { λ r. ⌜ r ≡ inRanges (rangesAt (now (slots .entry)) (now (ranges .entry)) place) c ⌝ }
+pub fn in_ranges(loaded: &[u16], place: usize, c: u16) -> bool
+    requires { ⌜ (place < 33 * 8) × (length (now loaded) ≡ loadedSize) × (at (now loaded) (slotsFrom + place) ≤ 4) ⌝ }
+    ensures { λ r. ⌜ r ≡ inRanges (rangesAt (now (loaded .entry)) place) c ⌝ }
 {
-    let count = slots[place] as usize;
+    let count = loaded[SLOTS_FROM + place] as usize;
     let mut k: usize = 0;
     while k < count {
-        if in_range(ranges, 8 * place + 2 * k, c) {
+        if in_range(loaded, RANGES_FROM + 8 * place + 2 * k, c) {
             return true;
         }
         k += 1;
@@ -47,21 +49,14 @@ pub fn in_ranges(slots: &[u16], ranges: &[u16], place: usize, c: u16) -> bool
 }
 
 // The `size` characters from `from` on lie in the ranges of as many places from `place` on.
-fn positions_fit(
-    slots: &[u16],
-    ranges: &[u16],
-    place: usize,
-    size: usize,
-    input: &[u16],
-    from: usize,
-) -> bool
-    requires { ⌜ (place + size ≤ length (now slots)) × (8 * length (now slots) ≤ length (now ranges)) × (from + size ≤ length (now input)) ⌝ }
-    requires { ⌜ ((p : ℕ) → p < length (now slots) → at (now slots) p ≤ 4) ⌝ }
-    ensures { λ r. ⌜ r ≡ fitsWord (tabFrom 0 size (λ p. rangesAt (now (slots .entry)) (now (ranges .entry)) (place + p))) (take size (drop from (now (input .entry)))) ⌝ }
+fn positions_fit(loaded: &[u16], place: usize, size: usize, input: &[u16], from: usize) -> bool
+    requires { ⌜ Flat (now loaded) ⌝ }
+    requires { ⌜ (place + size ≤ 33 * 8) × (from + size ≤ length (now input)) ⌝ }
+    ensures { λ r. ⌜ r ≡ fitsWord (tabFrom 0 size (λ p. rangesAt (now (loaded .entry)) (place + p))) (take size (drop from (now (input .entry)))) ⌝ }
 {
     let mut p: usize = 0;
     while p < size {
-        if !in_ranges(slots, ranges, place + p, input[from + p]) {
+        if !in_ranges(loaded, place + p, input[from + p]) {
             return false;
         }
         p += 1;
@@ -70,53 +65,38 @@ fn positions_fit(
 }
 
 // The group fits the input from `at` on.
-pub fn fits_at(
-    slots: &[u16],
-    ranges: &[u16],
-    blocks: &[u16],
-    group: usize,
-    input: &[u16],
-    at: usize,
-) -> bool
-    requires { ⌜ Flat (now slots) (now ranges) (now blocks) ⌝ }
+pub fn fits_at(loaded: &[u16], group: usize, input: &[u16], at: usize) -> bool
+    requires { ⌜ Flat (now loaded) ⌝ }
     requires { ⌜ (group < 33) × (at ≤ length (now input)) ⌝ }
-    ensures { λ r. ⌜ r ≡ fits (groupAt (now (slots .entry)) (now (ranges .entry)) (now (blocks .entry)) group) (drop at (now (input .entry))) ⌝ }
+    ensures { λ r. ⌜ r ≡ fits (groupAt (now (loaded .entry)) group) (drop at (now (input .entry))) ⌝ }
 {
-    let size = blocks[BLOCK * group] as usize;
+    let size = loaded[BLOCK * group] as usize;
     let left = input.len() - at;
     if left < size {
         return false;
     }
-    if blocks[BLOCK * group + 1] == 1 {
+    if loaded[BLOCK * group + 1] == 1 {
         if size < left {
             return false;
         }
     }
-    positions_fit(slots, ranges, 8 * group, size, input, at)
+    positions_fit(loaded, 8 * group, size, input, at)
 }
 
 // The group chosen for the input from `at` on. A rule that is no shorter than the best so far can't win, and is not tried.
-pub fn choose_at(
-    slots: &[u16],
-    ranges: &[u16],
-    blocks: &[u16],
-    rules: usize,
-    defaulted: bool,
-    input: &[u16],
-    at: usize,
-) -> Choice
-    requires { ⌜ Flat (now slots) (now ranges) (now blocks) ⌝ }
+pub fn choose_at(loaded: &[u16], rules: usize, defaulted: bool, input: &[u16], at: usize) -> Choice
+    requires { ⌜ Flat (now loaded) ⌝ }
     requires { ⌜ (rules ≤ 32) × (at ≤ length (now input)) ⌝ }
-    ensures { λ r. ⌜ choiceOf r ≡ choose (tableAt (now (slots .entry)) (now (ranges .entry)) (now (blocks .entry)) rules defaulted) (drop at (now (input .entry))) ⌝ }
+    ensures { λ r. ⌜ choiceOf r ≡ choose (tableAt (now (loaded .entry)) rules defaulted) (drop at (now (input .entry))) ⌝ }
 {
     // none so far: above every rule and every length
     let mut best: usize = rules;
     let mut least: usize = 9;
     let mut r: usize = 0;
     while r < rules {
-        let size = blocks[BLOCK * r] as usize;
+        let size = loaded[BLOCK * r] as usize;
         if size < least {
-            if fits_at(slots, ranges, blocks, r, input, at) {
+            if fits_at(loaded, r, input, at) {
                 best = r;
                 least = size;
             }

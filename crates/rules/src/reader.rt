@@ -1,26 +1,28 @@
 // One record after another: what is kept of the table so far, and the refusals 2, 3, 4 and 6 of a record.
 ghost use mathlib.Core.Bool.{false, _&&_, _||_, not};
 ghost use mathlib.Core.Path.{_≡_};
-ghost use Prim.Native.Nat.{_+_, _*_, _%_, _≤_, _<_};
+ghost use Prim.Native.Nat.{_+_, _*_, _≤_, _<_};
 ghost use lib.Dec.{eqb, leb, ltb};
 ghost use lib.ListN.{length, set};
 ghost use Rattle.meaning.specs.Table.{Range};
 ghost use Rattle.meaning.specs.Record.{rule, range, output, term, default};
-ghost use Rattle.meaning.specs.Block.{bit, blockSize, blocksSize, entrySize};
+ghost use Rattle.meaning.specs.Block.{bit, blockSize, entrySize};
+ghost use Rattle.meaning.specs.bridge.Flat.{loadedSize};
 ghost use Rattle.rules.specs.bridge.Readings.{recordOf, stepOf};
-ghost use Rattle.rules.specs.bridge.Summary.{Fitting, started, rangesRead, gap, groupNumber, slotNumber, admit, admitted, ifAdmitted, ifTaken, slotsBy, rangesBy, blocksBy, constantsBy};
-use crate::record::Record;
+ghost use Rattle.rules.specs.bridge.Summary.{Fitting, everyLast, started, rangesRead, gap, groupNumber, slotNumber, rangedTo, summedTo, rangePut, outputPut, admit, admitted, ifAdmitted, ifTaken};
 use crate::layout::BLOCK;
 use crate::layout::DEFAULT_BLOCK;
+use crate::layout::DEFAULT_HIGHEST;
+use crate::layout::DEFAULT_SLOT;
 use crate::layout::ENTRY;
+use crate::layout::HIGHS_FROM;
+use crate::layout::RANGES_FROM;
+use crate::layout::SLOTS_FROM;
+use crate::record::Record;
 
-// A summary of the table read so far: its last record's kind (0 for none), its rules, whether it has a default; and of its last group the
-// length, the positions that have a range, the last position's ranges and the highest character of the last of them, the output characters,
-// and how many positions the coefficients of the last one reach.
-pub struct Reader {
-    pub kind: u8,
-    pub rules: usize,
-    pub defaulted: bool,
+// What is kept of the group read last: its length, the positions that have a range, the last position's ranges and the highest character of the
+// last of them, the output characters, and how many positions the coefficients of the last one reach.
+pub struct Last {
     pub size: usize,
     pub positions: usize,
     pub slots: usize,
@@ -29,9 +31,31 @@ pub struct Reader {
     pub reach: usize,
 }
 
+// A summary of the table read so far: its last record's kind (0 for none), its rules, whether it has a default, and its last group.
+pub struct Reader {
+    pub kind: u8,
+    pub rules: usize,
+    pub defaulted: bool,
+    pub last: Last,
+}
+
 pub enum Step {
-    Onward(Reader),
+    Next(Reader),
     Refused(u8),
+}
+
+// A group that takes every character, as the default does.
+fn every_character() -> Last
+    ensures { λ r. ⌜ r ≡ everyLast ⌝ }
+{
+    Last {
+        size: 1,
+        positions: 1,
+        slots: 1,
+        highest: 65535,
+        outputs: 0,
+        reach: 0,
+    }
 }
 
 // Nothing read yet.
@@ -42,12 +66,7 @@ pub fn start() -> Reader
         kind: 0,
         rules: 0,
         defaulted: false,
-        size: 1,
-        positions: 1,
-        slots: 1,
-        highest: 65535,
-        outputs: 0,
-        reach: 0,
+        last: every_character(),
     }
 }
 
@@ -73,7 +92,7 @@ pub fn has_gap(reader: Reader) -> bool
     ensures { λ r. ⌜ r ≡ gap reader ⌝ }
 {
     if ranges_read(reader) {
-        return reader.positions < reader.size;
+        return reader.last.positions < reader.last.size;
     }
     false
 }
@@ -99,12 +118,35 @@ pub fn bit_of(flag: bool) -> u16
     0
 }
 
+// A record that changes the ranges of the last group.
+fn ranged(reader: Reader, positions: usize, slots: usize, highest: u16) -> Reader
+    ensures { λ r. ⌜ r ≡ rangedTo reader positions slots highest ⌝ }
+{
+    let mut next = reader;
+    next.kind = 2;
+    next.last.positions = positions;
+    next.last.slots = slots;
+    next.last.highest = highest;
+    next
+}
+
+// A record that changes the output characters of the last group.
+fn summed(reader: Reader, kind: u8, outputs: usize, reach: usize) -> Reader
+    ensures { λ r. ⌜ r ≡ summedTo reader kind outputs reach ⌝ }
+{
+    let mut next = reader;
+    next.kind = kind;
+    next.last.outputs = outputs;
+    next.last.reach = reach;
+    next
+}
+
 // A rule: a new group, its length and whether it is anchored at the start of its block.
-fn on_rule(reader: Reader, size: u8, anchored: bool, blocks: &mut [u16]) -> Step
+fn on_rule(reader: Reader, size: u8, anchored: bool, loaded: &mut [u16]) -> Step
     requires { ⌜ Fitting reader ⌝ }
-    requires { ⌜ length (now blocks) ≡ blocksSize ⌝ }
+    requires { ⌜ length (now loaded) ≡ loadedSize ⌝ }
     ensures { λ r. ⌜ stepOf r ≡ admit reader (rule size anchored) ⌝ }
-    ensures { λ r. ⌜ now (blocks .exit) ≡ ifAdmitted (admit reader (rule size anchored)) (blocksBy reader (rule size anchored) (now (blocks .entry))) (now (blocks .entry)) ⌝ }
+    ensures { λ _. ⌜ now (loaded .exit) ≡ ifAdmitted reader (rule size anchored) (now (loaded .entry)) ⌝ }
 {
     if reader.defaulted {
         return Step::Refused(3);
@@ -117,37 +159,39 @@ fn on_rule(reader: Reader, size: u8, anchored: bool, blocks: &mut [u16]) -> Step
         return Step::Refused(6);
     }
     let at = BLOCK * rules;
-    blocks[at] = size as u16;
-    blocks[at + 1] = bit_of(anchored);
-    Step::Onward(Reader {
+    loaded[at] = size as u16;
+    loaded[at + 1] = bit_of(anchored);
+    Step::Next(Reader {
         kind: 1,
         rules: rules + 1,
         defaulted: false,
-        size: size as usize,
-        positions: 0,
-        slots: 0,
-        highest: 0,
-        outputs: 0,
-        reach: 0,
+        last: Last {
+            size: size as usize,
+            positions: 0,
+            slots: 0,
+            highest: 0,
+            outputs: 0,
+            reach: 0,
+        },
     })
 }
 
 // Refusal 3 of a range: it may not come, its position is not below K, or it is out of order.
 fn range_misplaced(reader: Reader, position: usize, lowest: u16) -> bool
     requires { ⌜ position < 256 ⌝ }
-    ensures { λ r. ⌜ r ≡ (not (rangesRead reader) || leb (reader .size) position || ltb (position + 1) (reader .positions) || (eqb (position + 1) (reader .positions) && leb lowest (reader .highest))) ⌝ }
+    ensures { λ r. ⌜ r ≡ (not (rangesRead reader) || leb (reader .last .size) position || ltb (position + 1) (reader .last .positions) || (eqb (position + 1) (reader .last .positions) && leb lowest (reader .last .highest))) ⌝ }
 {
     if !ranges_read(reader) {
         return true;
     }
-    if reader.size <= position {
+    if reader.last.size <= position {
         return true;
     }
-    if position + 1 < reader.positions {
+    if position + 1 < reader.last.positions {
         return true;
     }
-    if position + 1 == reader.positions {
-        return lowest <= reader.highest;
+    if position + 1 == reader.last.positions {
+        return lowest <= reader.last.highest;
     }
     false
 }
@@ -155,10 +199,10 @@ fn range_misplaced(reader: Reader, position: usize, lowest: u16) -> bool
 // Refusal 6 of a range: its position has four.
 fn position_full(reader: Reader, position: usize) -> bool
     requires { ⌜ position < 256 ⌝ }
-    ensures { λ r. ⌜ r ≡ (eqb (position + 1) (reader .positions) && eqb (reader .slots) 4) ⌝ }
+    ensures { λ r. ⌜ r ≡ (eqb (position + 1) (reader .last .positions) && eqb (reader .last .slots) 4) ⌝ }
 {
-    if position + 1 == reader.positions {
-        return reader.slots == 4;
+    if position + 1 == reader.last.positions {
+        return reader.last.slots == 4;
     }
     false
 }
@@ -167,10 +211,10 @@ fn position_full(reader: Reader, position: usize) -> bool
 fn slot_number(reader: Reader, position: usize) -> usize
     ensures { λ r. ⌜ r ≡ slotNumber reader position ⌝ }
 {
-    if position == reader.positions {
+    if position == reader.last.positions {
         return 0;
     }
-    reader.slots
+    reader.last.slots
 }
 
 // Range `slot` of a position of a group.
@@ -180,91 +224,57 @@ fn put_range(
     slot: usize,
     lowest: u16,
     highest: u16,
-    slots: &mut [u16],
-    ranges: &mut [u16],
+    loaded: &mut [u16],
 )
     requires { ⌜ (group < 33) × (position < 8) × (slot < 4) ⌝ }
-    requires { ⌜ length (now slots) ≡ 264 ⌝ }
-    requires { ⌜ length (now ranges) ≡ 2112 ⌝ }
-    ensures { λ _. ⌜ now (slots .exit) ≡ set (now (slots .entry)) (8 * group + position) (slot + 1) ⌝ }
-    ensures { λ _. ⌜ now (ranges .exit) ≡ set (set (now (ranges .entry)) (64 * group + 8 * position + 2 * slot) lowest) (64 * group + 8 * position + 2 * slot + 1) highest ⌝ }
+    requires { ⌜ length (now loaded) ≡ loadedSize ⌝ }
+    ensures { λ _. ⌜ now (loaded .exit) ≡ rangePut group position slot lowest highest (now (loaded .entry)) ⌝ }
 {
-    slots[8 * group + position] = (slot + 1) as u16;
-    let at = 64 * group + 8 * position + 2 * slot;
-    ranges[at] = lowest;
-    ranges[at + 1] = highest;
+    loaded[SLOTS_FROM + 8 * group + position] = (slot + 1) as u16;
+    let at = RANGES_FROM + 64 * group + 8 * position + 2 * slot;
+    loaded[at] = lowest;
+    loaded[at + 1] = highest;
 }
 
 // A range of the last rule, at its next position or at the last one again.
-fn on_range(
-    reader: Reader,
-    position: u8,
-    lowest: u16,
-    highest: u16,
-    slots: &mut [u16],
-    ranges: &mut [u16],
-) -> Step
+fn on_range(reader: Reader, position: u8, lowest: u16, highest: u16, loaded: &mut [u16]) -> Step
     requires { ⌜ Fitting reader ⌝ }
-    requires { ⌜ length (now slots) ≡ 264 ⌝ }
-    requires { ⌜ length (now ranges) ≡ 2112 ⌝ }
+    requires { ⌜ length (now loaded) ≡ loadedSize ⌝ }
     ensures { λ r. ⌜ stepOf r ≡ admit reader (range position (record { lowest = lowest; highest = highest })) ⌝ }
-    ensures { λ r. ⌜ (let x = range position (record { lowest = lowest; highest = highest }) in now (slots .exit) ≡ ifAdmitted (admit reader x) (slotsBy reader x (now (slots .entry))) (now (slots .entry))) ⌝ }
-    ensures { λ r. ⌜ (let x = range position (record { lowest = lowest; highest = highest }) in now (ranges .exit) ≡ ifAdmitted (admit reader x) (rangesBy reader x (now (ranges .entry))) (now (ranges .entry))) ⌝ }
+    ensures { λ _. ⌜ now (loaded .exit) ≡ ifAdmitted reader (range position (record { lowest = lowest; highest = highest })) (now (loaded .entry)) ⌝ }
 {
     let place = position as usize;
     if range_misplaced(reader, place, lowest) {
         return Step::Refused(3);
     }
-    if reader.positions < place {
+    if reader.last.positions < place {
         return Step::Refused(4);
     }
     if position_full(reader, place) {
         return Step::Refused(6);
     }
     let slot = slot_number(reader, place);
-    put_range(
-        group_number(reader),
-        place,
-        slot,
-        lowest,
-        highest,
-        slots,
-        ranges,
-    );
-    Step::Onward(Reader {
-        kind: 2,
-        rules: reader.rules,
-        defaulted: reader.defaulted,
-        size: reader.size,
-        positions: place + 1,
-        slots: slot + 1,
-        highest,
-        outputs: reader.outputs,
-        reach: reader.reach,
-    })
+    put_range(group_number(reader), place, slot, lowest, highest, loaded);
+    Step::Next(ranged(reader, place + 1, slot + 1, highest))
 }
 
 // Output character `number` of a group, with its constant.
-fn put_output(group: usize, number: usize, constant: u32, blocks: &mut [u16], constants: &mut [u32])
+fn put_output(group: usize, number: usize, constant: u32, loaded: &mut [u16])
     requires { ⌜ (group < 33) × (number < 8) ⌝ }
-    requires { ⌜ length (now blocks) ≡ blocksSize ⌝ }
-    requires { ⌜ length (now constants) ≡ 264 ⌝ }
-    ensures { λ _. ⌜ now (blocks .exit) ≡ set (set (now (blocks .entry)) (blockSize * group + 2) (number + 1)) (blockSize * group + 3 + entrySize * number) (constant % 65536) ⌝ }
-    ensures { λ _. ⌜ now (constants .exit) ≡ set (now (constants .entry)) (8 * group + number) constant ⌝ }
+    requires { ⌜ length (now loaded) ≡ loadedSize ⌝ }
+    ensures { λ _. ⌜ now (loaded .exit) ≡ outputPut group number constant (now (loaded .entry)) ⌝ }
 {
-    blocks[BLOCK * group + 2] = (number + 1) as u16;
-    blocks[BLOCK * group + 3 + ENTRY * number] = (constant % 65536) as u16;
-    constants[8 * group + number] = constant;
+    loaded[BLOCK * group + 2] = (number + 1) as u16;
+    loaded[BLOCK * group + 3 + ENTRY * number] = (constant % 65536) as u16;
+    loaded[HIGHS_FROM + 8 * group + number] = (constant / 65536) as u16;
 }
 
 // An output character of the last group.
-fn on_output(reader: Reader, constant: u32, blocks: &mut [u16], constants: &mut [u32]) -> Step
+fn on_output(reader: Reader, constant: u32, loaded: &mut [u16]) -> Step
     requires { ⌜ Fitting reader ⌝ }
-    requires { ⌜ length (now blocks) ≡ blocksSize ⌝ }
-    requires { ⌜ length (now constants) ≡ 264 ⌝ }
+    requires { ⌜ length (now loaded) ≡ loadedSize ⌝ }
     ensures { λ r. ⌜ stepOf r ≡ admit reader (output constant) ⌝ }
-    ensures { λ r. ⌜ now (blocks .exit) ≡ ifAdmitted (admit reader (output constant)) (blocksBy reader (output constant) (now (blocks .entry))) (now (blocks .entry)) ⌝ }
-    ensures { λ r. ⌜ now (constants .exit) ≡ ifAdmitted (admit reader (output constant)) (constantsBy reader (output constant) (now (constants .entry))) (now (constants .entry)) ⌝ }
+    ensures { λ _. ⌜ now (loaded .exit) ≡ ifAdmitted reader (output constant) (now (loaded .entry)) ⌝ }
 {
     if reader.kind == 0 {
         return Step::Refused(3);
@@ -272,87 +282,63 @@ fn on_output(reader: Reader, constant: u32, blocks: &mut [u16], constants: &mut 
     if has_gap(reader) {
         return Step::Refused(4);
     }
-    let outputs = reader.outputs;
+    let outputs = reader.last.outputs;
     if outputs == 8 {
         return Step::Refused(6);
     }
-    put_output(group_number(reader), outputs, constant, blocks, constants);
-    Step::Onward(Reader {
-        kind: 3,
-        rules: reader.rules,
-        defaulted: reader.defaulted,
-        size: reader.size,
-        positions: reader.positions,
-        slots: reader.slots,
-        highest: reader.highest,
-        outputs: outputs + 1,
-        reach: 0,
-    })
+    put_output(group_number(reader), outputs, constant, loaded);
+    Step::Next(summed(reader, 3, outputs + 1, 0))
 }
 
 // Refusal 3 of a term: it may not come, its position is not below K, or it is out of order.
 fn term_misplaced(reader: Reader, position: usize) -> bool
-    ensures { λ r. ⌜ r ≡ (not (eqb (reader .kind) 3 || eqb (reader .kind) 4) || leb (reader .size) position || ltb position (reader .reach)) ⌝ }
+    ensures { λ r. ⌜ r ≡ (not (eqb (reader .kind) 3 || eqb (reader .kind) 4) || leb (reader .last .size) position || ltb position (reader .last .reach)) ⌝ }
 {
     if !either(reader.kind, 3, 4) {
         return true;
     }
-    if reader.size <= position {
+    if reader.last.size <= position {
         return true;
     }
-    position < reader.reach
+    position < reader.last.reach
 }
 
 // A coefficient of output character `number` of a group.
-fn put_term(group: usize, number: usize, position: usize, coefficient: u16, blocks: &mut [u16])
+fn put_term(group: usize, number: usize, position: usize, coefficient: u16, loaded: &mut [u16])
     requires { ⌜ (group < 33) × (number < 8) × (position < 8) ⌝ }
-    requires { ⌜ length (now blocks) ≡ blocksSize ⌝ }
-    ensures { λ _. ⌜ now (blocks .exit) ≡ set (now (blocks .entry)) (blockSize * group + 4 + entrySize * number + position) coefficient ⌝ }
+    requires { ⌜ length (now loaded) ≡ loadedSize ⌝ }
+    ensures { λ _. ⌜ now (loaded .exit) ≡ set (now (loaded .entry)) (blockSize * group + 4 + entrySize * number + position) coefficient ⌝ }
 {
-    blocks[BLOCK * group + 4 + ENTRY * number + position] = coefficient;
+    loaded[BLOCK * group + 4 + ENTRY * number + position] = coefficient;
 }
 
 // A coefficient of the last output character.
-fn on_term(reader: Reader, position: u8, coefficient: u16, blocks: &mut [u16]) -> Step
+fn on_term(reader: Reader, position: u8, coefficient: u16, loaded: &mut [u16]) -> Step
     requires { ⌜ Fitting reader ⌝ }
-    requires { ⌜ length (now blocks) ≡ blocksSize ⌝ }
+    requires { ⌜ length (now loaded) ≡ loadedSize ⌝ }
     ensures { λ r. ⌜ stepOf r ≡ admit reader (term position coefficient) ⌝ }
-    ensures { λ r. ⌜ now (blocks .exit) ≡ ifAdmitted (admit reader (term position coefficient)) (blocksBy reader (term position coefficient) (now (blocks .entry))) (now (blocks .entry)) ⌝ }
+    ensures { λ _. ⌜ now (loaded .exit) ≡ ifAdmitted reader (term position coefficient) (now (loaded .entry)) ⌝ }
 {
     let place = position as usize;
     if term_misplaced(reader, place) {
         return Step::Refused(3);
     }
-    let outputs = reader.outputs;
+    let outputs = reader.last.outputs;
     put_term(
         group_number(reader),
         outputs - 1,
         place,
         coefficient,
-        blocks,
+        loaded,
     );
-    Step::Onward(Reader {
-        kind: 4,
-        rules: reader.rules,
-        defaulted: reader.defaulted,
-        size: reader.size,
-        positions: reader.positions,
-        slots: reader.slots,
-        highest: reader.highest,
-        outputs,
-        reach: place + 1,
-    })
+    Step::Next(summed(reader, 4, outputs, place + 1))
 }
 
 // The default: a group of length 1 whose position takes every character.
-fn on_default(reader: Reader, slots: &mut [u16], ranges: &mut [u16], blocks: &mut [u16]) -> Step
-    requires { ⌜ length (now slots) ≡ 264 ⌝ }
-    requires { ⌜ length (now ranges) ≡ 2112 ⌝ }
-    requires { ⌜ length (now blocks) ≡ blocksSize ⌝ }
+fn on_default(reader: Reader, loaded: &mut [u16]) -> Step
+    requires { ⌜ length (now loaded) ≡ loadedSize ⌝ }
     ensures { λ r. ⌜ stepOf r ≡ admit reader default ⌝ }
-    ensures { λ r. ⌜ now (slots .exit) ≡ ifAdmitted (admit reader default) (slotsBy reader default (now (slots .entry))) (now (slots .entry)) ⌝ }
-    ensures { λ r. ⌜ now (ranges .exit) ≡ ifAdmitted (admit reader default) (rangesBy reader default (now (ranges .entry))) (now (ranges .entry)) ⌝ }
-    ensures { λ r. ⌜ now (blocks .exit) ≡ ifAdmitted (admit reader default) (blocksBy reader default (now (blocks .entry))) (now (blocks .entry)) ⌝ }
+    ensures { λ _. ⌜ now (loaded .exit) ≡ ifAdmitted reader default (now (loaded .entry)) ⌝ }
 {
     if reader.defaulted {
         return Step::Refused(3);
@@ -360,55 +346,37 @@ fn on_default(reader: Reader, slots: &mut [u16], ranges: &mut [u16], blocks: &mu
     if has_gap(reader) {
         return Step::Refused(4);
     }
-    slots[256] = 1;
-    ranges[2049] = 65535;
-    blocks[DEFAULT_BLOCK] = 1;
-    Step::Onward(Reader {
+    loaded[DEFAULT_BLOCK] = 1;
+    loaded[DEFAULT_SLOT] = 1;
+    loaded[DEFAULT_HIGHEST] = 65535;
+    Step::Next(Reader {
         kind: 5,
         rules: reader.rules,
         defaulted: true,
-        size: 1,
-        positions: 1,
-        slots: 1,
-        highest: 65535,
-        outputs: 0,
-        reach: 0,
+        last: every_character(),
     })
 }
 
 // One record, by 2, 3, 4 and 6.
-pub fn take_record(
-    reader: Reader,
-    record: Record,
-    slots: &mut [u16],
-    ranges: &mut [u16],
-    blocks: &mut [u16],
-    constants: &mut [u32],
-) -> Step
+pub fn take_record(reader: Reader, record: Record, loaded: &mut [u16]) -> Step
     requires { ⌜ Fitting reader ⌝ }
-    requires { ⌜ length (now slots) ≡ 264 ⌝ }
-    requires { ⌜ length (now ranges) ≡ 2112 ⌝ }
-    requires { ⌜ length (now blocks) ≡ blocksSize ⌝ }
-    requires { ⌜ length (now constants) ≡ 264 ⌝ }
+    requires { ⌜ length (now loaded) ≡ loadedSize ⌝ }
     ensures { λ r. ⌜ stepOf r ≡ admitted reader (recordOf «record») ⌝ }
-    ensures { λ r. ⌜ now (slots .exit) ≡ ifTaken reader (recordOf «record») slotsBy (now (slots .entry)) ⌝ }
-    ensures { λ r. ⌜ now (ranges .exit) ≡ ifTaken reader (recordOf «record») rangesBy (now (ranges .entry)) ⌝ }
-    ensures { λ r. ⌜ now (blocks .exit) ≡ ifTaken reader (recordOf «record») blocksBy (now (blocks .entry)) ⌝ }
-    ensures { λ r. ⌜ now (constants .exit) ≡ ifTaken reader (recordOf «record») constantsBy (now (constants .entry)) ⌝ }
+    ensures { λ _. ⌜ now (loaded .exit) ≡ ifTaken reader (recordOf «record») (now (loaded .entry)) ⌝ }
 {
     match record {
-        Record::Rule { size, anchored } => on_rule(reader, size, anchored, blocks),
+        Record::Rule { size, anchored } => on_rule(reader, size, anchored, loaded),
         Record::Range {
             position,
             lowest,
             highest,
-        } => on_range(reader, position, lowest, highest, slots, ranges),
-        Record::Output { constant } => on_output(reader, constant, blocks, constants),
+        } => on_range(reader, position, lowest, highest, loaded),
+        Record::Output { constant } => on_output(reader, constant, loaded),
         Record::Term {
             position,
             coefficient,
-        } => on_term(reader, position, coefficient, blocks),
-        Record::Default => on_default(reader, slots, ranges, blocks),
+        } => on_term(reader, position, coefficient, loaded),
+        Record::Default => on_default(reader, loaded),
         Record::Bad => Step::Refused(2),
     }
 }

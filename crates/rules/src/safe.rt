@@ -9,9 +9,12 @@ ghost use mathlib.Core.List.{map};
 ghost use Rattle.meaning.specs.Block.{at, blockSize, entrySize};
 ghost use Rattle.meaning.specs.Reader.{signed};
 ghost use Rattle.meaning.specs.Value.{dot, lowestOf, highestOf, extreme, safeOutput};
-ghost use Rattle.meaning.specs.bridge.Flat.{Flat, rangesAt, patternAt, outputAt, safeGroupAt, safeAt};
+ghost use Rattle.meaning.specs.bridge.Flat.{Flat, slotsFrom, highsFrom, loadedSize, rangeAt, rangesAt, patternAt, outputAt, safeGroupAt, safeAt};
 use crate::layout::BLOCK;
 use crate::layout::ENTRY;
+use crate::layout::HIGHS_FROM;
+use crate::layout::RANGES_FROM;
+use crate::layout::SLOTS_FROM;
 
 // A number that may be negative: `plus` less `minus`.
 pub struct Difference {
@@ -19,65 +22,51 @@ pub struct Difference {
     pub minus: u64,
 }
 
-fn smaller(a: u16, b: u16) -> u16
-    ensures { λ r. ⌜ r ≡ min a b ⌝ }
+// The lower or the higher of two characters.
+fn outer(a: u16, b: u16, lowest: bool) -> u16
+    ensures { λ r. ⌜ r ≡ cond lowest (min a b) (max a b) ⌝ }
 {
-    if a < b { a } else { b }
+    if (a < b) == lowest { a } else { b }
 }
 
-fn larger(a: u16, b: u16) -> u16
-    ensures { λ r. ⌜ r ≡ max a b ⌝ }
+// The lowest or the highest character of range `k` of a place.
+fn range_end(loaded: &[u16], place: usize, k: usize, lowest: bool) -> u16
+    requires { ⌜ (place < 33 * 8) × (k < 4) × (length (now loaded) ≡ loadedSize) ⌝ }
+    ensures { λ r. ⌜ r ≡ cond lowest (rangeAt (now (loaded .entry)) place k .lowest) (rangeAt (now (loaded .entry)) place k .highest) ⌝ }
 {
-    if a < b { b } else { a }
+    let at = RANGES_FROM + 8 * place + 2 * k;
+    if lowest {
+        return loaded[at];
+    }
+    loaded[at + 1]
 }
 
-// The lowest character of a place's ranges, 0 where there is none.
-pub fn lowest_of(slots: &[u16], ranges: &[u16], place: usize) -> u16
-    requires { ⌜ (place < 264) × (length (now slots) ≡ 264) × (length (now ranges) ≡ 2112) × (at (now slots) place ≤ 4) ⌝ }
-    ensures { λ r. ⌜ r ≡ lowestOf (rangesAt (now (slots .entry)) (now (ranges .entry)) place) ⌝ }
+// The lowest or the highest character of a place's ranges, 0 where there is none.
+pub fn place_end(loaded: &[u16], place: usize, lowest: bool) -> u16
+    requires { ⌜ (place < 33 * 8) × (length (now loaded) ≡ loadedSize) × (at (now loaded) (slotsFrom + place) ≤ 4) ⌝ }
+    ensures { λ r. ⌜ r ≡ cond lowest (lowestOf (rangesAt (now (loaded .entry)) place)) (highestOf (rangesAt (now (loaded .entry)) place)) ⌝ }
 {
-    let count = slots[place] as usize;
+    let count = loaded[SLOTS_FROM + place] as usize;
     if count == 0 {
         return 0;
     }
     let mut k = count - 1;
-    let mut lowest = ranges[8 * place + 2 * k];
+    let mut end = range_end(loaded, place, k, lowest);
     while k > 0 {
         k -= 1;
-        lowest = smaller(ranges[8 * place + 2 * k], lowest);
+        end = outer(range_end(loaded, place, k, lowest), end, lowest);
     }
-    lowest
-}
-
-// The highest character of a place's ranges, 0 where there is none.
-pub fn highest_of(slots: &[u16], ranges: &[u16], place: usize) -> u16
-    requires { ⌜ (place < 264) × (length (now slots) ≡ 264) × (length (now ranges) ≡ 2112) × (at (now slots) place ≤ 4) ⌝ }
-    ensures { λ r. ⌜ r ≡ highestOf (rangesAt (now (slots .entry)) (now (ranges .entry)) place) ⌝ }
-{
-    let count = slots[place] as usize;
-    if count == 0 {
-        return 0;
-    }
-    let mut k = count - 1;
-    let mut highest = ranges[8 * place + 2 * k + 1];
-    while k > 0 {
-        k -= 1;
-        highest = larger(ranges[8 * place + 2 * k + 1], highest);
-    }
-    highest
+    end
 }
 
 // The character of a place's ranges at which a coefficient of 16 bits gives least, or greatest.
-fn end_of(slots: &[u16], ranges: &[u16], place: usize, coefficient: u16, least: bool) -> u16
-    requires { ⌜ (place < 264) × (length (now slots) ≡ 264) × (length (now ranges) ≡ 2112) × (at (now slots) place ≤ 4) ⌝ }
+fn end_of(loaded: &[u16], place: usize, coefficient: u16, least: bool) -> u16
+    requires { ⌜ (place < 33 * 8) × (length (now loaded) ≡ loadedSize) × (at (now loaded) (slotsFrom + place) ≤ 4) ⌝ }
     ensures { λ r.
-        ⌜ r ≡ cond (Bool·beq (nonNeg (signed 16 coefficient)) least) (lowestOf (rangesAt (now (slots .entry)) (now (ranges .entry)) place))
-        (highestOf (rangesAt (now (slots .entry)) (now (ranges .entry)) place)) ⌝ }
+        ⌜ r ≡ cond (Bool·beq (nonNeg (signed 16 coefficient)) least) (lowestOf (rangesAt (now (loaded .entry)) place))
+        (highestOf (rangesAt (now (loaded .entry)) place)) ⌝ }
 {
-    if (coefficient < 32768) == least {
-        return lowest_of(slots, ranges, place);
-    }
-    highest_of(slots, ranges, place)
+    place_end(loaded, place, (coefficient < 32768) == least)
 }
 
 // A coefficient of 16 bits times a character, added.
@@ -120,76 +109,67 @@ fn with_constant(d: Difference, constant: u32) -> Difference
 }
 
 // The least or the greatest value of an output character without its constant.
-fn extreme_sum(
-    slots: &[u16],
-    ranges: &[u16],
-    blocks: &[u16],
-    group: usize,
-    number: usize,
-    least: bool,
-) -> Difference
-    requires { ⌜ Flat (now slots) (now ranges) (now blocks) × (group < 33) × (number < 8) ⌝ }
-    ensures sum { λ r.
-        ⌜ subℕ (r .plus) (r .minus)
-        ≡ dot (map (signed 16) (take (at (now (blocks .entry)) (blockSize * group)) (drop (blockSize * group + 4 + entrySize * number) (now (blocks .entry)))))
-        (extreme least (map (signed 16) (take (at (now (blocks .entry)) (blockSize * group)) (drop (blockSize * group + 4 + entrySize * number) (now (blocks .entry)))))
-        (patternAt (now (slots .entry)) (now (ranges .entry)) group (at (now (blocks .entry)) (blockSize * group)))) ⌝ }
+fn extreme_sum(loaded: &[u16], group: usize, number: usize, least: bool) -> Difference
+    requires { ⌜ Flat (now loaded) × (group < 33) × (number < 8) ⌝ }
+    ensures sum { λ r. ⌜ (
+        let size = at (now (loaded .entry)) (blockSize * group) in
+        let coefficients = map (signed 16) (take size (drop (blockSize * group + 4 + entrySize * number) (now (loaded .entry)))) in
+        subℕ (r .plus) (r .minus) ≡ dot coefficients (extreme least coefficients (patternAt (now (loaded .entry)) group size))) ⌝ }
     ensures small { λ r. ⌜ (r .plus ≤ 2 ^ 35) × (r .minus ≤ 2 ^ 35) ⌝ }
 {
-    let mut p = blocks[BLOCK * group] as usize;
+    let mut p = loaded[BLOCK * group] as usize;
     let mut d = Difference { plus: 0, minus: 0 };
     while p > 0 {
         p -= 1;
-        let coefficient = blocks[BLOCK * group + 4 + ENTRY * number + p];
-        let character = end_of(slots, ranges, 8 * group + p, coefficient, least);
+        let coefficient = loaded[BLOCK * group + 4 + ENTRY * number + p];
+        let character = end_of(loaded, 8 * group + p, coefficient, least);
         d = with_product(d, coefficient, character);
     }
     d
 }
 
-// The values of an output character are characters at every word that fits.
-pub fn output_safe(
-    slots: &[u16],
-    ranges: &[u16],
-    blocks: &[u16],
-    constants: &[u32],
-    group: usize,
-    number: usize,
-) -> bool
-    requires { ⌜ Flat (now slots) (now ranges) (now blocks) × (length (now constants) ≡ 264) × (group < 33) × (number < 8) ⌝ }
-    ensures { λ r.
-        ⌜ r ≡ safeOutput (patternAt (now (slots .entry)) (now (ranges .entry)) group (at (now (blocks .entry)) (blockSize * group)))
-        (outputAt (now (blocks .entry)) (now (constants .entry)) group number) ⌝ }
+// A number of 32 bits by its halves.
+fn from_halves(low: u16, high: u16) -> u32
+    ensures { λ r. ⌜ r ≡ low + 65536 * high ⌝ }
 {
-    let constant = constants[8 * group + number];
-    let least = with_constant(
-        extreme_sum(slots, ranges, blocks, group, number, true),
-        constant,
-    );
+    low as u32 + 65536 * high as u32
+}
+
+// The constant of an output character: its lower half stands in the block, its upper half in a part of its own.
+fn constant_of(loaded: &[u16], group: usize, number: usize) -> u32
+    requires { ⌜ (group < 33) × (number < 8) × (length (now loaded) ≡ loadedSize) ⌝ }
+    ensures { λ r.
+        ⌜ r ≡ at (now (loaded .entry)) (blockSize * group + 3 + entrySize * number) + 65536 * at (now (loaded .entry)) (highsFrom + 8 * group + number) ⌝ }
+{
+    from_halves(
+        loaded[BLOCK * group + 3 + ENTRY * number],
+        loaded[HIGHS_FROM + 8 * group + number],
+    )
+}
+
+// The values of an output character are characters at every word that fits.
+pub fn output_safe(loaded: &[u16], group: usize, number: usize) -> bool
+    requires { ⌜ Flat (now loaded) × (group < 33) × (number < 8) ⌝ }
+    ensures { λ r.
+        ⌜ r ≡ safeOutput (patternAt (now (loaded .entry)) group (at (now (loaded .entry)) (blockSize * group))) (outputAt (now (loaded .entry)) group number) ⌝ }
+{
+    let constant = constant_of(loaded, group, number);
+    let least = with_constant(extreme_sum(loaded, group, number, true), constant);
     if least.plus < least.minus {
         return false;
     }
-    let greatest = with_constant(
-        extreme_sum(slots, ranges, blocks, group, number, false),
-        constant,
-    );
+    let greatest = with_constant(extreme_sum(loaded, group, number, false), constant);
     greatest.plus <= greatest.minus + 65535
 }
 
-pub fn group_safe(
-    slots: &[u16],
-    ranges: &[u16],
-    blocks: &[u16],
-    constants: &[u32],
-    group: usize,
-) -> bool
-    requires { ⌜ Flat (now slots) (now ranges) (now blocks) × (length (now constants) ≡ 264) × (group < 33) ⌝ }
-    ensures { λ r. ⌜ r ≡ safeGroupAt (now (slots .entry)) (now (ranges .entry)) (now (blocks .entry)) (now (constants .entry)) group ⌝ }
+pub fn group_safe(loaded: &[u16], group: usize) -> bool
+    requires { ⌜ Flat (now loaded) × (group < 33) ⌝ }
+    ensures { λ r. ⌜ r ≡ safeGroupAt (now (loaded .entry)) group ⌝ }
 {
-    let outputs = blocks[BLOCK * group + 2] as usize;
+    let outputs = loaded[BLOCK * group + 2] as usize;
     let mut number = 0;
     while number < outputs {
-        if !output_safe(slots, ranges, blocks, constants, group, number) {
+        if !output_safe(loaded, group, number) {
             return false;
         }
         number += 1;
@@ -198,26 +178,19 @@ pub fn group_safe(
 }
 
 // Refusal 7's test of the whole table.
-pub fn all_safe(
-    slots: &[u16],
-    ranges: &[u16],
-    blocks: &[u16],
-    constants: &[u32],
-    rules: usize,
-    defaulted: bool,
-) -> bool
-    requires { ⌜ Flat (now slots) (now ranges) (now blocks) × (length (now constants) ≡ 264) × (rules ≤ 32) ⌝ }
-    ensures { λ r. ⌜ r ≡ safeAt (now (slots .entry)) (now (ranges .entry)) (now (blocks .entry)) (now (constants .entry)) rules defaulted ⌝ }
+pub fn all_safe(loaded: &[u16], rules: usize, defaulted: bool) -> bool
+    requires { ⌜ Flat (now loaded) × (rules ≤ 32) ⌝ }
+    ensures { λ r. ⌜ r ≡ safeAt (now (loaded .entry)) rules defaulted ⌝ }
 {
     let mut group = 0;
     while group < rules {
-        if !group_safe(slots, ranges, blocks, constants, group) {
+        if !group_safe(loaded, group) {
             return false;
         }
         group += 1;
     }
     if defaulted {
-        return group_safe(slots, ranges, blocks, constants, 32);
+        return group_safe(loaded, 32);
     }
     true
 }

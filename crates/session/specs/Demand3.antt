@@ -9,7 +9,7 @@ use Rattle.automaton.specs.Layout.{wordCount}
 use Rattle.automaton.specs.Compile.{compile}
 use Rattle.automaton.specs.Claims.{KeepsCompiling}
 use Rattle.reckoning.specs.Session.{fresh}
-use Rattle.reckoning.specs.Reckoning.{Call, ofFeed, ofFinish, piece, Served, verdict, outputBy, noInput, ran, reckon}
+use Rattle.reckoning.specs.Reckoning.{Call, ofFeed, ofFinish, piece, Served, outputBy, noInput, ran, reckon}
 use Rattle.reckoning.specs.Claims.{Agrees}
 use Rattle.session.specs.Keeping.{sessionOf}
 use Rattle.session.specs.Contracts.{answerOf, Feeds, Finishes}
@@ -37,11 +37,11 @@ unfoldable pub callsOf : List Made → List Call
 callsOf [] = []
 callsOf (m ∷ ms) = m .call ∷ callsOf ms
 
--- what the caller saw: each call's refusal (0 where it was accepted), the joined outputs of accepted calls, and the session at the end
+-- what the caller saw: each call's answer, the joined outputs of accepted calls, and the session at the end
 abbrev pub seenCall : Served → Made → Served
 seenCall v m =
     record {
-      verdicts = v .verdicts ++ (verdict (answerOf (m .answer)) ∷ []);
+      answers = v .answers ++ (answerOf (m .answer) ∷ []);
       output = v .output ++ outputBy (answerOf (m .answer)) (m .output);
       session = sessionOf (m .session);
     }
@@ -51,7 +51,7 @@ seen [] v = v
 seen (m ∷ ms) v = seen ms (seenCall v m)
 
 abbrev pub unseen : Session → Served
-unseen s = record { verdicts = []; output = []; session = sessionOf s }
+unseen s = record { answers = []; output = []; session = sessionOf s }
 
 -- "Take every table that keeps document 01's rules for compiling, and so compiles by demand 2, and every list of feeds and finishes of its
 -- machine from a fresh session, refused ones included, whatever the pieces and output lengths.": the words are as the contract of compile

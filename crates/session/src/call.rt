@@ -22,9 +22,9 @@ ghost use Rattle.meaning.specs.Direct.{limit};
 ghost use Rattle.rules.specs.Answers.{checkOf};
 ghost use Rattle.automaton.specs.Automaton.{fromWords};
 ghost use Rattle.reckoning.specs.Calls.{admits, callBy, receivedBy};
-ghost use Rattle.session.specs.Keeping.{statusOf, sessionOf};
-ghost use Rattle.session.specs.Contracts.{outcomeOf, Feeds, Finishes};
-ghost use Rattle.session.specs.bridge.Later.{laterOf, Small, Unchanged};
+ghost use Rattle.session.specs.Keeping.{meantStatus, sessionOf};
+ghost use Rattle.session.specs.Contracts.{outcomeOf, Feeds, Finishes, Told};
+ghost use Rattle.session.specs.bridge.Later.{laterOf, Small};
 
 // "Feed and finish write output from the buffer's start and answer its count and the status", or a refusal's number.
 pub enum Answer {
@@ -75,7 +75,7 @@ fn admit(words: &[u16], session: Session, size: usize, room: usize) -> Verdict
 
 // "When stopped, nothing is held and received equals consumed."
 fn received_by(status: Status, received: u64, gone: u64) -> u64
-    ensures { λ r. ⌜ r ≡ receivedBy (statusOf status) received gone ⌝ }
+    ensures { λ r. ⌜ r ≡ receivedBy (meantStatus status) received gone ⌝ }
 {
     match status {
         Status::Open => received,
@@ -108,7 +108,7 @@ fn later(session: Session, size: usize, ran: Ran, held: [u16; 8]) -> Session
 // The machine goes on from an admitted session over the piece.
 fn resume(words: &[u16], session: Session, piece: &[u16], ended: bool, output: &mut [u16]) -> Called
     requires { ⌜ admits (now words) (sessionOf session) (length (now piece)) (length (now output)) ≡ accepted tt ⌝ }
-    ensures { λ r. ⌜ Unchanged r session ⌝ }
+    ensures { λ r. ⌜ Told r session ⌝ }
     ensures { λ r. ⌜ outcomeOf (r .answer) (r .session) (now (output .exit))
         ≡ callBy (accepted tt) (fromWords (now (words .entry))) (sessionOf session) (now (piece .entry)) ended (now (output .entry)) ⌝ }
 {
@@ -132,7 +132,7 @@ fn resume(words: &[u16], session: Session, piece: &[u16], ended: bool, output: &
 
 // A feed of the piece, or a finish, of a session by value.
 fn call(words: &[u16], session: Session, piece: &[u16], ended: bool, output: &mut [u16]) -> Called
-    ensures { λ r. ⌜ Unchanged r session ⌝ }
+    ensures { λ r. ⌜ Told r session ⌝ }
     ensures { λ r. ⌜ outcomeOf (r .answer) (r .session) (now (output .exit))
         ≡ callBy (admits (now (words .entry)) (sessionOf session) (length (now (piece .entry))) (length (now (output .entry))))
         (fromWords (now (words .entry))) (sessionOf session) (now (piece .entry)) ended (now (output .entry)) ⌝ }
@@ -151,7 +151,7 @@ fn call(words: &[u16], session: Session, piece: &[u16], ended: bool, output: &mu
 
 // A feed, for callers that can't lend their session.
 pub fn feed_by_value(words: &[u16], session: Session, piece: &[u16], output: &mut [u16]) -> Called
-    ensures { λ r. ⌜ Unchanged r session ⌝ }
+    ensures { λ r. ⌜ Told r session ⌝ }
     ensures { λ r. ⌜ Feeds (now (words .entry)) session (now (piece .entry)) (now (output .entry)) (r .answer) (r .session) (now (output .exit)) ⌝ }
 {
     call(words, session, piece, false, output)
@@ -159,7 +159,7 @@ pub fn feed_by_value(words: &[u16], session: Session, piece: &[u16], output: &mu
 
 // A finish, for callers that can't lend their session.
 pub fn finish_by_value(words: &[u16], session: Session, output: &mut [u16]) -> Called
-    ensures { λ r. ⌜ Unchanged r session ⌝ }
+    ensures { λ r. ⌜ Told r session ⌝ }
     ensures { λ r. ⌜ Finishes (now (words .entry)) session (now (output .entry)) (r .answer) (r .session) (now (output .exit)) ⌝ }
 {
     call(words, session, &words[..0], true, output)

@@ -7,11 +7,12 @@ use machine::read::Accept;
 use machine::read::accept_at;
 use machine::read::accept_at_end;
 use machine::read::class_of;
+use machine::read::entry_value;
+use machine::read::group_outputs;
 use machine::read::has_default;
 use machine::read::settled;
 use machine::read::target;
 use machine::read::write_rule;
-use rules::output::sum_at;
 ghost use mathlib.Core.List.{_++_};
 ghost use mathlib.Core.Path.{_≡_};
 ghost use Prim.Native.Nat.{_+_, _*_, _-_, _≤_, _<_};
@@ -25,11 +26,11 @@ ghost use Rattle.automaton.specs.Sound.{classCount, blockAt, expansionWord, sou
 ghost use Rattle.automaton.specs.Automaton.{fromWords};
 ghost use Rattle.reckoning.specs.Machine.{start, run};
 ghost use Rattle.reckoning.specs.Session.{path, isAt};
-ghost use Rattle.session.specs.Keeping.{statusOf};
+ghost use Rattle.session.specs.Keeping.{meantStatus};
 ghost use Rattle.automaton.specs.Classes.{classOf};
 ghost use Rattle.machine.specs.bridge.Readings.{wordOf};
 ghost use Rattle.session.specs.bridge.Running.{firstOf, Classed, SomewherePlaced, ReadsOn, Passes, Moves, Emit, Back, Between, Halted, Waits, Stands, acceptNow, Fits, Placed, EndsAs, Advances, Beyond};
-use rules::layout::ENTRY;
+use rules::layout::DEFAULT_GROUP;
 
 // A run: the store is the text from `from` on and below `at`; whether it is done, and how.
 pub struct Ran {
@@ -172,10 +173,11 @@ fn write_default(
         ++ blockOutput (blockAt (now (words .entry)) 32) (take 1 (drop place (now (text .entry))))
         ++ drop (count + at (blockAt (now (words .entry)) 32) 2) (now (output .entry)) ⌝ }
 {
-    let number = words[19624] as usize;
+    let number = group_outputs(words, DEFAULT_GROUP);
+    let word = &text[place..place + 1];
     let mut j: usize = 0;
     while j < number {
-        output[count + j] = sum_at(words, 19625 + ENTRY * j, 1, text, place);
+        output[count + j] = entry_value(words, DEFAULT_GROUP, j, word);
         j += 1;
     }
     count + number
@@ -289,7 +291,7 @@ fn emit_rule<'a>(
 // The run has ended with an empty store: *stop*, after *back*, or *close*.
 fn halted(status: Status, run: Ran, steps: u64) -> Ran
     requires { ⌜ run .steps + steps < 18446744073709551616 ⌝ }
-    ensures { λ r. ⌜ Halted (statusOf status) (run .steps + steps) run r ⌝ }
+    ensures { λ r. ⌜ Halted (meantStatus status) (run .steps + steps) run r ⌝ }
 {
     let from = run.from;
     Ran {

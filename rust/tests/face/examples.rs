@@ -22,7 +22,7 @@ fn expect(table: &[u8], input: &str, text: &str, ending: Ending, place: usize, s
     let mut output = vec![0; MOST_OUTPUTS * input.len()];
     let direct = convert(table, &input, &mut output).expect("accepted");
     assert_eq!((direct.ending, direct.place), (ending, place));
-    assert_eq!(output[..direct.count], text);
+    assert_eq!(output[..direct.written], text);
 
     let machine = Machine::compile(table).expect("compiles");
     for pieces in splits(&input) {
@@ -30,12 +30,12 @@ fn expect(table: &[u8], input: &str, text: &str, ending: Ending, place: usize, s
         assert_eq!(joined, text, "{pieces:?}");
         let status = if ending == Ending::Closed { 1 } else { 2 };
         assert_eq!(
-            (session.status, session.steps),
+            (session.status, session.tally.steps),
             (status, steps),
             "{pieces:?}"
         );
         assert_eq!(session.consumed(), place as u64);
-        assert_eq!(session.produced, text.len() as u64);
+        assert_eq!(session.tally.produced, text.len() as u64);
         assert!(steps <= machine.most_steps(input.len() as u64));
     }
 }
@@ -90,10 +90,10 @@ fn an_open_session_holds_what_may_still_fit() {
     let mut session = Session::fresh();
     let mut output = [7; 20];
     let fed = session.feed(&machine, &units("A&#3"), &mut output).unwrap();
-    assert_eq!((fed.count, fed.status), (1, Status::Open));
+    assert_eq!((fed.written, fed.status), (1, Status::Open));
     assert_eq!(output[..2], [65, 7]);
     assert_eq!(
-        (session.count, session.received, session.consumed()),
+        (session.held_count, session.received, session.consumed()),
         (3, 4, 1)
     );
     assert_eq!(session.held, [38, 35, 51, 0, 0, 0, 0, 0]);

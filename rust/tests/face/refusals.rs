@@ -85,7 +85,7 @@ fn sessions_by_12_to_15() {
         session
     };
     refused(
-        with(|session| session.produced = 1),
+        with(|session| session.tally.produced = 1),
         &[],
         9,
         Refusal::UnsoundSession,
@@ -120,7 +120,7 @@ fn a_stopped_session_takes_nothing_more() {
     let fed = session
         .feed(&machine, &[97, 98, 97], &mut [0; 3])
         .expect("accepted");
-    assert_eq!((fed.count, fed.status), (1, Status::Stopped));
+    assert_eq!((fed.written, fed.status), (1, Status::Stopped));
     assert_eq!((session.received, session.consumed()), (1, 1));
     assert_eq!(
         session.feed(&machine, &[97], &mut [0; 3]),
@@ -130,34 +130,34 @@ fn a_stopped_session_takes_nothing_more() {
 }
 
 #[test]
-fn raw_calls_leave_the_count_as_found_when_refused() {
+fn raw_calls_leave_written_as_found_when_refused() {
     let machine = Machine::compile(&t1()).expect("compiles");
-    let (mut session, mut count) = (Session::fresh(), 19);
+    let (mut session, mut written) = (Session::fresh(), 19);
     assert_eq!(
-        raw::feed(&[], &mut session, &[97], &mut [0; 9], &mut count),
+        raw::feed(&[], &mut session, &[97], &mut [0; 9], &mut written),
         11
     );
     assert_eq!(
-        raw::feed(machine.words(), &mut session, &[97], &mut [], &mut count),
+        raw::feed(machine.words(), &mut session, &[97], &mut [], &mut written),
         15
     );
-    assert_eq!((session, count), (Session::fresh(), 19));
+    assert_eq!((session, written), (Session::fresh(), 19));
     assert_eq!(
         raw::feed(
             machine.words(),
             &mut session,
             &[97],
             &mut [0; 9],
-            &mut count
+            &mut written
         ),
         raw::OPEN
     );
-    assert_eq!(count, 1);
+    assert_eq!(written, 1);
     assert_eq!(
-        raw::finish(machine.words(), &mut session, &mut [], &mut count),
+        raw::finish(machine.words(), &mut session, &mut [], &mut written),
         raw::OK
     );
-    assert_eq!(count, 0);
+    assert_eq!(written, 0);
 }
 
 #[test]
@@ -168,14 +168,12 @@ fn numbers_and_words() {
     }
     assert_eq!(Refusal::from_number(0), None);
     assert_eq!(Refusal::from_number(64), None);
-    assert_eq!(Refusal::Classes.to_string(), "refused 8: a 65th class");
 }
 
+/// `tests/c` holds the header to the same texts.
 #[test]
-fn a_session_has_the_headers_layout() {
-    assert_eq!(size_of::<Session>(), 48);
-    assert_eq!(std::mem::offset_of!(Session, steps), 16);
-    assert_eq!(std::mem::offset_of!(Session, status), 24);
-    assert_eq!(std::mem::offset_of!(Session, count), 28);
-    assert_eq!(std::mem::offset_of!(Session, held), 30);
+fn texts_are_those_of_the_header() {
+    let texts = include_str!("../../../tests/c/texts.txt");
+    let words: Vec<String> = Refusal::ALL.iter().map(Refusal::to_string).collect();
+    assert_eq!(words, texts.lines().collect::<Vec<_>>());
 }

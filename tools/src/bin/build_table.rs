@@ -1,15 +1,24 @@
 //! `build_table SOURCE TABLE` writes the table of a source, if it compiles.
 
-use std::error::Error;
+use std::ffi::OsString;
+use std::path::Path;
 use std::process::ExitCode;
-use std::{env, fs};
+use std::{env, fmt, fs};
 
-use cobbletwill::Machine;
-use tools::{listing, source};
+use tools::build::build;
+use tools::listing::verdict;
 
 fn main() -> ExitCode {
-    match build() {
-        Ok(()) => ExitCode::SUCCESS,
+    let paths: Vec<OsString> = env::args_os().skip(1).collect();
+    let [from, to] = &paths[..] else {
+        eprintln!("usage: build_table SOURCE TABLE");
+        return ExitCode::from(2);
+    };
+    match build_table(from.as_ref(), to.as_ref()) {
+        Ok(measures) => {
+            print!("{measures}");
+            ExitCode::SUCCESS
+        }
         Err(fault) => {
             eprintln!("build_table: {fault}");
             ExitCode::FAILURE
@@ -17,17 +26,15 @@ fn main() -> ExitCode {
     }
 }
 
-/// Reads the source, compiles its table and writes it.
-fn build() -> Result<(), Box<dyn Error>> {
-    let paths: Vec<_> = env::args_os().skip(1).collect();
-    let [from, to] = &paths[..] else {
-        return Err("usage: build_table SOURCE TABLE".into());
-    };
-    let table = source::table(&fs::read_to_string(from)?)?;
-    if Machine::compile(&table).is_err() {
-        return Err(listing::verdict(&table).into());
-    }
-    fs::write(to, &table)?;
-    print!("{}", listing::verdict(&table));
-    Ok(())
+/// Reads the source and writes its table; the table's measures.
+fn build_table(from: &Path, to: &Path) -> Result<String, String> {
+    let source = fs::read(from).map_err(|fault| named(from, fault))?;
+    let table = build(&source).map_err(|fault| named(from, fault))?;
+    fs::write(to, &table).map_err(|fault| named(to, fault))?;
+    Ok(verdict(&table))
+}
+
+/// A fault with the file that it is about.
+fn named(path: &Path, fault: impl fmt::Display) -> String {
+    format!("{}: {fault}", path.display())
 }

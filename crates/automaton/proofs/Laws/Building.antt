@@ -52,9 +52,9 @@ module _ (t : Table) (n : ℕ) (w sets : List ℕ) (x : ℕ) where
             targets = record { within = omega arith; done = λ i h. absurd (omega arith); blank = λ i h k. z (targetsFrom + i) (omega arith) (omega arith) };
           }
 
-pub rules-counted : (slots ranges blocks : List ℕ) (n : ℕ) (d : Bool) → length (tableAt slots ranges blocks n d .rules) ≡ n
+pub rules-counted : (loaded : List ℕ) (n : ℕ) (d : Bool) → length (tableAt loaded n d .rules) ≡ n
 unfolding tableAt
-rules-counted slots ranges blocks n d = length-tab (groupAt slots ranges blocks) 0 n
+rules-counted loaded n d = length-tab (groupAt loaded) 0 n
 
 pub noted-below : (t : Table) (n a s k : ℕ) (w sets : List ℕ) (count : ℕ) → s ≤ length (states t) → NotedAt t n a s k w sets count → count ≤ length (states t)
 noted-below t n a s k w sets count h N = subst (λ c. c ≤ length (states t)) (N .counted) (reached-length t s h k)

@@ -1,18 +1,16 @@
 -- The test of sound words, taken one clause after another, by the answers of the clauses before.
 -- By one step of the definitions for each answer.
 use mathlib.Core.Bool.{Bool, true, false, not}
-use mathlib.Core.List.{List, [], _∷_}
-use mathlib.Core.Path.{_≡_, refl, sym, ap, _∙_}
-use Prim.Native.Nat.{ℕ, suc, pred, _+_, _*_, _-_, _≤_, _<_}
+use mathlib.Core.List.{List}
+use mathlib.Core.Path.{_≡_, refl, ap, _∙_}
+use Prim.Native.Nat.{ℕ, suc, pred, _-_, _≤_, _<_}
 use native.Mathlib.Omega.{arith}
 use borrow.Author.Tests.{le-leb, lt-leb, eq-eqb, ne-eqb}
-use lib.Dec.{eqb, leb, leb→le}
-use lib.Seq.{getD-drop}
-use Rattle.lists.specs.Decide.{allOf, implies}
+use lib.Dec.{eqb, leb→le}
+use Rattle.lists.specs.Decide.{implies}
 use Rattle.lists.proofs.Laws.Tests.{to-T, all-stops, all-next, all-last, of-between, holds}
-use Rattle.meaning.specs.Block.{at, blockSize}
-use Rattle.automaton.specs.Sound.{stateCount, classCount, ruleCount, blockAt, between, used, soundHeader, soundBlock, namesRule}
-use Rattle.automaton.specs.Layout.{blocksFrom}
+use Rattle.meaning.specs.Block.{at}
+use Rattle.automaton.specs.Sound.{stateCount, classCount, ruleCount, blockAt, used, soundHeader, namesRule}
 
 -- a test that counts where another passes, and where a word is not 0
 pub counts : {a : Bool} (b : Bool) → a ≡ true → implies a b ≡ b
@@ -37,26 +35,14 @@ module _ (w : List ℕ) where
       let h = holds _ (to-T (soundHeader w) e) in
       (of-between 1 256 (stateCount w) (h .0) .1, of-between 1 64 (classCount w) (h .1 .0) .1, of-between 1 32 (ruleCount w) (h .1 .1 .1 .1 .0) .1)
 
-  -- word j of block g is word i
-  pub word-of-block : (g j i : ℕ) → i ≡ blocksFrom + blockSize * g + j → at (blockAt w g) j ≡ at w i
-  word-of-block g j i e = getD-drop (blocksFrom + blockSize * g) w j 0 ∙ ap (at w) (sym e)
-
-  pub block-words : (g most anchored : ℕ) →
-      soundBlock w g most anchored
-      ≡ allOf (between 1 most (at w (blocksFrom + blockSize * g)) ∷ leb (at w (blocksFrom + 1 + blockSize * g)) anchored ∷ leb (at w (blocksFrom + 2 + blockSize * g)) (at w 3) ∷ [])
-  unfolding soundBlock
-  block-words g most anchored =
-      rw (word-of-block g 0 (blocksFrom + blockSize * g) (omega arith), word-of-block g 1 (blocksFrom + 1 + blockSize * g) (omega arith), word-of-block g 2 (blocksFrom + 2 + blockSize * g) (omega arith)) refl
-
   module _ (depth r : ℕ) where
     pub names-none : ruleCount w ≤ r → namesRule w depth (suc r) ≡ false
     unfolding namesRule
     names-none h = all-stops _ (lt-leb (suc r) (ruleCount w) (omega arith))
 
-    pub names-one : r < ruleCount w → namesRule w depth (suc r) ≡ eqb (at w (blocksFrom + blockSize * r)) depth
+    pub names-one : r < ruleCount w → namesRule w depth (suc r) ≡ eqb (at (blockAt w r) 0) depth
     unfolding namesRule
-    names-one h =
-        all-next _ (le-leb (suc r) (ruleCount w) (omega arith)) ∙ all-last _ ∙ ap (λ x. eqb x depth) (word-of-block r 0 (blocksFrom + blockSize * r) (omega arith))
+    names-one h = all-next _ (le-leb (suc r) (ruleCount w) (omega arith)) ∙ all-last _
 
   pub names-small : (depth n : ℕ) → namesRule w depth n ≡ true → n ≤ ruleCount w
   unfolding namesRule
@@ -66,5 +52,6 @@ module _ (w : List ℕ) where
   pub names-word : {d depth n m : ℕ} → d ≡ depth → n ≡ m → (n ≡ 0 → ⊥) → namesRule w d (suc (n - 1)) ≡ namesRule w depth m
   names-word {d} {depth} {n} {m} e f u = let g : suc (n - 1) ≡ m = omega arith in rw (e, g) refl
 
-  pub named-word : {n m : ℕ} → n ≡ m → (n ≡ 0 → ⊥) → at (blockAt w (pred m)) 1 ≡ at w (blocksFrom + 1 + blockSize * (n - 1))
-  named-word {n} {m} e u = word-of-block (pred m) 1 (blocksFrom + 1 + blockSize * (n - 1)) (omega arith)
+  -- word i of the block of the rule so named
+  pub named-word : {n m : ℕ} (i : ℕ) → n ≡ m → (n ≡ 0 → ⊥) → at (blockAt w (pred m)) i ≡ at (blockAt w (n - 1)) i
+  named-word {n} {m} i e u = let g : pred m ≡ n - 1 = omega arith in rw g refl

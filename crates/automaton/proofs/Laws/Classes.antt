@@ -48,7 +48,7 @@ insert-old x (y ∷ l) {z} m =
     (λ _. of-cond (λ k. List·Memᴰ z k) (eqb x y) (y ∷ l) (y ∷ insert x l) (λ _. m)
     (λ _. ⊎-elim (λ e. List·Memᴰ·head e) (λ r. List·Memᴰ·tail (insert-old x l r)) (List·Memᴰ·cases-cons m)))
 
-each-insert : (P : ℕ → Type 0) (x : ℕ) (l : List ℕ) → P x → Each P l → Each P (insert x l)
+pub each-insert : (P : ℕ → Type 0) (x : ℕ) (l : List ℕ) → P x → Each P l → Each P (insert x l)
 each-insert P x [] h a = (h, tt)
 each-insert P x (y ∷ l) h a =
     of-cond (Each P) (ltb x y) (x ∷ y ∷ l) (cond (eqb x y) (y ∷ l) (y ∷ insert x l)) (λ _. (h, a))

@@ -2,25 +2,26 @@
 -- What it answers and leaves follows from what it read, by cases on the table check and on the counts of classes and states.
 use mathlib.Core.List.{List, [], _∷_, _++_}
 use mathlib.Core.Logic.{_≢_}
-use mathlib.Core.Path.{_≡_, refl, sym, _∙_}
-use Prim.Native.Nat.{ℕ, _≤_}
+use mathlib.Core.Path.{_≡_, refl, sym, subst, _∙_}
+use Prim.Native.Nat.{ℕ, _≤_, _<_}
 use native.Mathlib.Omega.{arith}
-use lib.Dec.{eqb, ltb→lt, nltb→le, eqb→eq}
+use lib.Dec.{T, eqb, ltb→lt, nltb→le, eqb→eq}
 use lib.ListN.{length, drop}
 use lib.Seq.{drop-at}
-use Rattle.lists.specs.Lists.{pad}
+use Rattle.lists.specs.Lists.{any, pad}
 use Rattle.lists.proofs.Laws.Tests.{or-right, any-more, of-cond, by-cases, neqb→ne}
 use Rattle.lists.proofs.Laws.Parts.{length-pad}
 use Rattle.meaning.specs.Refusal.{Outcome, refused, accepted, andThen, RefusedBy}
 use Rattle.meaning.specs.Table.{Table}
 use Rattle.meaning.specs.Reader.{readTable}
-use Rattle.meaning.proofs.Laws.Refusal.{by-then, accepted-not, refused-same, Says}
-use Rattle.meaning.proofs.Laws.Direct.{table-refused, keeps-read, read-keeps}
+use Rattle.meaning.specs.Records.{Bytes}
+use Rattle.meaning.proofs.Laws.Refusal.{by-then, accepted-not, refused-same}
+use Rattle.meaning.proofs.Laws.Direct.{tableRefusals, table-refused, keeps-read, read-keeps}
 use Rattle.automaton.specs.Classes.{starts}
 use Rattle.automaton.specs.States.{states}
 use Rattle.automaton.specs.Layout.{wordCount, words}
 use Rattle.automaton.specs.Compile.{small, compilable, compileBy, compile}
-use Rattle.automaton.specs.Claims.{KeepsCompiling, CompileAnswers, CompileAccepts}
+use Rattle.automaton.specs.Claims.{KeepsCompiling, CompileAnswers, CompileAccepts, CompileRefuses}
 use Rattle.automaton.proofs.Laws.Places.{length-words}
 
 abbrev refusals : List ℕ
@@ -47,22 +48,64 @@ module _ (buffer : List ℕ) where
       (λ _. drop-at (pad wordCount []) (drop wordCount buffer) wordCount (length-pad wordCount []))
   beyond-by (accepted t) = drop-at (words t) (drop wordCount buffer) wordCount (length-words t)
 
--- what the answer says
-abbrev Compilable : List ℕ → Outcome Table → Type 0
-Compilable b o = Says refusals (KeepsCompiling b) o
+-- why the number k was answered
+record Why (b : List ℕ) (room k : ℕ) : Type 0 where
+  numbered : T (any (eqb k) refusals)
+  table : k ≤ 7 → readTable b ≡ refused k
+  classes : k ≡ 8 → (t : Table) × (readTable b ≡ accepted t) × (64 < length (starts t))
+  states : k ≡ 9 → (t : Table) × (readTable b ≡ accepted t) × (length (starts t) ≤ 64) × (256 < length (states t))
+  no-room : k ≡ 10 → room < wordCount
 
-compilable-says : (b : List ℕ) (room : ℕ) → Compilable b (compilable b room)
+-- what an accepted table passed
+record Passed (b : List ℕ) (room : ℕ) (t : Table) : Type 0 where
+  read : readTable b ≡ accepted t
+  classes : length (starts t) ≤ 64
+  states : length (states t) ≤ 256
+  enough : wordCount ≤ room
+
+abbrev Compilable : List ℕ → ℕ → Outcome Table → Type 0
+Compilable b room (refused k) = Why b room k
+Compilable b room (accepted t) = Passed b room t
+
+compilable-says : (b : List ℕ) (room : ℕ) → Compilable b room (compilable b room)
 unfolding compilable small
 compilable-says b room =
-    by-cases (Compilable b) _ (andThen (readTable b) small) (
-      λ _. tt,
-      λ _. by-then (Compilable b) (readTable b) small
-          (λ n e. or-right (eqb n 10) _ (any-more (eqb n) (1 ∷ 2 ∷ 3 ∷ 4 ∷ 5 ∷ 6 ∷ 7 ∷ []) (8 ∷ 9 ∷ []) (table-refused b n e)))
-          (λ t e. by-cases (Compilable b) _ (accepted t) (
-            λ _. tt,
+    by-cases (Compilable b room) _ (andThen (readTable b) small) (
+      λ u. record {
+        numbered = tt;
+        table = λ q. absurd (omega arith);
+        classes = λ q. absurd (omega arith);
+        states = λ q. absurd (omega arith);
+        no-room = λ _. ltb→lt room wordCount u;
+      },
+      λ enough. by-then (Compilable b room) (readTable b) small
+          (λ n e.
+          let few = table-refused b n e in
+          let other : (m : ℕ) → (T (any (eqb m) tableRefusals) → ⊥) → n ≡ m → ⊥ = λ m f q. f (subst (λ k. T (any (eqb k) tableRefusals)) q few) in
+          record {
+            numbered = or-right (eqb n 10) _ (any-more (eqb n) tableRefusals (8 ∷ 9 ∷ []) few);
+            table = λ _. e;
+            classes = λ q. absurd (other 8 (λ t. t) q);
+            states = λ q. absurd (other 9 (λ t. t) q);
+            no-room = λ q. absurd (other 10 (λ t. t) q);
+          })
+          (λ t e. by-cases (Compilable b room) _ (accepted t) (
+            λ wide. record {
+              numbered = tt;
+              table = λ q. absurd (omega arith);
+              classes = λ _. (t, e, ltb→lt 64 (length (starts t)) wide);
+              states = λ q. absurd (omega arith);
+              no-room = λ q. absurd (omega arith);
+            },
             λ narrow. (
-              λ _. tt,
-              λ few. record { keeps = read-keeps b t e; classes = nltb→le 64 (length (starts t)) narrow; states = nltb→le 256 (length (states t)) few },
+              λ many. record {
+                numbered = tt;
+                table = λ q. absurd (omega arith);
+                classes = λ q. absurd (omega arith);
+                states = λ _. (t, e, nltb→le 64 (length (starts t)) narrow, ltb→lt 256 (length (states t)) many);
+                no-room = λ q. absurd (omega arith);
+              },
+              λ few. record { read = e; classes = nltb→le 64 (length (starts t)) narrow; states = nltb→le 256 (length (states t)) few; enough = nltb→le room wordCount enough },
             ),
           )),
     )
@@ -80,13 +123,18 @@ keeping-compilable b room t k h =
     ))
 
 module _ (b buffer : List ℕ) where
-  numbered-by : (o : Outcome Table) → Compilable b o → RefusedBy refusals (compileBy o buffer .answer)
-  numbered-by (refused n) h = h
+  numbered-by : (o : Outcome Table) → Compilable b (length buffer) o → RefusedBy refusals (compileBy o buffer .answer)
+  numbered-by (refused n) h = h .numbered
   numbered-by (accepted t) h = tt
 
-  accepting-by : (o : Outcome Table) → Compilable b o → compileBy o buffer .answer ≡ accepted tt → (t : Table) × KeepsCompiling b t
-  accepting-by (refused n) h e = absurd (accepted-not tt n (sym e))
-  accepting-by (accepted t) h e = (t, h)
+  accepting-by : (o : Outcome Table) → Compilable b (length buffer) o → Bytes b → compileBy o buffer .answer ≡ accepted tt →
+      (t : Table) × KeepsCompiling b t × (wordCount ≤ length buffer)
+  accepting-by (refused n) h y e = absurd (accepted-not tt n (sym e))
+  accepting-by (accepted t) h y e = (t, record { keeps = read-keeps b t y (h .read); classes = h .classes; states = h .states }, h .enough)
+
+  why : (o : Outcome Table) (k : ℕ) → Compilable b (length buffer) o → compileBy o buffer .answer ≡ refused k → Why b (length buffer) k
+  why (refused m) k h e = subst (Why b (length buffer)) (refused-same m k e) h
+  why (accepted t) k h e = absurd (accepted-not tt k e)
 
   pub compile-answers : CompileAnswers b buffer
   unfolding compile
@@ -105,4 +153,16 @@ module _ (b buffer : List ℕ) where
       record {
         keeping = λ t k h. let e = keeping-compilable b (length buffer) t k h in (rw e refl, rw e refl);
         accepting = accepting-by (compilable b (length buffer)) (compilable-says b (length buffer));
+      }
+
+  pub compile-refuses : CompileRefuses b buffer
+  unfolding compile
+  compile-refuses =
+      let reason : (k : ℕ) → compile b buffer .answer ≡ refused k → Why b (length buffer) k =
+      λ k. why (compilable b (length buffer)) k (compilable-says b (length buffer)) in
+      record {
+        table = λ n e. reason n e .table;
+        classes = λ y e. let u = reason 8 e .classes refl in (u .0, read-keeps b (u .0) y (u .1), u .2);
+        states = λ y e. let u = reason 9 e .states refl in (u .0, read-keeps b (u .0) y (u .1), u .2, u .3);
+        room = λ e. reason 10 e .no-room refl;
       }

@@ -7,7 +7,7 @@ use mathlib.Core.Path.{_≡_, refl, sym, ap, subst, _∙_}
 use Prim.Native.Nat.{ℕ, zero, suc, _+_, _-_, _≤_, _<_}
 use native.Mathlib.Decide.{decLt}
 use native.Mathlib.Omega.{arith}
-use lib.Dec.{T, ltb, ltb→lt, nltb→le}
+use lib.Dec.{T}
 use lib.ListN.{length, getD, take, drop, length-append, take-append-drop, List·getD-append}
 use lib.Seq.{take-suc, take-length, drop-cons, drop-length, getD-append-add}
 use Rattle.lists.specs.Lists.{Each, findFrom, isSome, orElse}
@@ -17,7 +17,7 @@ use Rattle.lists.proofs.Laws.Members.{mem-getD}
 use Rattle.meaning.specs.Table.{Table, longest}
 use Rattle.automaton.specs.Classes.{starts}
 use Rattle.automaton.specs.States.{State, initial, successor, sameState, inhabited, states, targetOf}
-use Rattle.automaton.specs.bridge.Build.{numberIn, added, addedFrom, explored}
+use Rattle.automaton.specs.bridge.Build.{numberIn, added, addedFrom}
 use Rattle.automaton.specs.bridge.Noted.{doneAt, reachedAt}
 use Rattle.automaton.proofs.Laws.Good.{stateAt}
 use Rattle.automaton.proofs.Laws.Levels.{level-initial, onward, states-closed, states-deepen, successor-depth, numbered}
@@ -174,11 +174,6 @@ module _ (t : Table) where
     pub reached-state : (k : ℕ) → getD (reachedAt t s k) s (initial t) ≡ getD (states t) s (initial t)
     reached-state k = reached-same k s (initial t) (reached-long k)
 
-    -- all class starts of state s done
-    pub reached-next : addedFrom t (getD (reachedAt t s 0) s (initial t)) (starts t) (reachedAt t s 0) ≡ reachedAt t (suc s) 0
-    unfolding reachedAt doneAt addedFrom
-    reached-next = ap (λ q. addedFrom t q (starts t) (doneAt t s)) (reached-state 0)
-
     module _ (k : ℕ) (j : k < length (starts t)) where
       pub met-final : metAt t s k ≡ successor t (getD (states t) s (initial t)) (getD (starts t) k 0)
       met-final = ap (λ q. successor t q (getD (starts t) k 0)) (reached-state k)
@@ -260,17 +255,3 @@ module _ (t : Table) where
         | yes p ↦ let z : s < length (reachedAt t s 0) = reached-long s p 0 in absurd (omega arith)
         | no p ↦ let e : s ≡ length (states t) = omega arith in rw e reached-end
       ]
-
-  explored-from : (n s : ℕ) → s ≤ length (states t) → length (states t) ≤ s + n → explored t (starts t) n s (reachedAt t s 0) ≡ states t
-  unfolding explored
-  explored-from zero s h l = let e : s ≡ length (states t) = omega arith in rw e reached-end
-  explored-from (suc n) s h l =
-      of-cond (λ qs. qs ≡ states t) (ltb s (length (reachedAt t s 0)))
-      (explored t (starts t) n (suc s) (addedFrom t (getD (reachedAt t s 0) s (initial t)) (starts t) (reachedAt t s 0))) (reachedAt t s 0)
-      (λ p. let f : length (reachedAt t s 0) ≤ length (states t) = reached-length s h 0 in
-      let m : s < length (reachedAt t s 0) = ltb→lt s (length (reachedAt t s 0)) p in
-      ap (explored t (starts t) n (suc s)) (reached-next s (omega arith)) ∙ explored-from n (suc s) (omega arith) (omega arith))
-      (λ p. reached-stop s h (nltb→le s (length (reachedAt t s 0)) p))
-
-  pub explored-states : (n : ℕ) → length (states t) ≤ n → explored t (starts t) n 0 (initial t ∷ []) ≡ states t
-  explored-states n h = ap (explored t (starts t) n 0) (sym reached-start) ∙ explored-from n 0 (omega arith) (omega arith)

@@ -11,16 +11,8 @@ use Rattle.meaning.specs.Table.{Characters, Table, ruleAt, defaultNumber}
 use Rattle.meaning.proofs.Laws.Prefix.{fitsPrefix}
 use Rattle.automaton.specs.States.{State, initial, states}
 use Rattle.automaton.specs.Automaton.{Automaton}
-
--- the state after a word
-unfoldable pub after : Automaton → ℕ → List ℕ → ℕ
-after A q [] = q
-after A q (x ∷ w) = after A (A .target q x) w
-
--- each character of w has a target, from state q on
-abbrev pub Leads : Automaton → ℕ → List ℕ → Type 0
-Leads A q [] = Unit {0}
-Leads A q (x ∷ w) = (A .target q x ≢ 0) × Leads A (A .target q x) w
+unfoldable pub use Rattle.automaton.specs.Automaton.{after}
+pub use Rattle.automaton.specs.Automaton.{Leads}
 
 -- n counts the states, of which only those below n are looked at; L bounds their depths
 pub record Good (A : Automaton) (L n : ℕ) : Type 0 where

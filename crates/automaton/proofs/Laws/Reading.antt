@@ -1,17 +1,17 @@
 -- The class of a character found by halving, and a group's output read from the words' blocks.
--- The starts rise, so those not above a character are the first ones; a block's output depends on its 75 words alone.
+-- The starts rise, so those not above a character are the first ones; a block among the blocks is the words from its place on.
 use mathlib.Core.List.{List, [], _∷_, _++_}
-use mathlib.Core.Path.{_≡_, refl, sym, ap, ap₂, _∙_}
+use mathlib.Core.Path.{_≡_, refl, sym, ap, _∙_}
 use Prim.Native.Nat.{ℕ, zero, suc, pred, _+_, _-_, _*_, _≤_, _<_}
 use native.Mathlib.Nat.{add-zero}
 use native.Mathlib.Omega.{arith}
 use borrow.Author.Tests.{le-leb, lt-leb}
 use lib.Dec.{T, leb, ltb→lt, eqb→eq}
 use lib.ListN.{length, take, drop, length-drop}
-use lib.Seq.{length-take-le, getD-take, getD-drop, take-nil, take-take, drop-drop}
-use Rattle.lists.specs.Lists.{count, tabFrom}
+use lib.Seq.{length-take-le, take-all, getD-take, getD-drop, drop-drop}
+use Rattle.lists.specs.Lists.{count}
 use Rattle.lists.proofs.Laws.Tests.{holds, below}
-use Rattle.meaning.specs.Block.{at, wordSum, blockOutput, blockSize, blocksSize, entrySize}
+use Rattle.meaning.specs.Block.{at, blockOutput, blockSize, blocksSize}
 use Rattle.automaton.specs.Classes.{classOf}
 use Rattle.automaton.specs.Layout.{wordCount, blocksFrom, classesFrom}
 use Rattle.automaton.specs.Sound.{classCount, blockAt, soundStarts, sound}
@@ -62,62 +62,32 @@ module _ (w : List ℕ) (sure : T (sound w)) where
       (λ k l b. omega (arith, is k (omega arith), starts-ordered (n + 1) k (omega arith) (omega arith), high (omega arith))) in
       ap pred all
 
--- the first n of a list without the first m: the next k
-drop-take : {A : Type 0} (m k n : ℕ) (l : List A) → n ≡ m + k → drop m (take n l) ≡ take k (drop m l)
-drop-take zero k n l e = let d : n ≡ k = omega arith in rw d refl
-drop-take (suc m) k zero l e = absurd (omega arith)
-drop-take (suc m) k (suc n) [] e = sym (take-nil k)
-drop-take (suc m) k (suc n) (x ∷ l) e = drop-take m k n l (omega arith)
-
--- tables of functions that agree
-tab-same : {A : Type 0} (f g : ℕ → A) (i n : ℕ) → ((j : ℕ) → j < i + n → f j ≡ g j) → tabFrom i n f ≡ tabFrom i n g
-tab-same f g i zero e = refl
-tab-same f g i (suc n) e = ap₂ _∷_ (e i (omega arith)) (tab-same f g (suc i) n (λ j h. e j (omega arith)))
-
--- a block's output from its 75 words
-output-front : (b u : List ℕ) (n : ℕ) → blockSize ≤ n → at b 0 ≤ 8 → at b 2 ≤ 8 → blockOutput (take n b) u ≡ blockOutput b u
-unfolding blockOutput
-output-front b u n h size few =
-    rw (getD-take n b 0 0 (omega arith), getD-take n b 2 0 (omega arith))
-    (tab-same _ _ 0 (at b 2)
-    (λ j l.
-    let m = 4 + entrySize * j in
-    let k = at b 0 in
-    ap₂ (λ v ks. wordSum v ks u) (getD-take n b (3 + entrySize * j) 0 (omega arith))
-    (ap (take k) (drop-take m (n - m) n b (omega arith)) ∙ take-take k (n - m) (drop m b) (omega arith))))
-
--- the words of all blocks
+-- the words from the first block on
 abbrev pub blocksOf : List ℕ → List ℕ
-blocksOf w = take blocksSize (drop blocksFrom w)
+blocksOf w = take (length w - blocksFrom) (drop blocksFrom w)
 
-pub blocks-long : (w : List ℕ) → wordCount ≤ length w → length (blocksOf w) ≡ blocksSize
-blocks-long w h = length-take-le blocksSize (drop blocksFrom w) (omega (arith, length-drop blocksFrom w))
+pub blocks-long : (w : List ℕ) → wordCount ≤ length w → blocksSize ≤ length (blocksOf w)
+blocks-long w h = omega (arith, length-drop blocksFrom w, length-take-le (length w - blocksFrom) (drop blocksFrom w) (omega (arith, length-drop blocksFrom w)))
 
 -- a block among them
-module _ (w : List ℕ) (g : ℕ) (h : g < 33) where
-  blocks-block : drop (blockSize * g) (blocksOf w) ≡ take (blocksSize - blockSize * g) (blockAt w g)
-  blocks-block = drop-take (blockSize * g) (blocksSize - blockSize * g) blocksSize (drop blocksFrom w) (omega arith) ∙ ap (take (blocksSize - blockSize * g)) (drop-drop (blockSize * g) blocksFrom w)
+module _ (w : List ℕ) (g : ℕ) where
+  pub blocks-block : drop (blockSize * g) (blocksOf w) ≡ blockAt w g
+  blocks-block =
+      ap (drop (blockSize * g)) (take-all (length w - blocksFrom) (drop blocksFrom w) (omega (arith, length-drop blocksFrom w))) ∙ drop-drop (blockSize * g) blocksFrom w
 
   -- a word of the block, by its place p among the blocks' words
-  blocks-at : (i p : ℕ) → p ≡ blockSize * g + i → i < blockSize → at (blocksOf w) p ≡ at (blockAt w g) i
-  blocks-at i p e l =
-      ap (at (blocksOf w)) e
-      ∙ sym (getD-drop (blockSize * g) (blocksOf w) i 0)
-      ∙ ap (λ b. at b i) blocks-block
-      ∙ getD-take (blocksSize - blockSize * g) (blockAt w g) i 0 (omega arith)
+  blocks-at : (i p : ℕ) → p ≡ blockSize * g + i → at (blocksOf w) p ≡ at (blockAt w g) i
+  blocks-at i p e = ap (at (blocksOf w)) e ∙ sym (getD-drop (blockSize * g) (blocksOf w) i 0) ∙ ap (λ b. at b i) blocks-block
 
   pub blocks-size : at (blocksOf w) (blockSize * g) ≡ at (blockAt w g) 0
-  blocks-size = blocks-at 0 (blockSize * g) (omega arith) (omega arith)
+  blocks-size = blocks-at 0 (blockSize * g) (omega arith)
 
   pub blocks-count : at (blocksOf w) (blockSize * g + 2) ≡ at (blockAt w g) 2
-  blocks-count = blocks-at 2 (blockSize * g + 2) refl (omega arith)
+  blocks-count = blocks-at 2 (blockSize * g + 2) refl
 
   -- what the block writes, in the place of other words
-  pub blocks-written : (store out : List ℕ) (n : ℕ) → at (blockAt w g) 0 ≤ 8 → at (blockAt w g) 2 ≤ 8 →
-      take n out ++ blockOutput (drop (blockSize * g) (blocksOf w)) (take (at (blocksOf w) (blockSize * g)) store) ++ drop (n + at (blocksOf w) (blockSize * g + 2)) out
-      ≡ take n out ++ blockOutput (blockAt w g) (take (at (blockAt w g) 0) store) ++ drop (n + at (blockAt w g) 2) out
-  blocks-written store out n size few =
-      let u = take (at (blockAt w g) 0) store in
-      let same : blockOutput (drop (blockSize * g) (blocksOf w)) u ≡ blockOutput (blockAt w g) u =
-      ap (λ b. blockOutput b u) blocks-block ∙ output-front (blockAt w g) u (blocksSize - blockSize * g) (omega arith) size few in
-      rw (blocks-size, blocks-count, same) refl
+  pub blocks-written : (store out after : List ℕ) (n : ℕ) →
+      after
+      ≡ take n out ++ blockOutput (drop (blockSize * g) (blocksOf w)) (take (at (blocksOf w) (blockSize * g)) store) ++ drop (n + at (blocksOf w) (blockSize * g + 2)) out →
+      after ≡ take n out ++ blockOutput (blockAt w g) (take (at (blockAt w g) 0) store) ++ drop (n + at (blockAt w g) 2) out
+  blocks-written store out after n e = e ∙ rw (blocks-size, blocks-count, blocks-block) refl

@@ -268,52 +268,52 @@ module _ (p : ℕ → Bool) (n set : ℕ) where
 
 -- rules of a flat table: their tests by its arrays
 
-abbrev pub goesOn : List ℕ → List ℕ → List ℕ → ℕ → ℕ → ℕ → Bool
-goesOn slots ranges blocks depth c r = ltb depth (at blocks (blockSize * r)) && inRanges (rangesAt slots ranges (8 * r + depth)) c
+abbrev pub goesOn : List ℕ → ℕ → ℕ → ℕ → Bool
+goesOn loaded depth c r = ltb depth (at loaded (blockSize * r)) && inRanges (rangesAt loaded (8 * r + depth)) c
 
 abbrev pub endsAt : List ℕ → ℕ → Bool → ℕ → Bool
-endsAt blocks depth free r = eqb (at blocks (blockSize * r)) depth && not (free && eqb (at blocks (blockSize * r + 1)) 1)
+endsAt loaded depth free r = eqb (at loaded (blockSize * r)) depth && not (free && eqb (at loaded (blockSize * r + 1)) 1)
 
-module _ (slots ranges blocks : List ℕ) (n : ℕ) (d : Bool) (set depth : ℕ) where
+module _ (loaded : List ℕ) (n : ℕ) (d : Bool) (set depth : ℕ) where
   -- two tests that agree below n keep the same members
   by-rules : (f g : ℕ → Bool) → ((r : ℕ) → r < n → f r ≡ g r) → filter f (membersFrom 0 n set) ≡ filter g (membersFrom 0 n set)
   by-rules f g h = filter-same f g (membersFrom 0 n set) (each-weaken (λ r. r < n) (λ r. f r ≡ g r) (membersFrom 0 n set) h (members-below n set))
 
   pub longer-flat : (c : ℕ) →
-      longerRules (tableAt slots ranges blocks n d) (stateOf n depth set) c
-      ≡ filter (goesOn slots ranges blocks depth c) (membersFrom 0 n set)
+      longerRules (tableAt loaded n d) (stateOf n depth set) c
+      ≡ filter (goesOn loaded depth c) (membersFrom 0 n set)
   unfolding groupAt patternAt
   longer-flat c =
       by-rules
-      (λ r. ltb depth (ruleAt (tableAt slots ranges blocks n d) r .size) && inRanges (getD (ruleAt (tableAt slots ranges blocks n d) r .ranges) depth []) c)
-      (goesOn slots ranges blocks depth c)
-      (λ r h. ap (λ g. ltb depth (g .size) && inRanges (getD (g .ranges) depth []) c) (rule-at slots ranges blocks n d r h) ∙ place r (ltb depth (at blocks (blockSize * r))) refl)
+      (λ r. ltb depth (ruleAt (tableAt loaded n d) r .size) && inRanges (getD (ruleAt (tableAt loaded n d) r .ranges) depth []) c)
+      (goesOn loaded depth c)
+      (λ r h. ap (λ g. ltb depth (g .size) && inRanges (getD (g .ranges) depth []) c) (rule-at loaded n d r h) ∙ place r (ltb depth (at loaded (blockSize * r))) refl)
     where
-      place : (r : ℕ) (b : Bool) → ltb depth (at blocks (blockSize * r)) ≡ b →
-          ltb depth (groupAt slots ranges blocks r .size) && inRanges (getD (groupAt slots ranges blocks r .ranges) depth []) c
-          ≡ ltb depth (at blocks (blockSize * r)) && inRanges (rangesAt slots ranges (8 * r + depth)) c
+      place : (r : ℕ) (b : Bool) → ltb depth (at loaded (blockSize * r)) ≡ b →
+          ltb depth (groupAt loaded r .size) && inRanges (getD (groupAt loaded r .ranges) depth []) c
+          ≡ ltb depth (at loaded (blockSize * r)) && inRanges (rangesAt loaded (8 * r + depth)) c
       place r true e =
-          ap (λ rs. ltb depth (at blocks (blockSize * r)) && inRanges rs c)
-          (getD-tab (λ p. rangesAt slots ranges (8 * r + p)) 0 (at blocks (blockSize * r)) depth [] (ltb-true depth (at blocks (blockSize * r)) e)
-          ∙ ap (λ p. rangesAt slots ranges (8 * r + p)) (zero-add depth))
+          ap (λ rs. ltb depth (at loaded (blockSize * r)) && inRanges rs c)
+          (getD-tab (λ p. rangesAt loaded (8 * r + p)) 0 (at loaded (blockSize * r)) depth [] (ltb-true depth (at loaded (blockSize * r)) e)
+          ∙ ap (λ p. rangesAt loaded (8 * r + p)) (zero-add depth))
       place r false e = rw e
 
-  pub accept-flat : acceptOf (tableAt slots ranges blocks n d) (stateOf n depth set)
-      ≡ firstNumber (filter (endsAt blocks depth true) (membersFrom 0 n set))
+  pub accept-flat : acceptOf (tableAt loaded n d) (stateOf n depth set)
+      ≡ firstNumber (filter (endsAt loaded depth true) (membersFrom 0 n set))
   unfolding acceptOf groupAt
   accept-flat =
       ap firstNumber
       (by-rules
-      (λ r. eqb (ruleAt (tableAt slots ranges blocks n d) r .size) depth && not (ruleAt (tableAt slots ranges blocks n d) r .anchored))
-      (endsAt blocks depth true)
-      (λ r h. ap (λ g. eqb (g .size) depth && not (g .anchored)) (rule-at slots ranges blocks n d r h)))
+      (λ r. eqb (ruleAt (tableAt loaded n d) r .size) depth && not (ruleAt (tableAt loaded n d) r .anchored))
+      (endsAt loaded depth true)
+      (λ r h. ap (λ g. eqb (g .size) depth && not (g .anchored)) (rule-at loaded n d r h)))
 
-  pub accept-end-flat : acceptAtEndOf (tableAt slots ranges blocks n d) (stateOf n depth set)
-      ≡ firstNumber (filter (endsAt blocks depth false) (membersFrom 0 n set))
+  pub accept-end-flat : acceptAtEndOf (tableAt loaded n d) (stateOf n depth set)
+      ≡ firstNumber (filter (endsAt loaded depth false) (membersFrom 0 n set))
   unfolding acceptAtEndOf groupAt
   accept-end-flat =
       ap firstNumber
       (by-rules
-      (λ r. eqb (ruleAt (tableAt slots ranges blocks n d) r .size) depth)
-      (endsAt blocks depth false)
-      (λ r h. ap (λ g. eqb (g .size) depth) (rule-at slots ranges blocks n d r h) ∙ sym (and-true (eqb (at blocks (blockSize * r)) depth))))
+      (λ r. eqb (ruleAt (tableAt loaded n d) r .size) depth)
+      (endsAt loaded depth false)
+      (λ r h. ap (λ g. eqb (g .size) depth) (rule-at loaded n d r h) ∙ sym (and-true (eqb (at loaded (blockSize * r)) depth))))

@@ -1,4 +1,4 @@
--- The automaton made from a table reads its rules, is good, and writes no more than the table's expansion.
+-- The automaton made from a table reads its rules and is good.
 -- After a word it is in the state of that word: its length, and the rules that it fits so far.
 use mathlib.Core.Bool.{Bool, _&&_, not, cond}
 use mathlib.Core.List.{List, [], _∷_, _++_, append-nil, List·Memᴰ}
@@ -7,21 +7,20 @@ use Prim.Native.Nat.{ℕ, zero, suc, _≤_, _<_}
 use native.Mathlib.Decide.{ℕ-discrete}
 use native.Mathlib.Omega.{arith}
 use lib.Dec.{T, eqb, ltb, eqb→eq, eqb-refl}
-use lib.ListN.{length, length-append}
+use lib.ListN.{length, getD, length-append}
 use lib.Seq.{append-snoc}
 use Rattle.lists.specs.Lists.{filter, upTo}
 use Rattle.lists.proofs.Laws.Tests.{and-left, and-right, both, of-not}
 use Rattle.lists.proofs.Laws.Each.{each-front, each-back, each-weaken}
 use Rattle.lists.proofs.Laws.Members.{mem-filter, mem-getD}
 use Rattle.lists.proofs.Laws.Sets.{filter-filter, filter-same, filter-all, not-empty, each-upTo, mem-upTo}
-use Rattle.meaning.specs.Table.{Characters, Table, ruleAt, group, defaultNumber, longest, expansion}
-use Rattle.meaning.specs.Meaning.{written}
+use Rattle.meaning.specs.Table.{Characters, Table, inRanges, ruleAt, longest}
 use Rattle.meaning.proofs.Laws.Prefix.{fitsPrefix, fitsPrefix-nil, fitsPrefix-snoc}
 use Rattle.meaning.proofs.Laws.Shape.{Shaped}
-use Rattle.meaning.proofs.Laws.Groups.{rule-shaped, group-short, written-length}
+use Rattle.meaning.proofs.Laws.Groups.{rule-shaped}
 use Rattle.automaton.specs.States.{State, initial, acceptOf, acceptAtEndOf, longerRules, successor, inhabited, states}
 use Rattle.automaton.specs.Automaton.{fromTable}
-use Rattle.automaton.proofs.Laws.Good.{after, Leads, Good, after-inside, Short, Least, Done, Free, Reads, stateAt}
+use Rattle.automaton.proofs.Laws.Good.{after, Leads, Good, after-inside, Least, Done, Free, Reads, stateAt}
 use Rattle.automaton.proofs.Laws.Classes.{startOf, class-same, class-member}
 use Rattle.automaton.proofs.Laws.First.{least-kept}
 use Rattle.automaton.proofs.Laws.Levels.{IsRule, goesOn, target-found, target-there, states-closed, successor-depth, numbered}
@@ -52,7 +51,7 @@ module _ (t : Table) where
   done-sized : (w : List ℕ) (r : ℕ) → Done t w r → T (sized w r)
   done-sized w r d = rw (d .size) (eqb-refl (length w))
 
-  initial-is : initial t ≡ stateOf t []
+  pub initial-is : initial t ≡ stateOf t []
   unfolding initial
   initial-is =
       let m : filter (fitting []) (upTo (length (t .rules))) ≡ upTo (length (t .rules)) =
@@ -61,24 +60,29 @@ module _ (t : Table) where
       λ i. record { depth = 0; members = sym m i }
 
 module _ (t : Table) (S : Shaped t) where
-  -- one character on, where no rule is accepted
-  state-next : (v : List ℕ) (x : ℕ) → x < 65536 → acceptOf t (stateOf t v) ≡ 0 → successor t (stateOf t v) (startOf t x) ≡ stateOf t (v ++ x ∷ [])
+  -- one character on, where no rule is accepted; c may stand for x
+  pub state-by : (v : List ℕ) (c x : ℕ) →
+      ((r : ℕ) → r < length (t .rules) → inRanges (getD (ruleAt t r .ranges) (length v) []) c ≡ inRanges (getD (ruleAt t r .ranges) (length v) []) x) →
+      acceptOf t (stateOf t v) ≡ 0 → successor t (stateOf t v) c ≡ stateOf t (v ++ x ∷ [])
   unfolding successor
-  state-next v x h e =
+  state-by v c x alike e =
       let n : ℕ = length (t .rules) in
       let d : suc (length v) ≡ length (v ++ x ∷ []) = omega (arith, length-append v (x ∷ [])) in
-      let longer : ℕ → Bool = goesOn t (stateOf t v) (startOf t x) in
-      let m : cond (eqb (acceptOf t (stateOf t v)) 0) (longerRules t (stateOf t v) (startOf t x)) [] ≡ filter (fitting t (v ++ x ∷ [])) (upTo n) =
-      ap (λ k. cond (eqb k 0) (longerRules t (stateOf t v) (startOf t x)) []) e
+      let longer : ℕ → Bool = goesOn t (stateOf t v) c in
+      let m : cond (eqb (acceptOf t (stateOf t v)) 0) (longerRules t (stateOf t v) c) [] ≡ filter (fitting t (v ++ x ∷ [])) (upTo n) =
+      ap (λ k. cond (eqb k 0) (longerRules t (stateOf t v) c) []) e
       ∙ filter-filter (fitting t v) longer (upTo n)
       ∙ filter-same (λ r. fitting t v r && longer r) (fitting t (v ++ x ∷ [])) (upTo n)
       (each-weaken (IsRule t) (λ r. fitting t v r && longer r ≡ fitting t (v ++ x ∷ []) r) (upTo n) same (each-upTo n)) in
       λ i. record { depth = d i; members = m i }
     where
-      same : (r : ℕ) → r < length (t .rules) → fitting t v r && goesOn t (stateOf t v) (startOf t x) r ≡ fitting t (v ++ x ∷ []) r
+      same : (r : ℕ) → r < length (t .rules) → fitting t v r && goesOn t (stateOf t v) c r ≡ fitting t (v ++ x ∷ []) r
       same r k =
-          ap₂ (λ s b. fitting t v r && (ltb (length v) s && b)) (sym (rule-shaped t S r k .places)) (class-same t r (length v) x k h)
+          ap₂ (λ s b. fitting t v r && (ltb (length v) s && b)) (sym (rule-shaped t S r k .places)) (alike r k)
           ∙ sym (fitsPrefix-snoc (ruleAt t r .ranges) v x)
+
+  pub state-next : (v : List ℕ) (x : ℕ) → x < 65536 → acceptOf t (stateOf t v) ≡ 0 → successor t (stateOf t v) (startOf t x) ≡ stateOf t (v ++ x ∷ [])
+  state-next v x h e = state-by v (startOf t x) x (λ r k. class-same t r (length v) x k h) e
 
   state-from : (v w : List ℕ) (q : ℕ) → Characters w → Leads (fromTable t) q w → stateAt t q ≡ stateOf t v →
       stateAt t (after (fromTable t) q w) ≡ stateOf t (v ++ w)
@@ -165,10 +169,3 @@ module _ (t : Table) (S : Shaped t) where
 
   pub table-reads : Reads (fromTable t) t
   table-reads = record { accept-is = accepts; end-is = ends; dead = dead-end }
-
-pub table-short : (t : Table) → Short (fromTable t) (expansion t) (length (states t))
-unfolding fromTable
-table-short t = record { of-accept = λ q r h e. short r; of-end = λ q r h e. short r; of-default = λ e. short defaultNumber }
-  where
-    short : (n : ℕ) (w : List ℕ) → length (written (group t n) w) ≤ expansion t
-    short n w = rw (written-length (group t n) w) (group-short t n)

@@ -1,14 +1,13 @@
 -- The compiler as it is run: a set of rules as a number, and states added to a list as they are met.
-use mathlib.Core.Bool.{Bool, cond}
+use mathlib.Core.Bool.{cond}
 use mathlib.Core.List.{List, [], _∷_, _++_}
-use mathlib.Core.Option.{Option}
 use Prim.Native.Nat.{ℕ, zero, suc, _+_, _*_, _/_, _%_}
-use lib.Dec.{eqb, ltb}
-use lib.ListN.{length, getD}
+use lib.Dec.{eqb}
+use lib.ListN.{length}
 use Rattle.lists.specs.Lists.{findFrom, tabFrom, isSome, orElse}
 use Rattle.meaning.specs.Table.{Table}
 use Rattle.meaning.specs.Block.{at}
-use Rattle.automaton.specs.States.{State, initial, successor, sameState, inhabited}
+use Rattle.automaton.specs.States.{State, successor, sameState, inhabited}
 use Rattle.automaton.specs.Layout.{statesFrom}
 
 -- the rules of a set that is kept as a number, numbered from i: bit by bit, the lowest first
@@ -32,11 +31,6 @@ added q qs = cond (isSome (findFrom 0 (sameState q) qs)) qs (qs ++ (q ∷ []))
 unfoldable pub addedFrom : Table → State → List ℕ → List State → List State
 addedFrom t q [] qs = qs
 addedFrom t q (c ∷ cs) qs = let s = successor t q c in addedFrom t q cs (cond (inhabited s) (added s qs) qs)
-
--- the states of a list from number s on in turn, with those that are added on the way; at most n of them
-unfoldable pub explored : Table → List ℕ → ℕ → ℕ → List State → List State
-explored t ss zero s qs = qs
-explored t ss (suc n) s qs = cond (ltb s (length qs)) (explored t ss n (suc s) (addedFrom t (getD qs s (initial t)) ss qs)) qs
 
 -- the states that the words' depths and the sets hold, `count` of them
 unfoldable pub statesAt : List ℕ → List ℕ → ℕ → ℕ → List State

@@ -12,7 +12,7 @@ use Rattle.cobbletwill.specs.bridge.Lent.{Unchanged}
 use Rattle.cobbletwill.specs.declared.sessions.SessionNumbers.{SessionNumbers}
 use Rattle.cobbletwill.specs.declared.sessions.CalledNumbers.{CalledNumbers}
 use Rattle.session.specs.Keeping.{sessionOf}
-use Rattle.session.specs.bridge.Later as Later
+use Rattle.session.specs.Contracts.{Told}
 use Rattle.session.specs.declared.kept.Session as Code
 use Rattle.session.specs.declared.call.Called.{Called}
 use Rattle.cobbletwill.proofs.Laws.Claims.{numbers-same}
@@ -33,6 +33,6 @@ handed-over call w n buffer found answer count session s o small meant came answ
 
 -- where that call was not accepted, the numbers are as found
 pub unchanged : (n : SessionNumbers) (s : Code.Session) (r : Called) (over : CalledNumbers) → n .status ≤ 2 → sessionOf s ≡ sessionFrom n →
-    Later.Unchanged r s → over .accepted ≡ r .accepted → over .session ≡ numbersOf (sessionOf (r .session)) → Unchanged over n
+    Told r s → over .accepted ≡ r .accepted → over .session ≡ numbersOf (sessionOf (r .session)) → Unchanged over n
 unchanged n s r over small meant kept accepted session e =
-    session ∙ ap (λ x. numbersOf (sessionOf x)) (kept (sym accepted ∙ e)) ∙ ap numbersOf meant ∙ numbers-same n small
+    session ∙ ap (λ x. numbersOf (sessionOf x)) (kept .unchanged (sym accepted ∙ e)) ∙ ap numbersOf meant ∙ numbers-same n small

@@ -1,9 +1,9 @@
--- What an accepted call wrote lies within its buffer.
+-- What the call of a turn is, and that what an accepted call wrote lies within its buffer.
 -- The count that it answers is the length of the text, which stands at the start of what it leaves.
 use mathlib.Core.Bool.{Bool, true, false}
-use mathlib.Core.List.{List, []}
-use mathlib.Core.Path.{_≡_, ap, _∙_}
-use Prim.Native.Nat.{ℕ, _+_, _≤_}
+use mathlib.Core.List.{List, [], _∷_}
+use mathlib.Core.Path.{_≡_, refl, sym, ap, _∙_}
+use Prim.Native.Nat.{ℕ, _+_, _≤_, _<_}
 use native.Mathlib.Omega.{arith}
 use lib.ListN.{length, drop, length-append}
 use Rattle.meaning.specs.Refusal.{Outcome, refused, accepted}
@@ -16,6 +16,7 @@ use Rattle.session.specs.Contracts.{outcomeOf}
 use Rattle.session.specs.declared.kept.Session.{Session}
 use Rattle.session.specs.declared.call.Answer.{Answer}
 use Rattle.session.specs.declared.call.Answer.the-variants.{Accepted, Refused}
+use Rattle.convert.specs.Turns.{callOn}
 use Rattle.convert.specs.bridge.Call.{Counted}
 
 call-counted : (o : Outcome (Unit {0})) (m : Automaton) (s : Spec.Session) (piece : List ℕ) (ended : Bool) (buffer : List ℕ)
@@ -29,11 +30,20 @@ call-counted (accepted u) m s piece ended buffer (Accepted count status) later o
     let all = ap (λ (c : CallOutcome). length (c .output)) e ∙ length-append text (drop (length text) buffer) in
     omega arith
 
-module _ (w : List ℕ) (s : Spec.Session) (a : Answer) (later : Session) (output : List ℕ) where
-  pub feed-counted : (piece buffer : List ℕ) → outcomeOf a later output ≡ feed w s piece buffer → Counted a (length output)
-  unfolding feed
-  feed-counted piece buffer e = call-counted (admits w s (length piece) (length buffer)) (fromWords w) s piece false buffer a later output e
+module _ (w : List ℕ) (s : Spec.Session) where
+  -- no bytes were read
+  pub call-at-end : (bytes buffer : List ℕ) → length bytes ≡ 0 → callOn w s bytes buffer ≡ finish w s buffer
+  call-at-end [] buffer e = refl
+  call-at-end (b ∷ bytes) buffer e = absurd (omega arith)
 
-  pub finish-counted : (buffer : List ℕ) → outcomeOf a later output ≡ finish w s buffer → Counted a (length output)
-  unfolding finish
-  finish-counted buffer e = call-counted (admits w s 0 (length buffer)) (fromWords w) s [] true buffer a later output e
+  -- some bytes were read
+  pub call-of-bytes : (bytes buffer : List ℕ) → 0 < length bytes → callOn w s bytes buffer ≡ feed w s bytes buffer
+  call-of-bytes [] buffer h = absurd (omega arith)
+  call-of-bytes (b ∷ bytes) buffer h = refl
+
+  pub counted : (a : Answer) (later : Session) (output bytes buffer : List ℕ) →
+      outcomeOf a later output ≡ callOn w s bytes buffer → Counted a (length output)
+  unfolding feed finish
+  counted a later output [] buffer e = call-counted (admits w s 0 (length buffer)) (fromWords w) s [] true buffer a later output e
+  counted a later output (b ∷ bytes) buffer e =
+      call-counted (admits w s (length (b ∷ bytes)) (length buffer)) (fromWords w) s (b ∷ bytes) false buffer a later output e

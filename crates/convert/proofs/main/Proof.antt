@@ -18,25 +18,28 @@ returns c = search needs
 array-share-prefix-table : tie.Need-array-share-prefix-table
 array-share-prefix-table c = search needs
 
-slice-aggregate-compile : tie.Need-slice-aggregate-compile
-slice-aggregate-compile c =
+slice-aggregate-begin : tie.Need-slice-aggregate-begin
+slice-aggregate-begin c =
     let r = c .before .before .before .before .read-table in
     sym (length-take-le (r .result .size) (r .last .0) (r .ensures))
 
-slice-aggregate-compile-2 : tie.Need-slice-aggregate-compile-2
-slice-aggregate-compile-2 c = search needs
+slice-aggregate-begin-2 : tie.Need-slice-aggregate-begin-2
+slice-aggregate-begin-2 c = search needs
 
-compile-requires : tie.Need-compile-requires
-compile-requires c κs = search needs
+slice-aggregate-begin-3 : tie.Need-slice-aggregate-begin-3
+slice-aggregate-begin-3 c = search needs
 
-enum-known-number : tie.Need-enum-known-number
-enum-known-number c = search needs
+begin-requires : tie.Need-begin-requires
+begin-requires c κs = search needs
 
-print-refusal-requires : tie.Need-print-refusal-requires
-print-refusal-requires c κs = search needs
+array-share-prefix-text : tie.Need-array-share-prefix-text
+array-share-prefix-text c = search needs
 
-enum-told : tie.Need-enum-told
-enum-told c = search needs
+slice-aggregate-print : tie.Need-slice-aggregate-print
+slice-aggregate-print c = search needs
+
+print-requires : tie.Need-print-requires
+print-requires c κs = search needs
 
 slice-aggregate-convert-input : tie.Need-slice-aggregate-convert-input
 slice-aggregate-convert-input c = search needs
@@ -58,12 +61,13 @@ main-spec =
     read-table-requires
     returns
     array-share-prefix-table
-    slice-aggregate-compile
-    slice-aggregate-compile-2
-    compile-requires
-    enum-known-number
-    print-refusal-requires
-    enum-told
+    slice-aggregate-begin
+    slice-aggregate-begin-2
+    slice-aggregate-begin-3
+    begin-requires
+    array-share-prefix-text
+    slice-aggregate-print
+    print-requires
     slice-aggregate-convert-input
     convert-input-requires
     returns-2

@@ -1,4 +1,4 @@
--- What is compiled of the flat arrays of a table is what is compiled of the table: states, accepts and targets look at no output character.
+-- What is compiled of the loaded array of a table is what is compiled of the table: states, accepts and targets look at no output character.
 -- The words are put together part by part, each at the place where the parts before it end.
 use mathlib.Core.Bool.{Bool, true, false, _&&_, not, cond}
 use mathlib.Core.List.{List, [], _∷_, _++_, map, append-assoc, append-nil}
@@ -19,10 +19,11 @@ use Rattle.meaning.specs.Refusal.{refused, accepted, andThen}
 use Rattle.meaning.specs.Table.{Group, Table, ruleAt, inRanges, longest}
 use Rattle.meaning.specs.Block.{at, bit, block, blockSize, blocksSize}
 use Rattle.meaning.specs.Reader.{readTable}
-use Rattle.meaning.specs.bridge.Flat.{rows, slotWords, rangeWords, blockWords, groupAt, tableAt, expansionAt, Flat}
+use Rattle.meaning.specs.bridge.Flat.{rows, blockWords, loadedWords, blocksOf, groupAt, tableAt, expansionAt, Flat}
 use Rattle.rules.specs.bridge.Readings.{LoadedBy}
 use Rattle.meaning.proofs.Laws.Shape.{Shaped}
 use Rattle.meaning.proofs.Laws.Narrow.{Narrow}
+use Rattle.meaning.proofs.Laws.Loaded.{loaded-blocks}
 use Rattle.rules.proofs.Laws.Flattened.{flat-flat}
 use Rattle.meaning.proofs.Laws.Bare.{bareGroup, ruleAt-bare, table-flat}
 use Rattle.rules.specs.declared.load.Load.{Load}
@@ -50,12 +51,12 @@ header-put (x ∷ y ∷ z ∷ u ∷ []) a b c d e f h = absurd (omega arith)
 header-put (x ∷ y ∷ z ∷ u ∷ v ∷ []) a b c d e f h = absurd (omega arith)
 header-put (x ∷ y ∷ z ∷ u ∷ v ∷ s ∷ w) a b c d e f h = refl
 
--- the table read back of the arrays, without its default
+-- the table read back of the array, without its default
 
 abbrev plain : Table → Table
 plain t = record { rules = map bareGroup (t .rules); default = none }
 
-table-plain : (t : Table) → Shaped t → Narrow t → tableAt (slotWords t) (rangeWords t) (blockWords t) (length (t .rules)) false ≡ plain t
+table-plain : (t : Table) → Shaped t → Narrow t → tableAt (loadedWords t) (length (t .rules)) false ≡ plain t
 unfolding tableAt
 table-plain t s w = ap (λ u. record { rules = u .rules; default = none }) (table-flat t s w)
 
@@ -124,30 +125,30 @@ module _ (t : Table) where
       whole : (g : Group) → pad blockSize (block g) ≡ block g
       whole g = pad-pad blockSize (g .size ∷ _)
 
--- L by the arrays
-module _ (slots ranges blocks : List ℕ) where
-  greatest-next : (i n : ℕ) → greatest (λ g. g .size) (tabFrom i (suc n) (groupAt slots ranges blocks))
-      ≡ max (greatest (λ g. g .size) (tabFrom i n (groupAt slots ranges blocks))) (at blocks (blockSize * (i + n)))
+-- L by the array
+module _ (loaded : List ℕ) where
+  greatest-next : (i n : ℕ) → greatest (λ g. g .size) (tabFrom i (suc n) (groupAt loaded))
+      ≡ max (greatest (λ g. g .size) (tabFrom i n (groupAt loaded))) (at loaded (blockSize * (i + n)))
   unfolding groupAt
-  greatest-next i zero = let e : at blocks (blockSize * (i + 0)) ≡ at blocks (blockSize * i) = ap (λ k. at blocks (blockSize * k)) (add-zero i) in omega arith
+  greatest-next i zero = let e : at loaded (blockSize * (i + 0)) ≡ at loaded (blockSize * i) = ap (λ k. at loaded (blockSize * k)) (add-zero i) in omega arith
   greatest-next i (suc n) =
-      let e : at blocks (blockSize * (suc i + n)) ≡ at blocks (blockSize * (i + suc n)) = ap (λ k. at blocks (blockSize * k)) (omega arith) in
+      let e : at loaded (blockSize * (suc i + n)) ≡ at loaded (blockSize * (i + suc n)) = ap (λ k. at loaded (blockSize * k)) (omega arith) in
       let h = greatest-next (suc i) n in omega arith
 
-  longest-at : (n : ℕ) → longestAt blocks n ≡ longest (tableAt slots ranges blocks n false)
+  longest-at : (n : ℕ) → longestAt loaded n ≡ longest (tableAt loaded n false)
   unfolding longestAt longest tableAt
   longest-at zero = refl
   longest-at (suc n) =
-      ap (λ m. max m (at blocks (blockSize * n))) (longest-at n)
-      ∙ ap (λ k. max (greatest (λ g. g .size) (tabFrom 0 n (groupAt slots ranges blocks))) (at blocks (blockSize * k))) (sym (zero-add n))
+      ap (λ m. max m (at loaded (blockSize * n))) (longest-at n)
+      ∙ ap (λ k. max (greatest (λ g. g .size) (tabFrom 0 n (groupAt loaded))) (at loaded (blockSize * k))) (sym (zero-add n))
       ∙ sym (greatest-next 0 n)
 
-  pub longest-eight : Flat slots ranges blocks → (n : ℕ) → n ≤ 32 → longestAt blocks n ≤ 8
+  pub longest-eight : Flat loaded → (n : ℕ) → n ≤ 32 → longestAt loaded n ≤ 8
   unfolding longestAt
   longest-eight f zero h = omega arith
   longest-eight f (suc n) h =
-      let a : longestAt blocks n ≤ 8 = longest-eight f n (omega arith) in
-      let b : at blocks (blockSize * n) ≤ 8 = f .size n (omega arith) in omega arith
+      let a : longestAt loaded n ≤ 8 = longest-eight f n (omega arith) in
+      let b : at loaded (blockSize * n) ≤ 8 = f .size n (omega arith) in omega arith
 
 -- words that are 0, and class starts put into them
 
@@ -241,16 +242,16 @@ assembled w w1 w2 w3 w4 h s a b blocks room lh ls la lb e1 e2 e3 e4 =
         ∙ drop-drop blocksSize blocksFrom w1 ∙ drop-later statesFrom (wordCount - statesFrom) w1 w behind
 
 -- the same with the six words as they were counted
-pub put-together : (t : Table) (n : ℕ) (d : Bool) (w w1 w2 w3 w4 blocks : List ℕ) (q c l e : ℕ) → wordCount ≤ length w →
-    q ≡ length (states t) → c ≡ length (starts t) → l ≡ longestAt blocks n → e ≡ expansionAt blocks n d →
+pub put-together : (t : Table) (n : ℕ) (d : Bool) (w w1 w2 w3 w4 loaded : List ℕ) (q c l e : ℕ) → wordCount ≤ length w →
+    q ≡ length (states t) → c ≡ length (starts t) → l ≡ longestAt loaded n → e ≡ expansionAt loaded n d →
     w1 ≡ take classesFrom w ++ pad 64 (starts t) ++ drop statesFrom w →
     w2 ≡ take statesFrom w1 ++ pad statesSize (flatMap (stateWords t) (states t)) ++ pad targetsSize (flatMap (targetWords t) (states t)) ++ drop blocksFrom w1 →
-    w3 ≡ (q ∷ c ∷ l ∷ e ∷ n ∷ bit d ∷ []) ++ drop classesFrom w2 → w4 ≡ take blocksFrom w3 ++ blocks ++ drop wordCount w3 →
-    w4 ≡ wordsAt t blocks n d ++ drop wordCount w
+    w3 ≡ (q ∷ c ∷ l ∷ e ∷ n ∷ bit d ∷ []) ++ drop classesFrom w2 → w4 ≡ take blocksFrom w3 ++ blocksOf loaded ++ drop wordCount w3 →
+    w4 ≡ wordsAt t loaded n d ++ drop wordCount w
 unfolding wordsAt
-put-together t n d w w1 w2 w3 w4 blocks q c l e room eq ec el ee e1 e2 e3 e4 =
-    assembled w w1 w2 w3 w4 (headerAt t blocks n d) (pad 64 (starts t)) (pad statesSize (flatMap (stateWords t) (states t)))
-    (pad targetsSize (flatMap (targetWords t) (states t))) blocks room refl (length-pad 64 _) (length-pad statesSize _) (length-pad targetsSize _) e1 e2
+put-together t n d w w1 w2 w3 w4 loaded q c l e room eq ec el ee e1 e2 e3 e4 =
+    assembled w w1 w2 w3 w4 (headerAt t loaded n d) (pad 64 (starts t)) (pad statesSize (flatMap (stateWords t) (states t)))
+    (pad targetsSize (flatMap (targetWords t) (states t))) (blocksOf loaded) room refl (length-pad 64 _) (length-pad statesSize _) (length-pad targetsSize _) e1 e2
     (e3 ∙ (λ i. (eq i ∷ ec i ∷ el i ∷ ee i ∷ n ∷ bit d ∷ []) ++ drop classesFrom w2)) e4
 
 -- the count of states as it is answered
@@ -276,21 +277,21 @@ module _ (w v : List ℕ) (e : v ≡ pad wordCount [] ++ drop wordCount w) where
 
 -- what is built, by the counts of classes and states
 
-module _ (t : Table) (blocks : List ℕ) (n : ℕ) (d : Bool) (rest : List ℕ) where
-  pub built-classes : 64 < length (starts t) → builtBy t blocks n d rest ≡ record { answer = refused 8; words = pad wordCount [] ++ rest }
+module _ (t : Table) (loaded : List ℕ) (n : ℕ) (d : Bool) (rest : List ℕ) where
+  pub built-classes : 64 < length (starts t) → builtBy t loaded n d rest ≡ record { answer = refused 8; words = pad wordCount [] ++ rest }
   unfolding builtBy select
   built-classes h = rw (lt-ltb 64 (length (starts t)) h) refl
 
   module _ (few : length (starts t) ≤ 64) where
-    pub built-states : 256 < length (states t) → builtBy t blocks n d rest ≡ record { answer = refused 9; words = pad wordCount [] ++ rest }
+    pub built-states : 256 < length (states t) → builtBy t loaded n d rest ≡ record { answer = refused 9; words = pad wordCount [] ++ rest }
     unfolding builtBy select
     built-states h = rw (le-ltb 64 (length (starts t)) few, lt-ltb 256 (length (states t)) h) refl
 
-    pub built-words : length (states t) ≤ 256 → builtBy t blocks n d rest ≡ record { answer = accepted tt; words = wordsAt t blocks n d ++ rest }
+    pub built-words : length (states t) ≤ 256 → builtBy t loaded n d rest ≡ record { answer = accepted tt; words = wordsAt t loaded n d ++ rest }
     unfolding builtBy select
     built-words h = rw (le-ltb 64 (length (starts t)) few, le-ltb 256 (length (states t)) h) refl
 
--- by the arrays of a table what is compiled of it
+-- by the array of a table what is compiled of it
 
 module _ (t : Table) (s : Shaped t) (w : Narrow t) where
   abbrev n : ℕ
@@ -299,23 +300,23 @@ module _ (t : Table) (s : Shaped t) (w : Narrow t) where
   abbrev d : Bool
   d = isSome (t .default)
 
-  words-flat : wordsAt (plain t) (blockWords t) n d ≡ words t
+  words-flat : wordsAt (plain t) (loadedWords t) n d ≡ words t
   unfolding wordsAt words parts
   words-flat =
       λ i. (length (states-plain t i) ∷ length (starts-plain t i) ∷ most i ∷ expansion-flat t s i ∷ n ∷ bit d ∷ [])
       ++ (pad 64 (starts-plain t i) ++ (pad statesSize (stateWords-plain t i) ++ (pad targetsSize (targetWords-plain t i) ++ blocks i)))
     where
-      most : longestAt (blockWords t) n ≡ longest t
-      most = longest-at (slotWords t) (rangeWords t) (blockWords t) n ∙ ap longest (table-plain t s w) ∙ longest-plain t
+      most : longestAt (loadedWords t) n ≡ longest t
+      most = longest-at (loadedWords t) n ∙ ap longest (table-plain t s w) ∙ longest-plain t
 
-      blocks : blockWords t ≡ pad (32 * blockSize) (flatMap block (t .rules)) ++ (pad blockSize (flatMap block (optional (t .default))) ++ [])
-      blocks = blocks-plain t ∙ ap (λ l. pad (32 * blockSize) (flatMap block (t .rules)) ++ l) (sym (append-nil (pad blockSize (flatMap block (optional (t .default))))))
+      blocks : blocksOf (loadedWords t) ≡ pad (32 * blockSize) (flatMap block (t .rules)) ++ (pad blockSize (flatMap block (optional (t .default))) ++ [])
+      blocks = loaded-blocks t ∙ blocks-plain t ∙ ap (λ l. pad (32 * blockSize) (flatMap block (t .rules)) ++ l) (sym (append-nil (pad blockSize (flatMap block (optional (t .default))))))
 
   built-flat : (buffer found : List ℕ) → drop wordCount buffer ≡ drop wordCount found →
-      built (slotWords t) (rangeWords t) (blockWords t) n d buffer ≡ compileBy (small t) found
+      built (loadedWords t) n d buffer ≡ compileBy (small t) found
   unfolding builtBy select small
   built-flat buffer found e =
-      ap₂ (λ u r. builtBy u (blockWords t) n d r) (table-plain t s w) e
+      ap₂ (λ u r. builtBy u (loadedWords t) n d r) (table-plain t s w) e
       ∙ (λ i. chosen (ltb 64 (length (starts-plain t i))) (ltb 256 (length (states-plain t i))) (words-flat i))
       ∙ go (ltb 64 (length (starts t))) (ltb 256 (length (states t)))
     where
@@ -345,20 +346,20 @@ module _ (b w : List ℕ) where
     unfolding compile compilable select
     compile-long = rw (le-ltb (length w) wordCount room) refl
 
-    module _ (r : Load) (slots ranges blocks : List ℕ) (l : LoadedBy (readTable b) r slots ranges blocks) where
+    module _ (r : Load) (loaded : List ℕ) (l : LoadedBy (readTable b) r loaded) where
       pub compile-refused : (n : ℕ) → r ≡ Load.Refused n → (refused n ≡ compile b w .answer) × (pad wordCount [] ++ drop wordCount w ≡ compile b w .words)
       unfolding andThen
       compile-refused n e =
-          let q : readTable b ≡ refused n = is-refused b r slots ranges blocks l n e in
+          let q : readTable b ≡ refused n = is-refused b r loaded l n e in
           let a : compile b w .answer ≡ refused n = ap (λ o. o .answer) (compile-long ∙ ap (λ o. compileBy (andThen o small) w) q) in
           (sym a, sym (compile-answers b w .zeros n a (λ z. subst (λ m. readTable b ≡ refused m → ⊥) (sym z) (table-refused b 10) q)))
 
       module _ (n : ℕ) (d : Bool) (e : r ≡ Load.Accepted n d) (bytes : Each (λ x. x < 256) b) where
-        pub compile-flat : Flat slots ranges blocks × (n ≤ 32)
-        compile-flat = of-read b r slots ranges blocks l n d e (λ s r k n d. Flat s r k × (n ≤ 32))
+        pub compile-flat : Flat loaded × (n ≤ 32)
+        compile-flat = of-read b r loaded l n d e (λ l n d. Flat l × (n ≤ 32))
             (λ t q. (flat-flat t (is-shaped b t q bytes) (is-narrow b t q bytes), is-shaped b t q bytes .few-rules))
 
-        pub compile-built : (buffer : List ℕ) → drop wordCount buffer ≡ drop wordCount w → built slots ranges blocks n d buffer ≡ compile b w
+        pub compile-built : (buffer : List ℕ) → drop wordCount buffer ≡ drop wordCount w → built loaded n d buffer ≡ compile b w
         unfolding andThen
-        compile-built buffer z = of-read b r slots ranges blocks l n d e (λ s r k n d. built s r k n d buffer ≡ compile b w)
+        compile-built buffer z = of-read b r loaded l n d e (λ l n d. built l n d buffer ≡ compile b w)
             (λ t q. built-flat t (is-shaped b t q bytes) (is-narrow b t q bytes) buffer w z ∙ sym (compile-long ∙ ap (λ o. compileBy (andThen o small) w) q))

@@ -15,12 +15,13 @@ use Rattle.lists.proofs.Laws.Parts.{length-pad, getD-pad, getD-rows}
 use Rattle.meaning.specs.Table.{Range, Group, Table, everyCharacter, ruleAt, group, defaultNumber}
 use Rattle.meaning.specs.Block.{at, bit, block, blockSize}
 use Rattle.meaning.specs.Meaning.{fits, better, best, orDefault, choose, chosen, convertBy, convertFrom, convert}
-use Rattle.meaning.specs.bridge.Flat.{rows, slotWords, rangeWords, blockWords, rangesAt, patternAt, groupAt, tableAt, flatConversion}
+use Rattle.meaning.specs.bridge.Flat.{rows, slotWords, rangeWords, blockWords, loadedWords, slotsFrom, rangesFrom, rangeAt, rangesAt, patternAt, groupAt, tableAt, flatConversion}
 use Rattle.meaning.proofs.Laws.Shape.{ShapedGroup, ShapedDefault, Shaped}
 use Rattle.meaning.proofs.Laws.Exact.{block-size, block-anchored}
 use Rattle.meaning.proofs.Laws.Narrow.{NarrowGroup, Narrow}
-use Rattle.meaning.proofs.Laws.Choosing.{tab-is, rangeAt}
+use Rattle.meaning.proofs.Laws.Choosing.{tab-is}
 use Rattle.meaning.proofs.Laws.Rows.{rows-at, rowsOf, rowsOf-rule, rowsOf-default}
+use Rattle.meaning.proofs.Laws.Loaded.{loaded-block, loaded-slot, loaded-range}
 
 -- a group without its output characters, and a table of such groups
 
@@ -100,14 +101,16 @@ pair r = r .lowest ∷ r .highest ∷ []
 abbrev pub Row : Table → ℕ → Group → Type 0
 Row t k g = (n : ℕ) (f : Group → List ℕ) (j : ℕ) → j < n → at (rows n f t) (n * k + j) ≡ at (f g) j
 
-module _ (t : Table) (k : ℕ) (g : Group) (row : Row t k g) where
-  pub size-flat : at (blockWords t) (blockSize * k) ≡ g .size
+module _ (t : Table) (k : ℕ) (inside : k < 33) (g : Group) (row : Row t k g) where
+  pub block-flat : (i : ℕ) → i < blockSize → at (loadedWords t) (blockSize * k + i) ≡ at (block g) i
   unfolding blockWords
-  size-flat = ap (at (blockWords t)) (sym (add-zero (blockSize * k))) ∙ row blockSize block 0 (lit< tt) ∙ block-size g
+  block-flat i h = loaded-block t (blockSize * k + i) (omega arith) ∙ row blockSize block i h
 
-  anchored-flat : eqb (at (blockWords t) (blockSize * k + 1)) 1 ≡ g .anchored
-  unfolding blockWords
-  anchored-flat = ap (λ w. eqb w 1) (row blockSize block 1 (lit< tt) ∙ block-anchored g) ∙ of (g .anchored)
+  pub size-flat : at (loadedWords t) (blockSize * k) ≡ g .size
+  size-flat = ap (at (loadedWords t)) (sym (add-zero (blockSize * k))) ∙ block-flat 0 (lit< tt) ∙ block-size g
+
+  anchored-flat : eqb (at (loadedWords t) (blockSize * k + 1)) 1 ≡ g .anchored
+  anchored-flat = ap (λ w. eqb w 1) (block-flat 1 (lit< tt) ∙ block-anchored g) ∙ of (g .anchored)
     where
       of : (a : Bool) → eqb (bit a) 1 ≡ a
       of true = refl
@@ -121,62 +124,63 @@ module _ (t : Table) (k : ℕ) (g : Group) (row : Row t k g) where
       position-few : length position ≤ 4
       position-few = each-getD (λ rs. length rs ≤ 4) (g .ranges) p [] few (omega arith)
 
-      slot-flat : at (slotWords t) (8 * k + p) ≡ length position
+      slot-flat : at (loadedWords t) (slotsFrom + (8 * k + p)) ≡ length position
       unfolding slotWords
-      slot-flat = row 8 (λ g. map length (g .ranges)) p (omega arith) ∙ List·getD-map length (g .ranges) p []
+      slot-flat =
+          loaded-slot t (slotsFrom + (8 * k + p)) (8 * k + p) (omega arith) (omega arith)
+          ∙ row 8 (λ g. map length (g .ranges)) p (omega arith)
+          ∙ List·getD-map length (g .ranges) p []
 
-      range-flat : (j q : ℕ) → j < length position → q < 2 → at (rangeWords t) (8 * (8 * k + p) + (2 * j + q)) ≡ at (pair (getD position j (record { lowest = 0; highest = 0 }))) q
+      range-flat : (i j q : ℕ) → i ≡ rangesFrom + 8 * (8 * k + p) + 2 * j + q → j < length position → q < 2 →
+          at (loadedWords t) i ≡ at (pair (getD position j (record { lowest = 0; highest = 0 }))) q
       unfolding rangeWords
-      range-flat j q i l =
+      range-flat i j q e l m =
           let four : length position ≤ 4 = position-few in
-          let a : 8 * (8 * k + p) + (2 * j + q) ≡ 64 * k + (8 * p + (2 * j + q)) = omega arith in
-          ap (at (rangeWords t)) a
+          loaded-range t i (64 * k + (8 * p + (2 * j + q))) (omega arith) (omega arith)
           ∙ row 64 (λ g. flatMap (λ rs. pad 8 (flatMap pair rs)) (g .ranges)) (8 * p + (2 * j + q)) (omega arith)
           ∙ getD-rows (λ rs. pad 8 (flatMap pair rs)) 8 (λ rs. length-pad 8 (flatMap pair rs)) (g .ranges) p (2 * j + q) [] (omega arith) (omega arith)
           ∙ getD-pad 8 (flatMap pair position) (2 * j + q) (omega arith)
-          ∙ getD-rows pair 2 (λ r. refl) position j q (record { lowest = 0; highest = 0 }) i l
+          ∙ getD-rows pair 2 (λ r. refl) position j q (record { lowest = 0; highest = 0 }) l m
 
-      position-flat : rangesAt (slotWords t) (rangeWords t) (8 * k + p) ≡ position
+      position-flat : rangesAt (loadedWords t) (8 * k + p) ≡ position
       unfolding rangesAt
       position-flat =
-          tab-is (rangeAt (rangeWords t) (8 * k + p)) (at (slotWords t) (8 * k + p)) position (record { lowest = 0; highest = 0 }) (sym slot-flat)
+          tab-is (rangeAt (loadedWords t) (8 * k + p)) (at (loadedWords t) (slotsFrom + (8 * k + p))) position (record { lowest = 0; highest = 0 }) (sym slot-flat)
           (λ j i.
           let l : j < length position = subst (λ m. j < m) slot-flat i in
-          let a : 8 * (8 * k + p) + 2 * j ≡ 8 * (8 * k + p) + (2 * j + 0) = omega arith in
-          let b : 8 * (8 * k + p) + 2 * j + 1 ≡ 8 * (8 * k + p) + (2 * j + 1) = omega arith in
-          ap₂ (λ x y. record { lowest = x; highest = y }) (ap (at (rangeWords t)) a ∙ range-flat j 0 l (lit< tt)) (ap (at (rangeWords t)) b ∙ range-flat j 1 l (lit< tt)))
+          ap₂ (λ x y. record { lowest = x; highest = y }) (range-flat _ j 0 (omega arith) l (lit< tt)) (range-flat _ j 1 (omega arith) l (lit< tt)))
 
-    group-flat : groupAt (slotWords t) (rangeWords t) (blockWords t) k ≡ bareGroup g
+    group-flat : groupAt (loadedWords t) k ≡ bareGroup g
     unfolding groupAt patternAt
     group-flat =
         rw (size-flat, anchored-flat)
         (ap (λ ps. record { size = g .size; anchored = g .anchored; ranges = ps; outputs = [] })
-        (tab-is (λ p. rangesAt (slotWords t) (rangeWords t) (8 * k + p)) (g .size) (g .ranges) [] places position-flat))
+        (tab-is (λ p. rangesAt (loadedWords t) (8 * k + p)) (g .size) (g .ranges) [] places position-flat))
 
-pub table-flat : (t : Table) → Shaped t → Narrow t → tableAt (slotWords t) (rangeWords t) (blockWords t) (length (t .rules)) (isSome (t .default)) ≡ bare t
+pub table-flat : (t : Table) → Shaped t → Narrow t → tableAt (loadedWords t) (length (t .rules)) (isSome (t .default)) ≡ bare t
 unfolding tableAt
 table-flat t s w = ap₂ (λ rs d. record { rules = rs; default = d }) rules (of (t .default) refl (s .default) (each-back NarrowGroup (t .rules) (optional (t .default)) w))
   where
-    rules : tabFrom 0 (length (t .rules)) (groupAt (slotWords t) (rangeWords t) (blockWords t)) ≡ map bareGroup (t .rules)
+    rules : tabFrom 0 (length (t .rules)) (groupAt (loadedWords t)) ≡ map bareGroup (t .rules)
     rules =
-        tab-is (groupAt (slotWords t) (rangeWords t) (blockWords t)) (length (t .rules)) (map bareGroup (t .rules)) (everyCharacter []) (length-map (t .rules) bareGroup)
+        tab-is (groupAt (loadedWords t)) (length (t .rules)) (map bareGroup (t .rules)) (everyCharacter []) (length-map (t .rules) bareGroup)
         (λ r h.
         let few : length (t .rules) ≤ 32 = s .few-rules in
         let g = ruleAt t r in
         let sg = each-getD ShapedGroup (t .rules) r (everyCharacter []) (s .rules) h in
         let ng = each-getD NarrowGroup (t .rules) r (everyCharacter []) (each-front NarrowGroup (t .rules) (optional (t .default)) w) h in
-        group-flat t r g (λ n f j i. rows-at n f t r j (omega arith) i ∙ ap (λ l. at l j) (rowsOf-rule f (t .rules) (t .default) r (everyCharacter []) few h)) (sg .places) (sg .small) (ng .few)
+        group-flat t r (omega arith) g (λ n f j i. rows-at n f t r j (omega arith) i ∙ ap (λ l. at l j) (rowsOf-rule f (t .rules) (t .default) r (everyCharacter []) few h)) (sg .places) (sg .small) (ng .few)
         ∙ sym (ruleAt-bare t r))
 
     of : (d : Option Group) → t .default ≡ d → Each ShapedDefault (optional d) → Each NarrowGroup (optional d) →
-        cond (isSome d) (some (groupAt (slotWords t) (rangeWords t) (blockWords t) defaultNumber)) none ≡ bareDefault d
+        cond (isSome d) (some (groupAt (loadedWords t) defaultNumber)) none ≡ bareDefault d
     of none e a b = refl
     of (some g) e a b =
         let one : g .size ≡ 1 = a .0 .size in
-        ap some (group-flat t 32 g (λ n f j i. rows-at n f t 32 j (lit< tt) i ∙ ap (λ d. at (getD (rowsOf f (t .rules) d) 32 []) j) e ∙ ap (λ l. at l j) (rowsOf-default f (t .rules) g))
+        ap some (group-flat t 32 (lit< tt) g (λ n f j i. rows-at n f t 32 j (lit< tt) i ∙ ap (λ d. at (getD (rowsOf f (t .rules) d) 32 []) j) e ∙ ap (λ l. at l j) (rowsOf-default f (t .rules) g))
         (ap length (a .0 .ranges) ∙ sym one) (omega arith) (b .0 .few))
 
--- by the arrays of a table its conversion
+-- by the array of a table its conversion
 pub conversion-flat : (t : Table) (u : List ℕ) → Shaped t → Narrow t →
-    flatConversion (slotWords t) (rangeWords t) (blockWords t) (length (t .rules)) (isSome (t .default)) u ≡ convert t u
+    flatConversion (loadedWords t) (length (t .rules)) (isSome (t .default)) u ≡ convert t u
 conversion-flat t u s w = ap (λ b. convert b u) (table-flat t s w) ∙ convert-bare t u

@@ -18,7 +18,7 @@ use Rattle.meaning.specs.Table.{Range, Group, Table, within, inRanges, e
 use Rattle.meaning.specs.Block.{at, blockSize}
 use Rattle.meaning.specs.Value.{fitsWord}
 use Rattle.meaning.specs.Meaning.{fits, better, best, orDefault, choose}
-use Rattle.meaning.specs.bridge.Flat.{rangesAt, patternAt, groupAt, tableAt}
+use Rattle.meaning.specs.bridge.Flat.{slotsFrom, rangeAt, rangesAt, patternAt, groupAt, tableAt}
 use Rattle.meaning.proofs.Laws.Prefix.{fitsWord-length}
 
 -- lists made by number
@@ -55,36 +55,32 @@ module _ {A : Type 0} (f : ℕ → A) where
 pub take-next : (u : List ℕ) (a n m : ℕ) → a < length u → n ≡ suc m → take n (drop a u) ≡ at u a ∷ take m (drop (a + 1) u)
 take-next u a n m h e = ap (λ k. take k (drop a u)) e ∙ ap (take (suc m)) (drop-cons u a 0 h) ∙ ap (λ k. at u a ∷ take m (drop k u)) (sym (add-one a))
 
--- a range of a place
-abbrev pub rangeAt : List ℕ → ℕ → ℕ → Range
-rangeAt ranges place k = record { lowest = at ranges (8 * place + 2 * k); highest = at ranges (8 * place + 2 * k + 1) }
-
 -- a rule read back
-pub rule-at : (slots ranges blocks : List ℕ) (n : ℕ) (d : Bool) (r : ℕ) → r < n →
-    ruleAt (tableAt slots ranges blocks n d) r ≡ groupAt slots ranges blocks r
+pub rule-at : (loaded : List ℕ) (n : ℕ) (d : Bool) (r : ℕ) → r < n →
+    ruleAt (tableAt loaded n d) r ≡ groupAt loaded r
 unfolding tableAt
-rule-at slots ranges blocks n d r h =
-    getD-tab (groupAt slots ranges blocks) 0 n r (everyCharacter []) h ∙ ap (groupAt slots ranges blocks) (zero-add r)
+rule-at loaded n d r h =
+    getD-tab (groupAt loaded) 0 n r (everyCharacter []) h ∙ ap (groupAt loaded) (zero-add r)
 
 -- the character lies in a range of the place, from number k on
-module _ (slots ranges : List ℕ) (place c : ℕ) where
+module _ (loaded : List ℕ) (place c : ℕ) where
   abbrev pub inFrom : ℕ → Bool
-  inFrom k = inRanges (tabFrom k (at slots place - k) (rangeAt ranges place)) c
+  inFrom k = inRanges (tabFrom k (at loaded (slotsFrom + place) - k) (rangeAt loaded place)) c
 
-  pub inFrom-start : inRanges (rangesAt slots ranges place) c ≡ inFrom 0
+  pub inFrom-start : inRanges (rangesAt loaded place) c ≡ inFrom 0
   unfolding rangesAt
-  inFrom-start = ap (λ rs. inRanges rs c) (tab-start (rangeAt ranges place) (at slots place))
+  inFrom-start = ap (λ rs. inRanges rs c) (tab-start (rangeAt loaded place) (at loaded (slotsFrom + place)))
 
-  pub inFrom-next : (k : ℕ) (b : Bool) → k < at slots place → b ≡ within c (rangeAt ranges place k) → inFrom k ≡ b || inFrom (k + 1)
-  inFrom-next k b h e = ap (λ rs. inRanges rs c) (tab-next (rangeAt ranges place) (at slots place) k h) ∙ ap (λ x. x || inFrom (k + 1)) (sym e)
+  pub inFrom-next : (k : ℕ) (b : Bool) → k < at loaded (slotsFrom + place) → b ≡ within c (rangeAt loaded place k) → inFrom k ≡ b || inFrom (k + 1)
+  inFrom-next k b h e = ap (λ rs. inRanges rs c) (tab-next (rangeAt loaded place) (at loaded (slotsFrom + place)) k h) ∙ ap (λ x. x || inFrom (k + 1)) (sym e)
 
-  pub inFrom-end : (k : ℕ) → at slots place ≤ k → inFrom k ≡ false
-  inFrom-end k h = ap (λ rs. inRanges rs c) (tab-end (rangeAt ranges place) (at slots place) k h)
+  pub inFrom-end : (k : ℕ) → at loaded (slotsFrom + place) ≤ k → inFrom k ≡ false
+  inFrom-end k h = ap (λ rs. inRanges rs c) (tab-end (rangeAt loaded place) (at loaded (slotsFrom + place)) k h)
 
 -- the characters from place a + p on lie in the ranges of the positions from p on
-module _ (slots ranges : List ℕ) (place size : ℕ) (u : List ℕ) (a : ℕ) where
+module _ (loaded : List ℕ) (place size : ℕ) (u : List ℕ) (a : ℕ) where
   abbrev positionAt : ℕ → List Range
-  positionAt p = rangesAt slots ranges (place + p)
+  positionAt p = rangesAt loaded (place + p)
 
   abbrev pub fitsFrom : ℕ → Bool
   fitsFrom p = fitsWord (tabFrom p (size - p) positionAt) (take (size - p) (drop (a + p) u))
@@ -138,85 +134,85 @@ module _ (g : Group) (rest : List ℕ) where
       ends true h = eq-eqb (length rest) (g .size) (h refl)
 
 -- the same of a group read back, on the input from place a on
-module _ (slots ranges blocks : List ℕ) (g : ℕ) (u : List ℕ) (a : ℕ) where
+module _ (loaded : List ℕ) (g : ℕ) (u : List ℕ) (a : ℕ) where
   abbrev size : ℕ
-  size = at blocks (blockSize * g)
+  size = at loaded (blockSize * g)
 
   abbrev fitting : Bool
-  fitting = fits (groupAt slots ranges blocks g) (drop a u)
+  fitting = fits (groupAt loaded g) (drop a u)
 
   pub flat-short : length u - a < size → fitting ≡ false
   unfolding groupAt patternAt
   flat-short h =
-      fits-short (groupAt slots ranges blocks g) (drop a u) (length-tab (λ p. rangesAt slots ranges (8 * g + p)) 0 size) (rw length-drop h)
+      fits-short (groupAt loaded g) (drop a u) (length-tab (λ p. rangesAt loaded (8 * g + p)) 0 size) (rw length-drop h)
 
-  pub flat-early : at blocks (blockSize * g + 1) ≡ 1 → size < length u - a → fitting ≡ false
+  pub flat-early : at loaded (blockSize * g + 1) ≡ 1 → size < length u - a → fitting ≡ false
   unfolding groupAt
-  flat-early e h = fits-early (groupAt slots ranges blocks g) (drop a u) (eq-eqb (at blocks (blockSize * g + 1)) 1 e) (rw length-drop h)
+  flat-early e h = fits-early (groupAt loaded g) (drop a u) (eq-eqb (at loaded (blockSize * g + 1)) 1 e) (rw length-drop h)
 
-  pub flat-word : (b : Bool) → (at blocks (blockSize * g + 1) ≡ 1 → length u - a ≡ size) →
-      b ≡ fitsWord (tabFrom 0 size (λ p. rangesAt slots ranges (8 * g + p))) (take size (drop a u)) → b ≡ fitting
+  pub flat-word : (b : Bool) → (at loaded (blockSize * g + 1) ≡ 1 → length u - a ≡ size) →
+      b ≡ fitsWord (tabFrom 0 size (λ p. rangesAt loaded (8 * g + p))) (take size (drop a u)) → b ≡ fitting
   unfolding groupAt patternAt
   flat-word b f e =
-      e ∙ sym (fits-word (groupAt slots ranges blocks g) (drop a u) (λ e. length-drop a u ∙ f (eqb-true (at blocks (blockSize * g + 1)) 1 e)))
+      e ∙ sym (fits-word (groupAt loaded g) (drop a u) (λ e. length-drop a u ∙ f (eqb-true (at loaded (blockSize * g + 1)) 1 e)))
 
 -- the choice among the first rules, kept as two numbers: the rule and its length, or n and 9 for none
-module _ (slots ranges blocks : List ℕ) (n : ℕ) (d : Bool) (u : List ℕ) where
+module _ (loaded : List ℕ) (n : ℕ) (d : Bool) (u : List ℕ) where
   abbrev table : Table
-  table = tableAt slots ranges blocks n d
+  table = tableAt loaded n d
 
   abbrev pub Kept : Option ℕ → ℕ → ℕ → Type 0
   Kept none b l = (b ≡ n) × (l ≡ 9)
-  Kept (some x) b l = (b ≡ x) × (x < n) × (l ≡ at blocks (blockSize * x))
+  Kept (some x) b l = (b ≡ x) × (x < n) × (l ≡ at loaded (blockSize * x))
 
   -- among the rules below r
   abbrev pub KeptOf : ℕ → ℕ → ℕ → Type 0
   KeptOf r b l = Kept (best table r u) b l
 
-  rule-size : (r : ℕ) → r < n → ruleAt table r .size ≡ at blocks (blockSize * r)
+  rule-size : (r : ℕ) → r < n → ruleAt table r .size ≡ at loaded (blockSize * r)
   unfolding groupAt
-  rule-size r h = ap (λ g. g .size) (rule-at slots ranges blocks n d r h)
+  rule-size r h = ap (λ g. g .size) (rule-at loaded n d r h)
 
   pub kept-none : KeptOf 0 n 9
   unfolding best
   kept-none = (refl, refl)
 
   module _ (r b l : ℕ) (h : r < n) where
-    by-rule : (P : Option ℕ → Type 0) → P (better table (best table r u) r (fits (groupAt slots ranges blocks r) u)) → P (best table (r + 1) u)
+    by-rule : (P : Option ℕ → Type 0) → P (better table (best table r u) r (fits (groupAt loaded r) u)) → P (best table (r + 1) u)
     unfolding best
-    by-rule P p = rw (add-one r, rule-at slots ranges blocks n d r h) p
+    by-rule P p = rw (add-one r, rule-at loaded n d r h) p
 
     -- rule r does not fit, or is no shorter than what is kept
-    pub kept-skip : (f : Bool) → f ≡ fits (groupAt slots ranges blocks r) u → f ≡ false → KeptOf r b l → KeptOf (r + 1) b l
+    pub kept-skip : (f : Bool) → f ≡ fits (groupAt loaded r) u → f ≡ false → KeptOf r b l → KeptOf (r + 1) b l
     kept-skip f p e k = by-rule (λ o. Kept o b l) (rw (← p, e) k)
 
-    pub kept-longer : l ≤ at blocks (blockSize * r) → at blocks (blockSize * r) ≤ 8 → KeptOf r b l → KeptOf (r + 1) b l
-    kept-longer m s k = by-rule (λ o. Kept o b l) (go (best table r u) (fits (groupAt slots ranges blocks r) u) k)
+    pub kept-longer : l ≤ at loaded (blockSize * r) → at loaded (blockSize * r) ≤ 8 → KeptOf r b l → KeptOf (r + 1) b l
+    kept-longer m s k = by-rule (λ o. Kept o b l) (go (best table r u) (fits (groupAt loaded r) u) k)
       where
         go : (o : Option ℕ) (f : Bool) → Kept o b l → Kept (better table o r f) b l
         go none false k = k
         go (some x) false k = k
         go none true k = absurd (omega arith)
         go (some x) true k =
-            rw (rule-size r h, rule-size x (k .1), le-ltb (at blocks (blockSize * r)) (at blocks (blockSize * x)) (omega arith)) k
+            rw (rule-size r h, rule-size x (k .1), le-ltb (at loaded (blockSize * r)) (at loaded (blockSize * x)) (omega arith)) k
 
     -- rule r fits and is shorter
-    pub kept-shorter : (f : Bool) → at blocks (blockSize * r) < l → f ≡ fits (groupAt slots ranges blocks r) u → f ≡ true → KeptOf r b l → KeptOf (r + 1) r (at blocks (blockSize * r))
-    kept-shorter f m p e k = by-rule (λ o. Kept o r (at blocks (blockSize * r))) (rw (← p, e) (go (best table r u) k))
+    pub kept-shorter : (f : Bool) → at loaded (blockSize * r) < l → f ≡ fits (groupAt loaded r) u → f ≡ true → KeptOf r b l → KeptOf (r + 1) r (at loaded (blockSize * r))
+    kept-shorter f m p e k = by-rule (λ o. Kept o r (at loaded (blockSize * r))) (rw (← p, e) (go (best table r u) k))
       where
-        go : (o : Option ℕ) → Kept o b l → Kept (better table o r true) r (at blocks (blockSize * r))
+        go : (o : Option ℕ) → Kept o b l → Kept (better table o r true) r (at loaded (blockSize * r))
         go none k = (refl, h, refl)
         go (some x) k =
-            rw (rule-size r h, rule-size x (k .1), lt-ltb (at blocks (blockSize * r)) (at blocks (blockSize * x)) (omega arith)) (refl, h, refl)
+            rw (rule-size r h, rule-size x (k .1), lt-ltb (at loaded (blockSize * r)) (at loaded (blockSize * x)) (omega arith)) (refl, h, refl)
 
   pub kept-choose : (b l : ℕ) → KeptOf n b l → choose table u ≡ cond (ltb b n) (some b) (cond d (some defaultNumber) none)
   unfolding choose tableAt
-  kept-choose b l k = ap (λ m. orDefault table (best table m u)) (length-tab (groupAt slots ranges blocks) 0 n) ∙ go (best table n u) k
+  kept-choose b l k = ap (λ m. orDefault table (best table m u)) (length-tab (groupAt loaded) 0 n) ∙ go (best table n u) k
     where
       go : (o : Option ℕ) → Kept o b l → orDefault table o ≡ cond (ltb b n) (some b) (cond d (some defaultNumber) none)
       go none k = rw (le-ltb b n (omega arith)) (left d)
         where
-          left : (d : Bool) → orDefault (tableAt slots ranges blocks n d) none ≡ cond d (some defaultNumber) none
+          left : (d : Bool) → orDefault (tableAt loaded n d) none ≡ cond d (some defaultNumber) none
           left true = refl
           left false = refl
       go (some x) k = rw (lt-ltb b n (omega arith)) (ap some (sym (k .0)))

@@ -17,7 +17,7 @@ use Rattle.lists.proofs.Laws.Sets.{tab-map}
 use Rattle.meaning.specs.Table.{Output, sum, Group}
 use Rattle.meaning.specs.Value.{dot, value, IsCharacter}
 use Rattle.meaning.specs.Meaning.{written}
-use Rattle.meaning.specs.Block.{word, bit, entry, block, at, wordSum, blockOutput, blockSize, entrySize}
+use Rattle.meaning.specs.Block.{word, bit, entry, block, at, wordSum, entryValue, blockOutput, blockSize, entrySize}
 use Rattle.meaning.proofs.Laws.Seven.{sum-swap}
 
 -- z and n differ by a multiple of 65536
@@ -171,7 +171,7 @@ entry-writes (sum c ks) b w n m next few h e =
 
 pub block-writes : (g : Group) (w b : List ℕ) → g .size ≤ 8 → length (g .outputs) ≤ 8 → length w ≡ g .size →
     Each (λ o. IsCharacter (value o w)) (g .outputs) → ((j : ℕ) → j < blockSize → at b j ≡ at (block g) j) → blockOutput b w ≡ written g w
-unfolding blockOutput written
+unfolding entryValue blockOutput written
 block-writes g w b small few size safe e =
     let f : ℕ → ℕ → ℕ = λ k i. wordSum (at b (3 + entrySize * i)) (take k (drop (4 + entrySize * i) b)) w in
     let d = sum (pos 0) [] in

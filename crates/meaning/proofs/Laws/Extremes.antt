@@ -2,7 +2,7 @@
 -- By one step of the definitions for each position, and the laws of sums over ℤ.
 use mathlib.Core.Bool.{Bool, true, false, not, cond, Bool·beq}
 use mathlib.Core.List.{List, [], _∷_, map}
-use mathlib.Core.Path.{_≡_, refl, sym, ap, _∙_, subst}
+use mathlib.Core.Path.{_≡_, refl, sym, ap, ap₂, _∙_, subst}
 use Prim.Native.Nat.{ℕ, zero, suc, _+_, _*_, _-_, _^_, min, max, _≤_, _<_}
 use native.Mathlib.Omega.{arith}
 use native.Mathlib.Nat.{mul-le-mul, zero-mul}
@@ -22,10 +22,6 @@ use Rattle.meaning.specs.Reader.{signed}
 use Rattle.meaning.specs.Value.{dot, lowestOf, highestOf, extreme, value, safeOutput}
 use Rattle.meaning.specs.bridge.Flat.{rangesAt, patternAt}
 
--- range k of a place
-abbrev pub rangeAt : List ℕ → ℕ → ℕ → Range
-rangeAt ranges place k = record { lowest = at ranges (8 * place + 2 * k); highest = at ranges (8 * place + 2 * k + 1) }
-
 -- a table from a number on: at its end, one before, and from 0
 tab-last : {A : Type 0} (f : ℕ → A) (n : ℕ) → 0 < n → tabFrom (n - 1) (n - (n - 1)) f ≡ f (n - 1) ∷ []
 tab-last f n h = let e : n - (n - 1) ≡ 1 = omega arith in rw e refl
@@ -42,35 +38,42 @@ tab-whole f k n h =
     let d : n - k ≡ n = omega arith in
     ap (λ m. tabFrom k m f) d ∙ ap (λ m. tabFrom m n f) e
 
--- an end of a list of ranges, taken from the last range to the first
-module _ (end : List Range → ℕ) (of : Range → ℕ) (op : ℕ → ℕ → ℕ) (one : (r : Range) → end (r ∷ []) ≡ of r)
-    (more : (r s : Range) (rs : List Range) → end (r ∷ (s ∷ rs)) ≡ op (of r) (end (s ∷ rs))) (f : ℕ → Range) where
-  end-last : (n : ℕ) → 0 < n → of (f (n - 1)) ≡ end (tabFrom (n - 1) (n - (n - 1)) f)
-  end-last n h = sym (ap end (tab-last f n h) ∙ one (f (n - 1)))
+-- the lowest or the highest character of a list of ranges, taken from the last range to the first
+abbrev pub endOf : Bool → List Range → ℕ
+endOf lowest rs = cond lowest (lowestOf rs) (highestOf rs)
 
-  end-before : (k n : ℕ) → 0 < k → k < n → op (of (f (k - 1))) (end (tabFrom k (n - k) f)) ≡ end (tabFrom (k - 1) (n - (k - 1)) f)
-  end-before k n h l =
-      let e : n - k ≡ suc (n - suc k) = omega arith in
-      sym (ap end (tab-before f k n h (omega arith)) ∙ rw e (more (f (k - 1)) (f k) (tabFrom (suc k) (n - suc k) f)))
+abbrev rangeEnd : Bool → Range → ℕ
+rangeEnd lowest r = cond lowest (r .lowest) (r .highest)
 
-module _ (f : ℕ → Range) where
-  pub lowest-last : (n : ℕ) → 0 < n → f (n - 1) .lowest ≡ lowestOf (tabFrom (n - 1) (n - (n - 1)) f)
-  unfolding lowestOf
-  lowest-last = end-last lowestOf (λ r. r .lowest) min (λ r. refl) (λ r s rs. refl) f
+abbrev outer : Bool → ℕ → ℕ → ℕ
+outer lowest a b = cond lowest (min a b) (max a b)
 
-  pub lowest-before : (k n : ℕ) → 0 < k → k < n →
-      min (f (k - 1) .lowest) (lowestOf (tabFrom k (n - k) f)) ≡ lowestOf (tabFrom (k - 1) (n - (k - 1)) f)
-  unfolding lowestOf
-  lowest-before = end-before lowestOf (λ r. r .lowest) min (λ r. refl) (λ r s rs. refl) f
+module _ (f : ℕ → Range) (n : ℕ) where
+  pub end-none : (lowest : Bool) → n ≡ 0 → 0 ≡ endOf lowest (tabFrom 0 n f)
+  unfolding lowestOf highestOf
+  end-none true e = rw e refl
+  end-none false e = rw e refl
 
-  pub highest-last : (n : ℕ) → 0 < n → f (n - 1) .highest ≡ highestOf (tabFrom (n - 1) (n - (n - 1)) f)
-  unfolding highestOf
-  highest-last = end-last highestOf (λ r. r .highest) max (λ r. refl) (λ r s rs. refl) f
+  pub end-last : (lowest : Bool) → 0 < n → {x : ℕ} → x ≡ rangeEnd lowest (f (n - 1)) → x ≡ endOf lowest (tabFrom (n - 1) (n - (n - 1)) f)
+  unfolding lowestOf highestOf
+  end-last true h e = e ∙ sym (ap lowestOf (tab-last f n h))
+  end-last false h e = e ∙ sym (ap highestOf (tab-last f n h))
 
-  pub highest-before : (k n : ℕ) → 0 < k → k < n →
-      max (f (k - 1) .highest) (highestOf (tabFrom k (n - k) f)) ≡ highestOf (tabFrom (k - 1) (n - (k - 1)) f)
-  unfolding highestOf
-  highest-before = end-before highestOf (λ r. r .highest) max (λ r. refl) (λ r s rs. refl) f
+  pub end-before : (lowest : Bool) (k : ℕ) → 0 < k → k < n → {x y z : ℕ} → x ≡ outer lowest y z → y ≡ rangeEnd lowest (f (k - 1)) →
+      z ≡ endOf lowest (tabFrom k (n - k) f) → x ≡ endOf lowest (tabFrom (k - 1) (n - (k - 1)) f)
+  unfolding lowestOf highestOf
+  end-before lowest k h l {x} {y} {z} p q r = p ∙ ap₂ (outer lowest) q r ∙ by-end lowest
+    where
+      rest : tabFrom (k - 1) (n - (k - 1)) f ≡ f (k - 1) ∷ (f k ∷ tabFrom (suc k) (n - suc k) f)
+      rest =
+          let e : n - k ≡ suc (n - suc k) = omega arith in tab-before f k n h (omega arith) ∙ ap (λ m. f (k - 1) ∷ tabFrom k m f) e
+
+      later : tabFrom k (n - k) f ≡ f k ∷ tabFrom (suc k) (n - suc k) f
+      later = let e : n - k ≡ suc (n - suc k) = omega arith in ap (λ m. tabFrom k m f) e
+
+      by-end : (b : Bool) → outer b (rangeEnd b (f (k - 1))) (endOf b (tabFrom k (n - k) f)) ≡ endOf b (tabFrom (k - 1) (n - (k - 1)) f)
+      by-end true = rw (rest, later) refl
+      by-end false = rw (rest, later) refl
 
 -- A difference, with a number added to either side.
 
@@ -160,44 +163,44 @@ at-most p n =
 -- The sum over the positions from k on of output character j of group g: over none, with one before, and over all.
 
 abbrev pub coefficientsFrom : List ℕ → ℕ → ℕ → ℕ → List ℤ
-coefficientsFrom blocks g j k = map (signed 16) (take (at blocks (blockSize * g) - k) (drop (blockSize * g + 4 + entrySize * j + k) blocks))
+coefficientsFrom loaded g j k = map (signed 16) (take (at loaded (blockSize * g) - k) (drop (blockSize * g + 4 + entrySize * j + k) loaded))
 
-abbrev pub sumFrom : Bool → List ℕ → List ℕ → List ℕ → ℕ → ℕ → ℕ → ℤ
-sumFrom sign slots ranges blocks g j k =
-    dot (coefficientsFrom blocks g j k)
-    (extreme sign (coefficientsFrom blocks g j k) (tabFrom k (at blocks (blockSize * g) - k) (λ p. rangesAt slots ranges (8 * g + p))))
+abbrev pub sumFrom : Bool → List ℕ → ℕ → ℕ → ℕ → ℤ
+sumFrom sign loaded g j k =
+    dot (coefficientsFrom loaded g j k)
+    (extreme sign (coefficientsFrom loaded g j k) (tabFrom k (at loaded (blockSize * g) - k) (λ p. rangesAt loaded (8 * g + p))))
 
-module _ (sign : Bool) (slots ranges blocks : List ℕ) (g j : ℕ) where
-  pub sum-last : sumFrom sign slots ranges blocks g j (at blocks (blockSize * g)) ≡ pos 0
+module _ (sign : Bool) (loaded : List ℕ) (g j : ℕ) where
+  pub sum-last : sumFrom sign loaded g j (at loaded (blockSize * g)) ≡ pos 0
   unfolding dot
-  sum-last = let e : at blocks (blockSize * g) - at blocks (blockSize * g) ≡ 0 = omega arith in rw e refl
+  sum-last = let e : at loaded (blockSize * g) - at loaded (blockSize * g) ≡ 0 = omega arith in rw e refl
 
-  pub sum-before : (k : ℕ) → 0 < k → k ≤ at blocks (blockSize * g) → blockSize * g + 4 + entrySize * j + at blocks (blockSize * g) ≤ length blocks →
-      let a = signed 16 (at blocks (blockSize * g + 4 + entrySize * j + (k - 1))) in
-      let rs = rangesAt slots ranges (8 * g + (k - 1)) in
-      sumFrom sign slots ranges blocks g j (k - 1)
-      ≡ a *ℤ pos (cond (Bool·beq (nonNeg a) sign) (lowestOf rs) (highestOf rs)) +ℤ sumFrom sign slots ranges blocks g j k
+  pub sum-before : (k : ℕ) → 0 < k → k ≤ at loaded (blockSize * g) → blockSize * g + 4 + entrySize * j + at loaded (blockSize * g) ≤ length loaded →
+      let a = signed 16 (at loaded (blockSize * g + 4 + entrySize * j + (k - 1))) in
+      let rs = rangesAt loaded (8 * g + (k - 1)) in
+      sumFrom sign loaded g j (k - 1)
+      ≡ a *ℤ pos (cond (Bool·beq (nonNeg a) sign) (lowestOf rs) (highestOf rs)) +ℤ sumFrom sign loaded g j k
   unfolding dot extreme
   sum-before k h l fit =
       let base = blockSize * g + 4 + entrySize * j in
-      let n = at blocks (blockSize * g) in
+      let n = at loaded (blockSize * g) in
       let e : n - (k - 1) ≡ suc (n - k) = omega arith in
       let d : suc (base + (k - 1)) ≡ base + k = omega arith in
-      let i : base + (k - 1) < length blocks = omega arith in
-      let row : take (n - (k - 1)) (drop (base + (k - 1)) blocks) ≡ at blocks (base + (k - 1)) ∷ take (n - k) (drop (base + k) blocks)
-      = rw (e, drop-cons blocks (base + (k - 1)) 0 i, d) refl in
-      rw (row, tab-before (λ p. rangesAt slots ranges (8 * g + p)) k n h l) refl
+      let i : base + (k - 1) < length loaded = omega arith in
+      let row : take (n - (k - 1)) (drop (base + (k - 1)) loaded) ≡ at loaded (base + (k - 1)) ∷ take (n - k) (drop (base + k) loaded)
+      = rw (e, drop-cons loaded (base + (k - 1)) 0 i, d) refl in
+      rw (row, tab-before (λ p. rangesAt loaded (8 * g + p)) k n h l) refl
 
   pub sum-whole : (k : ℕ) → k ≤ 0 →
-      let ks = map (signed 16) (take (at blocks (blockSize * g)) (drop (blockSize * g + 4 + entrySize * j) blocks)) in
-      sumFrom sign slots ranges blocks g j k ≡ dot ks (extreme sign ks (patternAt slots ranges g (at blocks (blockSize * g))))
+      let ks = map (signed 16) (take (at loaded (blockSize * g)) (drop (blockSize * g + 4 + entrySize * j) loaded)) in
+      sumFrom sign loaded g j k ≡ dot ks (extreme sign ks (patternAt loaded g (at loaded (blockSize * g))))
   unfolding patternAt
   sum-whole k h =
-      let n = at blocks (blockSize * g) in
+      let n = at loaded (blockSize * g) in
       let e : n - k ≡ n = omega arith in
       let d : blockSize * g + 4 + entrySize * j + k ≡ blockSize * g + 4 + entrySize * j = omega arith in
-      let ks : coefficientsFrom blocks g j k ≡ map (signed 16) (take n (drop (blockSize * g + 4 + entrySize * j) blocks)) = rw (e, d) refl in
-      rw (ks, tab-whole (λ p. rangesAt slots ranges (8 * g + p)) k n h) refl
+      let ks : coefficientsFrom loaded g j k ≡ map (signed 16) (take n (drop (blockSize * g + 4 + entrySize * j) loaded)) = rw (e, d) refl in
+      rw (ks, tab-whole (λ p. rangesAt loaded (8 * g + p)) k n h) refl
 
 -- refusal 7's test of an output character by the two differences
 module _ (ps : List (List Range)) (c : ℤ) (ks : List ℤ) {x : ℤ} (dotted : x ≡ dot ks (extreme true ks ps)) (p n : ℕ) (least : subℕ p n ≡ c +ℤ x) where

@@ -1,7 +1,7 @@
 -- Numbers of 16 and 32 bits kept modulo 65536 and 2 ^ 32: the bits that a signed number was read from.
 -- By the two cases of `signed`, below half and from half on.
-use mathlib.Core.Path.{_≡_, refl}
-use Prim.Native.Nat.{ℕ, suc, _-_, _%_, _^_, _≤_, _<_}
+use mathlib.Core.Path.{_≡_, refl, ap, ap₂, _∙_}
+use Prim.Native.Nat.{ℕ, suc, _+_, _-_, _*_, _%_, _/_, _^_, _≤_, _<_}
 use native.Mathlib.Nat.{mod-eq-of-lt}
 use native.Mathlib.Omega.{arith}
 use lib.Dec.{ltb, nltb→le}
@@ -32,9 +32,15 @@ word-constant c h =
     signed-cases (λ z. word z ≡ c % 65536) 32 c h refl
     (let k : c < 4294967296 = h in let e : 65535 - (4294967296 - suc c) % 65536 ≡ c % 65536 = omega arith in e)
 
-pub bits-signed : (c : ℕ) → c < 2 ^ 32 → bits (signed 32 c) ≡ c
+bits-signed : (c : ℕ) → c < 2 ^ 32 → bits (signed 32 c) ≡ c
 bits-signed c h =
     signed-cases (λ z. bits z ≡ c) 32 c h (mod-eq-of-lt h)
     (let m : 2 ^ 32 - suc c < 2 ^ 32 = omega arith in
     let e : (2 ^ 32 - suc c) % 2 ^ 32 ≡ 2 ^ 32 - suc c = mod-eq-of-lt m in
     omega arith)
+
+pub high-signed : (c : ℕ) → c < 2 ^ 32 → bits (signed 32 c) / 65536 ≡ c / 65536
+high-signed c h = ap (λ x. x / 65536) (bits-signed c h)
+
+pub halves-signed : (c : ℕ) → c < 2 ^ 32 → word (signed 32 c) + 65536 * (bits (signed 32 c) / 65536) ≡ c
+halves-signed c h = ap₂ (λ x y. x + 65536 * y) (word-constant c h) (high-signed c h) ∙ omega arith

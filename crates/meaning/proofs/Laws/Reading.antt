@@ -229,12 +229,12 @@ taken-kept s (range p r) f m n o h =
     let a = not (ranging s) in
     let b = leb (g .size) p in
     let c = ltb (suc p) (length ps) in
-    let t = or-none a b (or-none (a || b) c (or-none (a || b || c) (eqb (suc p) (length ps) && leb (r .lowest) (lastD r (lastD [] ps) .highest)) m .0) .0) in
+    let t = or-none a b (or-none (a || b) c (or-none (a || b || c) _ m .0) .0) in
     range-kept p r (s .table .rules) (s .table .default) f (nleb→lt (g .size) p (t .1)) (nltb→le (length ps) p n)
     (subst (λ b. Kept b (s .table)) (of-T (ranging s) (not-not (ranging s) (t .0))) h)
 taken-kept s (output c) f m n o h =
     let g = top (s .table .rules) (s .table .default) in
-    outputs-kept (λ os. os ++ (sum (signed 32 c) [] ∷ [])) (ranging s) (s .table .rules) (s .table .default) h (all-full s h n) (output-more (signed 32 c) (g .size) (g .outputs) o)
+    outputs-kept _ (ranging s) (s .table .rules) (s .table .default) h (all-full s h n) (output-more _ (g .size) (g .outputs) o)
 taken-kept s (term p a) f m n o h =
     let g = top (s .table .rules) (s .table .default) in
     let kinds = eqb (s .kind) 3 || eqb (s .kind) 4 in

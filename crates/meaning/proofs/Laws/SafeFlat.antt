@@ -1,10 +1,10 @@
--- Refusal 7's test on the flat arrays of a table is the table's own test.
--- What is read back of the arrays is the table, its coefficients filled up with zeros, which change no value.
+-- Refusal 7's test on the array of a table is the table's own test.
+-- What is read back of the array is the table, its coefficients filled up with zeros, which change no value.
 use mathlib.Core.Bool.{Bool, true, false, _&&_, cond}
 use mathlib.Core.List.{List, [], _∷_, _++_, map}
 use mathlib.Core.Option.{Option, none, some}
 use mathlib.Core.Path.{_≡_, refl, sym, ap, ap₂, subst, _∙_}
-use Prim.Native.Nat.{ℕ, zero, suc, _+_, _*_, _≤_, _<_}
+use Prim.Native.Nat.{ℕ, zero, suc, _+_, _*_, _/_, _≤_, _<_}
 use native.Mathlib.Omega.{arith}
 use lib.Dec.{T, lit<}
 use lib.IntN.{ℤ, pos, _+ℤ_, zero-*ℤ}
@@ -17,16 +17,17 @@ use Rattle.lists.proofs.Laws.Each.{each-front, each-back, each-getD, all-each, 
 use Rattle.lists.proofs.Laws.Parts.{getD-pad, getD-rows}
 use Rattle.meaning.specs.Table.{Range, Output, sum, Group, Table, everyCharacter, ruleAt}
 use Rattle.meaning.specs.Reader.{reach, signed}
-use Rattle.meaning.specs.Block.{at, word, bit, entry, block, blockSize, blocksSize, entrySize}
+use Rattle.meaning.specs.Block.{at, word, bit, entry, block, blockSize, entrySize}
 use Rattle.meaning.specs.Value.{dot, value, extreme, safeOutput, safe}
-use Rattle.meaning.specs.bridge.Flat.{slotWords, rangeWords, blockWords, constantOf, constantWords, patternAt, groupAt, tableAt, outputAt, safeGroupAt, safeAt}
+use Rattle.meaning.specs.bridge.Flat.{bits, highOf, highWords, loadedWords, highsFrom, patternAt, groupAt, tableAt, outputAt, safeGroupAt, safeAt}
 use Rattle.meaning.proofs.Laws.Shape.{ShapedGroup, ShapedDefault, Shaped}
 use Rattle.meaning.proofs.Laws.Exact.{length-entry}
 use Rattle.meaning.proofs.Laws.Narrow.{Bits, NarrowOutput, NarrowGroup, Narrow}
-use Rattle.meaning.proofs.Laws.Rows.{fill, length-fill, length-rows, rowsOf, rows-at, rowsOf-rule, rowsOf-default}
-use Rattle.meaning.proofs.Laws.Numbers.{word-signed, bits-signed}
+use Rattle.meaning.proofs.Laws.Rows.{fill, length-fill, rowsOf, rows-at, rowsOf-rule, rowsOf-default}
+use Rattle.meaning.proofs.Laws.Loaded.{loaded-length, loaded-high}
+use Rattle.meaning.proofs.Laws.Numbers.{word-signed, halves-signed}
 use Rattle.meaning.proofs.Laws.Choosing.{rule-at}
-use Rattle.meaning.proofs.Laws.Bare.{bareGroup, bareDefault, ruleAt-bare, Row, size-flat, table-flat}
+use Rattle.meaning.proofs.Laws.Bare.{bareGroup, bareDefault, ruleAt-bare, Row, block-flat, size-flat, table-flat}
 
 -- coefficients filled up with zeros
 
@@ -59,8 +60,8 @@ widen-safe ps n (sum c ks) h = rw (dot-filled true n ks ps h, dot-filled false n
 signed-word : (z : ℤ) → Bits 16 z → signed 16 (word z) ≡ z
 signed-word z b = ap (λ x. signed 16 (word x)) (b .same) ∙ ap (signed 16) (word-signed (b .number) (b .below)) ∙ sym (b .same)
 
-signed-constant : (c : ℤ) (ks : List ℤ) → Bits 32 c → signed 32 (constantOf (sum c ks)) ≡ c
-signed-constant c ks b = ap (λ x. signed 32 (constantOf (sum x ks))) (b .same) ∙ ap (signed 32) (bits-signed (b .number) (b .below)) ∙ sym (b .same)
+signed-constant : (c : ℤ) → Bits 32 c → signed 32 (word c + 65536 * (bits c / 65536)) ≡ c
+signed-constant c b = ap (signed 32) (ap (λ x. word x + 65536 * (bits x / 65536)) (b .same) ∙ halves-signed (b .number) (b .below)) ∙ sym (b .same)
 
 signed-words : (ks : List ℤ) (n i : ℕ) → Each (Bits 16) ks → i < n → signed 16 (at (map word ks) i) ≡ getD (zeros n ks) i (pos 0)
 unfolding signed
@@ -73,19 +74,23 @@ signed-words (a ∷ ks) (suc n) (suc i) b h = signed-words ks n i (b .1) (omega 
 abbrev wordsOf : Output → List ℕ
 wordsOf (sum c ks) = map word ks
 
-read-output : (n base x : ℕ) (blocks : List ℕ) (o : Output) → NarrowOutput o → x ≡ constantOf o → ((i : ℕ) → i < n → at blocks (base + i) ≡ at (wordsOf o) i) →
-    base + n ≤ length blocks → sum (signed 32 x) (map (signed 16) (take n (drop base blocks))) ≡ widen n o
+abbrev lowOf : Output → ℕ
+lowOf (sum c ks) = word c
+
+read-output : (n base low high : ℕ) (loaded : List ℕ) (o : Output) → NarrowOutput o → low ≡ lowOf o → high ≡ highOf o →
+    ((i : ℕ) → i < n → at loaded (base + i) ≡ at (wordsOf o) i) → base + n ≤ length loaded →
+    sum (signed 32 (low + 65536 * high)) (map (signed 16) (take n (drop base loaded))) ≡ widen n o
 unfolding signed
-read-output n base x blocks (sum c ks) b e f fit =
-    let row = drop base blocks in
+read-output n base low high loaded (sum c ks) b d e f fit =
+    let row = drop base loaded in
     let room : n ≤ length row = rw length-drop (omega arith) in
     let long : length (map (signed 16) (take n row)) ≡ n = length-map (take n row) (signed 16) ∙ length-take-le n row room in
-    ap₂ sum (ap (signed 32) e ∙ signed-constant c ks (b .0))
+    ap₂ sum (ap₂ (λ x y. signed 32 (x + 65536 * y)) d e ∙ signed-constant c (b .0))
     (ext-getD (pos 0) (map (signed 16) (take n row)) (zeros n ks) (long ∙ sym (length-fill (pos 0) n ks))
     (λ i h.
     let l : i < n = subst (λ m. i < m) long h in
     List·getD-map (signed 16) (take n row) i 0
-    ∙ ap (signed 16) (getD-take n row i 0 l ∙ getD-drop base blocks i 0 ∙ f i l)
+    ∙ ap (signed 16) (getD-take n row i 0 l ∙ getD-drop base loaded i 0 ∙ f i l)
     ∙ signed-words ks n i (b .1) l))
 
 -- a test of each element, by number
@@ -112,25 +117,25 @@ entry-word : (o : Output) (i : ℕ) → i < 8 → at (entry o) (suc i) ≡ at (w
 unfolding entry
 entry-word (sum c ks) i h = getD-pad 8 (map word ks) i h
 
-length-blocks : (t : Table) → length (blockWords t) ≡ blocksSize
-unfolding blockWords
-length-blocks t = length-rows blockSize block t
+entry-constant : (o : Output) → at (entry o) 0 ≡ lowOf o
+unfolding entry
+entry-constant (sum c ks) = refl
 
 abbrev testOf : Group → Bool
 testOf g = all (safeOutput (g .ranges)) (g .outputs)
 
 module _ (t : Table) (k : ℕ) (in-arrays : k < 33) (g : Group) (row : Row t k g)
-    (same : groupAt (slotWords t) (rangeWords t) (blockWords t) k ≡ bareGroup g)
+    (same : groupAt (loadedWords t) k ≡ bareGroup g)
     (small : g .size ≤ 8) (few : length (g .outputs) ≤ 8) (reaches : Each (λ o. reach o ≤ g .size) (g .outputs))
     (narrow : Each NarrowOutput (g .outputs)) where
   abbrev head : List ℕ
   head = g .size ∷ bit (g .anchored) ∷ length (g .outputs) ∷ flatMap entry (g .outputs)
 
-  in-block : (i : ℕ) → i < blockSize → at (blockWords t) (blockSize * k + i) ≡ at head i
-  unfolding blockWords block
-  in-block i h = row blockSize block i h ∙ getD-pad blockSize head i h
+  in-block : (i : ℕ) → i < blockSize → at (loadedWords t) (blockSize * k + i) ≡ at head i
+  unfolding block
+  in-block i h = block-flat t k in-arrays g row i h ∙ getD-pad blockSize head i h
 
-  pattern-same : patternAt (slotWords t) (rangeWords t) k (at (blockWords t) (blockSize * k)) ≡ g .ranges
+  pattern-same : patternAt (loadedWords t) k (at (loadedWords t) (blockSize * k)) ≡ g .ranges
   unfolding groupAt
   pattern-same = ap (λ x. x .ranges) same
 
@@ -138,45 +143,53 @@ module _ (t : Table) (k : ℕ) (in-arrays : k < 33) (g : Group) (row : Row t k g
     abbrev here : Output
     here = getD (g .outputs) j noOutput
 
-    constant-same : at (constantWords t) (8 * k + j) ≡ constantOf here
-    unfolding constantWords
-    constant-same = row 8 (λ g. map constantOf (g .outputs)) j (omega arith) ∙ List·getD-map constantOf (g .outputs) j noOutput
-
-    word-same : (i : ℕ) → i < 8 → at (blockWords t) (blockSize * k + 4 + entrySize * j + i) ≡ at (wordsOf here) i
-    word-same i h =
-        let a : blockSize * k + 4 + entrySize * j + i ≡ blockSize * k + (4 + entrySize * j + i) = omega arith in
-        let b : 4 + entrySize * j + i ≡ suc (suc (suc (entrySize * j + suc i))) = omega arith in
-        ap (at (blockWords t)) a
-        ∙ in-block (4 + entrySize * j + i) (omega arith)
+    -- number i of its entry
+    in-entry : (i m : ℕ) → m ≡ blockSize * k + (3 + (entrySize * j + i)) → i < entrySize → at (loadedWords t) m ≡ at (entry here) i
+    in-entry i m e h =
+        let b : 3 + (entrySize * j + i) ≡ suc (suc (suc (entrySize * j + i))) = omega arith in
+        ap (at (loadedWords t)) e
+        ∙ in-block (3 + (entrySize * j + i)) (omega arith)
         ∙ ap (at head) b
-        ∙ getD-rows entry 9 length-entry (g .outputs) j (suc i) noOutput inside (omega arith)
-        ∙ entry-word here i h
+        ∙ getD-rows entry 9 length-entry (g .outputs) j i noOutput inside h
 
-    output-same : outputAt (blockWords t) (constantWords t) k j ≡ widen (g .size) here
+    low-same : at (loadedWords t) (blockSize * k + 3 + entrySize * j) ≡ lowOf here
+    low-same = in-entry 0 (blockSize * k + 3 + entrySize * j) (omega arith) (lit< tt) ∙ entry-constant here
+
+    high-same : at (loadedWords t) (highsFrom + 8 * k + j) ≡ highOf here
+    unfolding highWords
+    high-same =
+        loaded-high t (highsFrom + 8 * k + j) (8 * k + j) (omega arith)
+        ∙ row 8 (λ g. map highOf (g .outputs)) j (omega arith)
+        ∙ List·getD-map highOf (g .outputs) j noOutput
+
+    word-same : (i : ℕ) → i < 8 → at (loadedWords t) (blockSize * k + 4 + entrySize * j + i) ≡ at (wordsOf here) i
+    word-same i h = in-entry (suc i) (blockSize * k + 4 + entrySize * j + i) (omega arith) (omega arith) ∙ entry-word here i h
+
+    output-same : outputAt (loadedWords t) k j ≡ widen (g .size) here
     unfolding outputAt
     output-same =
-        let fit : blockSize * k + 4 + entrySize * j + g .size ≤ length (blockWords t) = omega (arith, length-blocks t) in
-        rw (size-flat t k g row)
-        (read-output (g .size) (blockSize * k + 4 + entrySize * j) (at (constantWords t) (8 * k + j)) (blockWords t) here
-        (each-getD NarrowOutput (g .outputs) j noOutput narrow inside) constant-same (λ i h. word-same i (omega arith)) fit)
+        let fit : blockSize * k + 4 + entrySize * j + g .size ≤ length (loadedWords t) = omega (arith, loaded-length t) in
+        rw (size-flat t k in-arrays g row)
+        (read-output (g .size) (blockSize * k + 4 + entrySize * j) _ _ (loadedWords t) here
+        (each-getD NarrowOutput (g .outputs) j noOutput narrow inside) low-same high-same (λ i h. word-same i (omega arith)) fit)
 
-  group-safe : safeGroupAt (slotWords t) (rangeWords t) (blockWords t) (constantWords t) k ≡ testOf g
+  group-safe : safeGroupAt (loadedWords t) k ≡ testOf g
   unfolding safeGroupAt
   group-safe =
       rw (in-block 2 (lit< tt), pattern-same)
-      (below-all (safeOutput (g .ranges)) (g .outputs) noOutput (λ j. safeOutput (g .ranges) (outputAt (blockWords t) (constantWords t) k j))
+      (below-all (safeOutput (g .ranges)) (g .outputs) noOutput (λ j. safeOutput (g .ranges) (outputAt (loadedWords t) k j))
       (λ j h.
       ap (safeOutput (g .ranges)) (output-same j h)
       ∙ widen-safe (g .ranges) (g .size) (here j h) (each-getD (λ o. reach o ≤ g .size) (g .outputs) j noOutput reaches h)))
 
 pub safe-flat : (t : Table) → Shaped t → Narrow t →
-    safeAt (slotWords t) (rangeWords t) (blockWords t) (constantWords t) (length (t .rules)) (isSome (t .default)) ≡ safe t
+    safeAt (loadedWords t) (length (t .rules)) (isSome (t .default)) ≡ safe t
 unfolding safeAt safe tableAt
 safe-flat t s w =
-    ap₂ _&&_ (below-all testOf (t .rules) (everyCharacter []) (safeGroupAt (slotWords t) (rangeWords t) (blockWords t) (constantWords t)) rule) (of (t .default) refl (s .default) (each-back NarrowGroup (t .rules) (optional (t .default)) w))
+    ap₂ _&&_ (below-all testOf (t .rules) (everyCharacter []) (safeGroupAt (loadedWords t)) rule) (of (t .default) refl (s .default) (each-back NarrowGroup (t .rules) (optional (t .default)) w))
     ∙ sym (all-append testOf (t .rules) (optional (t .default)))
   where
-    rule : (r : ℕ) → r < length (t .rules) → safeGroupAt (slotWords t) (rangeWords t) (blockWords t) (constantWords t) r ≡ testOf (getD (t .rules) r (everyCharacter []))
+    rule : (r : ℕ) → r < length (t .rules) → safeGroupAt (loadedWords t) r ≡ testOf (getD (t .rules) r (everyCharacter []))
     rule r h =
         let few : length (t .rules) ≤ 32 = s .few-rules in
         let g = getD (t .rules) r (everyCharacter []) in
@@ -184,14 +197,14 @@ safe-flat t s w =
         let ng = each-getD NarrowGroup (t .rules) r (everyCharacter []) (each-front NarrowGroup (t .rules) (optional (t .default)) w) h in
         group-safe t r (omega arith) g
         (λ n f j i. rows-at n f t r j (omega arith) i ∙ ap (λ l. at l j) (rowsOf-rule f (t .rules) (t .default) r (everyCharacter []) few h))
-        (sym (rule-at (slotWords t) (rangeWords t) (blockWords t) (length (t .rules)) (isSome (t .default)) r h) ∙ ap (λ x. ruleAt x r) (table-flat t s w) ∙ ruleAt-bare t r)
+        (sym (rule-at (loadedWords t) (length (t .rules)) (isSome (t .default)) r h) ∙ ap (λ x. ruleAt x r) (table-flat t s w) ∙ ruleAt-bare t r)
         (sg .small) (sg .outputs) (sg .reaches) (ng .narrow)
 
     of : (d : Option Group) → t .default ≡ d → Each ShapedDefault (optional d) → Each NarrowGroup (optional d) →
-        implies (isSome d) (safeGroupAt (slotWords t) (rangeWords t) (blockWords t) (constantWords t) 32) ≡ all testOf (optional d)
+        implies (isSome d) (safeGroupAt (loadedWords t) 32) ≡ all testOf (optional d)
     of none e a b = refl
     of (some g) e a b =
-        let G = groupAt (slotWords t) (rangeWords t) (blockWords t) 32 in
+        let G = groupAt (loadedWords t) 32 in
         let one : g .size ≡ 1 = a .0 .size in
         let same : G ≡ bareGroup g =
         sym (ap (λ o. orElse (everyCharacter []) (cond (isSome o) (some G) none)) e)

@@ -16,7 +16,7 @@ use Rattle.lists.proofs.Laws.Tests.{either}
 use Rattle.meaning.specs.Table.{Range, Output, sum, Group}
 use Rattle.meaning.specs.Reader.{reach, addRange, addTerm, changeRanges, changeOutputs}
 use Rattle.meaning.specs.Block.{word, bit, entry, block, blockSize, entrySize}
-use Rattle.meaning.specs.bridge.Flat.{constantOf}
+use Rattle.meaning.specs.bridge.Flat.{highOf}
 use Rattle.meaning.proofs.Laws.Reading.{atLast-length}
 use Rattle.meaning.proofs.Laws.Rows.{fill, pad-fill, length-fill, fill-snoc, fill-after, fill-atLast, fill-last, map-append, length-map, set-past, joined, joined-set, pad-rows, pad-pad, flatMap-append}
 
@@ -30,8 +30,8 @@ ends rs = flatMap (λ r. r .lowest ∷ r .highest ∷ []) rs
 abbrev pub rangeRow : Group → List ℕ
 rangeRow g = flatMap (λ rs. pad 8 (ends rs)) (g .ranges)
 
-abbrev pub constantRow : Group → List ℕ
-constantRow g = map constantOf (g .outputs)
+abbrev pub highRow : Group → List ℕ
+highRow g = map highOf (g .outputs)
 
 -- one more at the end of a padded list
 
@@ -206,14 +206,14 @@ block-term p z g h k l m =
     same : 3 + (entrySize * pred (length (g .outputs)) + suc p) ≡ 4 + entrySize * pred (length (g .outputs)) + p
     same = omega arith
 
-pub constantRow-output : (z : ℤ) (g : Group) → length (g .outputs) < 8 →
-    pad 8 (constantRow (changeOutputs (λ os. os ++ (sum z [] ∷ [])) g)) ≡ set (pad 8 (constantRow g)) (length (g .outputs)) (constantOf (sum z []))
-constantRow-output z g h =
-    ap (pad 8) (map-append constantOf (g .outputs) (sum z [] ∷ []))
-    ∙ pad-snoc 8 (constantRow g) (constantOf (sum z [])) (rw length-map h)
-    ∙ ap (λ k. set (pad 8 (constantRow g)) k (constantOf (sum z []))) (length-map constantOf (g .outputs))
+pub highRow-output : (z : ℤ) (g : Group) → length (g .outputs) < 8 →
+    pad 8 (highRow (changeOutputs (λ os. os ++ (sum z [] ∷ [])) g)) ≡ set (pad 8 (highRow g)) (length (g .outputs)) (highOf (sum z []))
+highRow-output z g h =
+    ap (pad 8) (map-append highOf (g .outputs) (sum z [] ∷ []))
+    ∙ pad-snoc 8 (highRow g) (highOf (sum z [])) (rw length-map h)
+    ∙ ap (λ k. set (pad 8 (highRow g)) k (highOf (sum z []))) (length-map highOf (g .outputs))
 
-pub constantRow-term : (p : ℕ) (z : ℤ) (os : List Output) → map constantOf (atLast (addTerm p z) os) ≡ map constantOf os
-constantRow-term p z [] = refl
-constantRow-term p z (sum c ks ∷ []) = refl
-constantRow-term p z (o ∷ (q ∷ os)) = ap (λ l. constantOf o ∷ l) (constantRow-term p z (q ∷ os))
+pub highRow-term : (p : ℕ) (z : ℤ) (os : List Output) → map highOf (atLast (addTerm p z) os) ≡ map highOf os
+highRow-term p z [] = refl
+highRow-term p z (sum c ks ∷ []) = refl
+highRow-term p z (o ∷ (q ∷ os)) = ap (λ l. highOf o ∷ l) (highRow-term p z (q ∷ os))

@@ -14,7 +14,7 @@ use lib.Seq.{length-take-le, take-all, take-append-seam, drop-append-add, drop-c
 use Rattle.lists.specs.Lists.{tabFrom, orElse}
 use Rattle.lists.proofs.Laws.Tests.{of-cond}
 use Rattle.meaning.specs.Table.{Table, everyCharacter, ruleAt, defaultNumber, group}
-use Rattle.meaning.specs.Block.{at, wordSum, blockOutput, blockSize, entrySize}
+use Rattle.meaning.specs.Block.{at, wordSum, entryValue, blockOutput, blockSize, entrySize}
 use Rattle.meaning.specs.Meaning.{best, orDefault, choose, Emission, textOf, covered, chosen, convertBy, convertFrom, convert}
 use Rattle.meaning.specs.bridge.Flat.{rangesAt, patternAt, groupAt, tableAt, flatText}
 use Rattle.meaning.specs.Refusal.{Outcome, accepted}
@@ -29,63 +29,64 @@ pub product-fits : {a c : ℕ} → a < 65536 → c < 65536 → a * c < 2 ^ 32
 product-fits {a} h k = lt-of-le-of-lt {m = a * 65536} (mul-le-mul-left a (le-of-lt k)) (omega arith)
 
 -- what a sum comes to from v on, i coefficients after its first
-abbrev pub sumLeft : List ℕ → ℕ → ℕ → List ℕ → ℕ → ℕ → ℕ → ℕ
-sumLeft blocks entry size input place i v = wordSum v (take (size - i) (drop (entry + 1 + i) blocks)) (take (size - i) (drop (place + i) input))
+abbrev pub sumLeft : List ℕ → ℕ → List ℕ → ℕ → ℕ → ℕ
+sumLeft blocks entry word i v = wordSum v (take (length word - i) (drop (entry + 1 + i) blocks)) (drop i word)
 
-module _ (blocks : List ℕ) (entry size : ℕ) (input : List ℕ) (place : ℕ) where
-  pub sum-starts : (v : ℕ) → wordSum v (take size (drop (entry + 1) blocks)) (take size (drop place input)) ≡ sumLeft blocks entry size input place 0 v
-  sum-starts v = let s : size - 0 ≡ size = omega arith in rw (s, add-zero (entry + 1), add-zero place)
+module _ (blocks : List ℕ) (entry : ℕ) (word : List ℕ) where
+  pub sum-starts : (v : ℕ) → wordSum v (take (length word) (drop (entry + 1) blocks)) word ≡ sumLeft blocks entry word 0 v
+  sum-starts v = let s : length word - 0 ≡ length word = omega arith in rw (s, add-zero (entry + 1))
 
-  pub sum-goes-on : (i v : ℕ) → entry + 1 + size ≤ length blocks → place + size ≤ length input → i < size →
-      sumLeft blocks entry size input place i v
-      ≡ sumLeft blocks entry size input place (i + 1) ((v + at blocks (entry + 1 + i) * at input (place + i)) % 65536)
+  pub sum-goes-on : (i v : ℕ) → entry + 1 + length word ≤ length blocks → i < length word →
+      sumLeft blocks entry word i v ≡ sumLeft blocks entry word (i + 1) ((v + at blocks (entry + 1 + i) * at word i) % 65536)
   unfolding wordSum
-  sum-goes-on i v h k l =
-      let s : size - i ≡ suc (size - (i + 1)) = omega arith in
+  sum-goes-on i v h l =
+      let s : length word - i ≡ suc (length word - (i + 1)) = omega arith in
       let a : entry + 1 + (i + 1) ≡ suc (entry + 1 + i) = omega arith in
-      let b : place + (i + 1) ≡ suc (place + i) = omega arith in
       let p : entry + 1 + i < length blocks = omega arith in
-      let q : place + i < length input = omega arith in
-      rw (s, a, b, drop-cons blocks (entry + 1 + i) 0 p, drop-cons input (place + i) 0 q)
+      rw (s, a, add-one i, drop-cons blocks (entry + 1 + i) 0 p, drop-cons word i 0 l)
 
-  pub sum-ends : (v : ℕ) → sumLeft blocks entry size input place size v ≡ v
+  pub sum-ends : (v : ℕ) → sumLeft blocks entry word (length word) v ≡ v
   unfolding wordSum
-  sum-ends v = let s : size - size ≡ 0 = omega arith in rw s
+  sum-ends v = let s : length word - length word ≡ 0 = omega arith in rw s
 
--- what group g writes for a word, and its character j by the places of the block in the array
-abbrev pub groupText : List ℕ → ℕ → List ℕ → List ℕ
-groupText blocks g w = blockOutput (drop (blockSize * g) blocks) w
-
-abbrev pub groupSum : List ℕ → ℕ → List ℕ → ℕ → ℕ
-groupSum blocks g w j = wordSum (at blocks (blockSize * g + 3 + entrySize * j)) (take (at blocks (blockSize * g)) (drop (blockSize * g + 3 + entrySize * j + 1) blocks)) w
-
-module _ (blocks : List ℕ) (g : ℕ) (w : List ℕ) where
-  pub output-length : length (groupText blocks g w) ≡ at blocks (blockSize * g + 2)
+-- what a block writes for a word
+module _ (b w : List ℕ) where
+  pub output-length : length (blockOutput b w) ≡ at b 2
   unfolding blockOutput
-  output-length = length-tab _ 0 _ ∙ getD-drop (blockSize * g) blocks 2 0
+  output-length = length-tab _ 0 (at b 2)
 
-  pub output-at : (j : ℕ) → j < at blocks (blockSize * g + 2) → getD (groupText blocks g w) j 0 ≡ groupSum blocks g w j
+  output-at : (j : ℕ) → j < at b 2 → getD (blockOutput b w) j 0 ≡ entryValue b j w
   unfolding blockOutput
-  output-at j h =
-      let c : blockSize * g + (3 + entrySize * j) ≡ blockSize * g + 3 + entrySize * j = omega arith in
-      let a : blockSize * g + (4 + entrySize * j) ≡ blockSize * g + 3 + entrySize * j + 1 = omega arith in
-      getD-tab _ 0 (at (drop (blockSize * g) blocks) 2) j 0 (omega (arith, getD-drop (blockSize * g) blocks 2 0))
-      ∙ rw (zero-add j, getD-drop (blockSize * g) blocks (3 + entrySize * j) 0, c, getD-drop (blockSize * g) blocks 0 0, add-zero (blockSize * g), drop-drop (4 + entrySize * j) (blockSize * g) blocks, a)
+  output-at j h = getD-tab _ 0 (at b 2) j 0 h ∙ rw (zero-add j)
 
   -- one more character
-  pub written-more : (d : List ℕ) (count j : ℕ) → j < at blocks (blockSize * g + 2) → count + j < length d →
-      set (paste d count (groupText blocks g w) j) (count + j) (groupSum blocks g w j) ≡ paste d count (groupText blocks g w) (j + 1)
+  pub written-more : (d : List ℕ) (count j : ℕ) → j < at b 2 → count + j < length d →
+      set (paste d count (blockOutput b w) j) (count + j) (entryValue b j w) ≡ paste d count (blockOutput b w) (j + 1)
   written-more d count j h k =
-      let text = groupText blocks g w in
+      let text = blockOutput b w in
       ap (set (paste d count text j) (count + j)) (sym (output-at j h))
       ∙ paste-suc d count text j 0 k (omega (arith, output-length))
       ∙ ap (paste d count text) (sym (add-one j))
 
-  pub written-all : (d : List ℕ) (count : ℕ) →
-      paste d count (groupText blocks g w) (at blocks (blockSize * g + 2)) ≡ take count d ++ groupText blocks g w ++ drop (count + at blocks (blockSize * g + 2)) d
-  written-all d count =
-      let n = at blocks (blockSize * g + 2) in
-      ap (λ u. take count d ++ u ++ drop (count + n) d) (take-all n (groupText blocks g w) (omega (arith, output-length)))
+  pub written-all : (d : List ℕ) (count : ℕ) → paste d count (blockOutput b w) (at b 2) ≡ take count d ++ blockOutput b w ++ drop (count + at b 2) d
+  written-all d count = ap (λ u. take count d ++ u ++ drop (count + at b 2) d) (take-all (at b 2) (blockOutput b w) (omega (arith, output-length)))
+
+-- the block of group g among others: its output count, and what an entry writes, by their places
+abbrev pub groupText : List ℕ → ℕ → List ℕ → List ℕ
+groupText blocks g w = blockOutput (drop (blockSize * g) blocks) w
+
+module _ (blocks : List ℕ) (g : ℕ) where
+  pub group-count : at (drop (blockSize * g) blocks) 2 ≡ at blocks (blockSize * g + 2)
+  group-count = getD-drop (blockSize * g) blocks 2 0
+
+  pub entry-sum : (j : ℕ) (w : List ℕ) (v : ℕ) → length w ≡ at blocks (blockSize * g) →
+      v ≡ wordSum (at blocks (blockSize * g + 3 + entrySize * j)) (take (length w) (drop (blockSize * g + 3 + entrySize * j + 1) blocks)) w →
+      v ≡ entryValue (drop (blockSize * g) blocks) j w
+  unfolding entryValue
+  entry-sum j w v size e =
+      let c : blockSize * g + (3 + entrySize * j) ≡ blockSize * g + 3 + entrySize * j = omega arith in
+      let a : blockSize * g + (4 + entrySize * j) ≡ blockSize * g + 3 + entrySize * j + 1 = omega arith in
+      rw (getD-drop (blockSize * g) blocks (3 + entrySize * j) 0, c, getD-drop (blockSize * g) blocks 0 0, add-zero (blockSize * g), drop-drop (4 + entrySize * j) (blockSize * g) blocks, a, ← size) e
 
 -- what a log in two parts writes and covers
 pub text-append : (write : ℕ → List ℕ → List ℕ) (a b : List Emission) → textOf write (a ++ b) ≡ textOf write a ++ textOf write b
@@ -127,66 +128,71 @@ convert-end t [] h = refl
 convert-end t (c ∷ rest) h = absurd (omega arith)
 
 -- group g was chosen at the place, and its characters are there
-pub record Taken (t : Table) (blocks input : List ℕ) (place g : ℕ) : Type 0 where
+pub record Taken (t : Table) (loaded input : List ℕ) (place g : ℕ) : Type 0 where
   pub choice : choose t (drop place input) ≡ some g
   pub below : g < 33
-  pub size : group t g .size ≡ at blocks (blockSize * g)
-  pub positive : 1 ≤ at blocks (blockSize * g)
-  pub room : place + at blocks (blockSize * g) ≤ length input
+  pub size : group t g .size ≡ at loaded (blockSize * g)
+  pub positive : 1 ≤ at loaded (blockSize * g)
+  pub room : place + at loaded (blockSize * g) ≤ length input
 
 -- a rule of the table that fits has its block's size, and the rest is that long
-rule-size : (slots ranges blocks : List ℕ) (rules : ℕ) (d : Bool) (r : ℕ) (rest : List ℕ) → rules ≤ 32 → r < rules →
-    Fits (tableAt slots ranges blocks rules d) r rest →
-    (group (tableAt slots ranges blocks rules d) r .size ≡ at blocks (blockSize * r)) × (at blocks (blockSize * r) ≤ length rest)
+rule-size : (loaded : List ℕ) (rules : ℕ) (d : Bool) (r : ℕ) (rest : List ℕ) → rules ≤ 32 → r < rules →
+    Fits (tableAt loaded rules d) r rest →
+    (group (tableAt loaded rules d) r .size ≡ at loaded (blockSize * r)) × (at loaded (blockSize * r) ≤ length rest)
 unfolding group groupAt patternAt
-rule-size slots ranges blocks rules d r rest few h f =
-    let t = tableAt slots ranges blocks rules d in
-    let size = at blocks (blockSize * r) in
-    let e : ruleAt t r ≡ groupAt slots ranges blocks r = rule-at slots ranges blocks rules d r h in
+rule-size loaded rules d r rest few h f =
+    let t = tableAt loaded rules d in
+    let size = at loaded (blockSize * r) in
+    let e : ruleAt t r ≡ groupAt loaded r = rule-at loaded rules d r h in
     let fit : length (ruleAt t r .ranges) ≡ length (take (ruleAt t r .size) rest) =
     fitsWord-length (ruleAt t r .ranges) (take (ruleAt t r .size) rest) (f .match) in
     let n : size ≡ length (take size rest) =
-    sym (length-tab (λ p. rangesAt slots ranges (8 * r + p)) 0 size) ∙ ap (λ a. length (a .ranges)) (sym e) ∙ fit
+    sym (length-tab (λ p. rangesAt loaded (8 * r + p)) 0 size) ∙ ap (λ a. length (a .ranges)) (sym e) ∙ fit
     ∙ ap (λ a. length (take (a .size) rest)) e in (
       of-cond (λ a. a .size ≡ size) (eqb r defaultNumber) (orElse (everyCharacter []) (t .default)) (ruleAt t r)
           (λ b. let q : r ≡ 32 = eqb→eq r 32 b in absurd (omega arith)) (λ b. ap (λ a. a .size) e),
       omega (arith, n, length-take size rest),
     )
 
-default-size : (slots ranges blocks : List ℕ) (rules : ℕ) (d : Bool) (g : ℕ) → orDefault (tableAt slots ranges blocks rules d) none ≡ some g →
-    (g ≡ 32) × (d ≡ true) × (group (tableAt slots ranges blocks rules d) g .size ≡ at blocks (blockSize * g))
+default-size : (loaded : List ℕ) (rules : ℕ) (d : Bool) (g : ℕ) → orDefault (tableAt loaded rules d) none ≡ some g →
+    (g ≡ 32) × (d ≡ true) × (group (tableAt loaded rules d) g .size ≡ at loaded (blockSize * g))
 unfolding group tableAt groupAt
-default-size slots ranges blocks rules false g p = let z : _≡_ {A = ℕ} 0 1 = cc in absurd (omega arith)
-default-size slots ranges blocks rules true g p =
-    let t = tableAt slots ranges blocks rules true in
+default-size loaded rules false g p = let z : _≡_ {A = ℕ} 0 1 = cc in absurd (omega arith)
+default-size loaded rules true g p =
+    let t = tableAt loaded rules true in
     let e : 32 ≡ g = cc in
-    (sym e, refl, subst (λ k. group t k .size ≡ at blocks (blockSize * k)) e refl)
+    (sym e, refl, subst (λ k. group t k .size ≡ at loaded (blockSize * k)) e refl)
 
 -- the choice is a rule that fits, or the default
-pub choice-taken : (slots ranges blocks : List ℕ) (rules : ℕ) (d : Bool) (input : List ℕ) (place g : ℕ) → rules ≤ 32 →
-    ((r : ℕ) → r < rules → 1 ≤ at blocks (blockSize * r)) → (d ≡ true → at blocks (32 * blockSize) ≡ 1) → place < length input →
-    choose (tableAt slots ranges blocks rules d) (drop place input) ≡ some g → Taken (tableAt slots ranges blocks rules d) blocks input place g
+choose-taken : (loaded : List ℕ) (rules : ℕ) (d : Bool) (input : List ℕ) (place g : ℕ) → rules ≤ 32 →
+    ((r : ℕ) → r < rules → 1 ≤ at loaded (blockSize * r)) → (d ≡ true → at loaded (32 * blockSize) ≡ 1) → place < length input →
+    choose (tableAt loaded rules d) (drop place input) ≡ some g → Taken (tableAt loaded rules d) loaded input place g
 unfolding choose tableAt
-choice-taken slots ranges blocks rules d input place g few positive one h p =
-    let t = tableAt slots ranges blocks rules d in
+choose-taken loaded rules d input place g few positive one h p =
+    let t = tableAt loaded rules d in
     let n = length (t .rules) in
     from (best t n (drop place input)) (best-chosen t n (drop place input)) p
   where
-    from : (b : Option ℕ) → Chosen (tableAt slots ranges blocks rules d) (length (tableAt slots ranges blocks rules d .rules)) (drop place input) b →
-        orDefault (tableAt slots ranges blocks rules d) b ≡ some g → Taken (tableAt slots ranges blocks rules d) blocks input place g
+    from : (b : Option ℕ) → Chosen (tableAt loaded rules d) (length (tableAt loaded rules d .rules)) (drop place input) b →
+        orDefault (tableAt loaded rules d) b ≡ some g → Taken (tableAt loaded rules d) loaded input place g
     from none c q =
-        let s : (g ≡ 32) × (d ≡ true) × (group (tableAt slots ranges blocks rules d) g .size ≡ at blocks (blockSize * g)) =
-        default-size slots ranges blocks rules d g q in
-        let k : at blocks (blockSize * g) ≡ 1 = ap (λ m. at blocks (blockSize * m)) (s .0) ∙ one (s .1) in
+        let s : (g ≡ 32) × (d ≡ true) × (group (tableAt loaded rules d) g .size ≡ at loaded (blockSize * g)) =
+        default-size loaded rules d g q in
+        let k : at loaded (blockSize * g) ≡ 1 = ap (λ m. at loaded (blockSize * m)) (s .0) ∙ one (s .1) in
         record { choice = p; below = omega (arith, s .0); size = s .2; positive = omega arith; room = omega arith }
     from (some r) c q =
         let e : r ≡ g = cc in
-        let l : r < length (tabFrom 0 rules (groupAt slots ranges blocks)) = c .0 in
-        let b : r < rules = omega (arith, length-tab (groupAt slots ranges blocks) 0 rules) in
-        let s : (group (tableAt slots ranges blocks rules d) r .size ≡ at blocks (blockSize * r)) × (at blocks (blockSize * r) ≤ length (drop place input)) =
-        rule-size slots ranges blocks rules d r (drop place input) few b (c .1) in
-        subst (Taken (tableAt slots ranges blocks rules d) blocks input place) e
+        let l : r < length (tabFrom 0 rules (groupAt loaded)) = c .0 in
+        let b : r < rules = omega (arith, length-tab (groupAt loaded) 0 rules) in
+        let s : (group (tableAt loaded rules d) r .size ≡ at loaded (blockSize * r)) × (at loaded (blockSize * r) ≤ length (drop place input)) =
+        rule-size loaded rules d r (drop place input) few b (c .1) in
+        subst (Taken (tableAt loaded rules d) loaded input place) e
         (record { choice = p ∙ ap some (sym e); below = omega arith; size = s .0; positive = positive r b; room = omega (arith, s .1, length-drop place input) })
+
+pub choice-taken : {o : Option ℕ} (loaded : List ℕ) (rules : ℕ) (d : Bool) (input : List ℕ) (place g : ℕ) → rules ≤ 32 →
+    ((r : ℕ) → r < rules → 1 ≤ at loaded (blockSize * r)) → (d ≡ true → at loaded (32 * blockSize) ≡ 1) → place < length input →
+    o ≡ choose (tableAt loaded rules d) (drop place input) → o ≡ some g → Taken (tableAt loaded rules d) loaded input place g
+choice-taken loaded rules d input place g few positive one h p q = choose-taken loaded rules d input place g few positive one h (sym p ∙ q)
 
 -- the text in front of a buffer, longer by what was put after it
 pub over-more : (text more buffer : List ℕ) →
@@ -200,86 +206,86 @@ abbrev pub answered : Bool → ℕ → ℕ → Outcome Converted
 answered b place count = accepted (record { closed = b; place = place; count = count })
 
 -- a conversion under way: the log so far, and what is left from `place` on
-pub record Reached (t : Table) (blocks input buffer output : List ℕ) (place count : ℕ) : Type 0 where
+pub record Reached (t : Table) (loaded input buffer output : List ℕ) (place count : ℕ) : Type 0 where
   pub log : List Emission
   pub whole : convert t input .log ≡ log ++ convertFrom t 0 (drop place input) .log
   pub closed : convert t input .closed ≡ convertFrom t 0 (drop place input) .closed
   pub within : place ≤ length input
   pub placed : covered log ≡ place
-  pub counted : length (flatText blocks log) ≡ count
-  pub written : output ≡ over (flatText blocks log) buffer
+  pub counted : length (flatText loaded log) ≡ count
+  pub written : output ≡ over (flatText loaded log) buffer
 
-pub reached-start : (t : Table) (blocks input buffer : List ℕ) → Reached t blocks input buffer buffer 0 0
+pub reached-start : (t : Table) (loaded input buffer : List ℕ) → Reached t loaded input buffer buffer 0 0
 unfolding convert textOf covered
-reached-start t blocks input buffer = record { log = []; whole = refl; closed = refl; within = omega arith; placed = refl; counted = refl; written = refl }
+reached-start t loaded input buffer = record { log = []; whole = refl; closed = refl; within = omega arith; placed = refl; counted = refl; written = refl }
 
 -- what a conversion that ended answers and leaves
 abbrev pub Finished : Table → List ℕ → List ℕ → List ℕ → List ℕ → ℕ → ℕ → Bool → Type 0
-Finished t blocks input buffer output place count b =
-    (answered b place count ≡ answered (convert t input .closed) (covered (convert t input .log)) (length (flatText blocks (convert t input .log))))
-    × (output ≡ over (flatText blocks (convert t input .log)) buffer)
+Finished t loaded input buffer output place count b =
+    (answered b place count ≡ answered (convert t input .closed) (covered (convert t input .log)) (length (flatText loaded (convert t input .log))))
+    × (output ≡ over (flatText loaded (convert t input .log)) buffer)
 
-module _ {t : Table} {blocks input buffer output : List ℕ} {place count : ℕ} (r : Reached t blocks input buffer output place count) where
-  reached-end : (b : Bool) → convertFrom t 0 (drop place input) ≡ record { log = []; closed = b } → Finished t blocks input buffer output place count b
+module _ {t : Table} {loaded input buffer output : List ℕ} {place count : ℕ} (r : Reached t loaded input buffer output place count) where
+  reached-end : (b : Bool) → convertFrom t 0 (drop place input) ≡ record { log = []; closed = b } → Finished t loaded input buffer output place count b
   reached-end b p =
       let e : convert t input .log ≡ r .log = r .whole ∙ ap (λ c. r .log ++ c .log) p ∙ append-nil (r .log) in
       let f : convert t input .closed ≡ b = r .closed ∙ ap (λ c. c .closed) p in
       rw (e, f) (rw (r .placed, r .counted), r .written)
 
-  pub reached-close : length input ≤ place → Finished t blocks input buffer output place count true
+  pub reached-close : length input ≤ place → Finished t loaded input buffer output place count true
   reached-close h = reached-end true (convert-end t (drop place input) (omega (arith, length-drop place input)))
 
-  pub reached-stop : place < length input → choose t (drop place input) ≡ none → Finished t blocks input buffer output place count false
-  reached-stop h p = reached-end false (convert-stop t (drop place input) (omega (arith, length-drop place input)) p)
+  pub reached-stop : {o : Option ℕ} → place < length input → o ≡ choose t (drop place input) → o ≡ none → Finished t loaded input buffer output place count false
+  reached-stop h p q = reached-end false (convert-stop t (drop place input) (omega (arith, length-drop place input)) (sym p ∙ q))
 
   -- one more group
-  module _ {g : ℕ} (k : Taken t blocks input place g) where
+  module _ {g : ℕ} (k : Taken t loaded input place g) where
     abbrev emission : Emission
-    emission = record { group = g; word = take (at blocks (blockSize * g)) (drop place input) }
+    emission = record { group = g; word = take (at loaded (blockSize * g)) (drop place input) }
 
     abbrev more : List ℕ
-    more = groupText blocks g (emission .word)
+    more = groupText loaded g (emission .word)
 
     abbrev left : List ℕ
-    left = drop (place + at blocks (blockSize * g)) input
+    left = drop (place + at loaded (blockSize * g)) input
 
     after : convertFrom t 0 (drop place input) ≡ chosen emission (convertFrom t 0 left)
     after =
         convert-step t (drop place input) g (omega (arith, k .room, k .positive, length-drop place input)) (omega (arith, k .size, k .positive)) (k .choice)
         ∙ ap (λ n. chosen (record { group = g; word = take n (drop place input) }) (convertFrom t 0 (drop n (drop place input)))) (k .size)
-        ∙ ap (λ u. chosen emission (convertFrom t 0 u)) (drop-drop (at blocks (blockSize * g)) place input)
+        ∙ ap (λ u. chosen emission (convertFrom t 0 u)) (drop-drop (at loaded (blockSize * g)) place input)
 
     whole-after : convert t input .log ≡ (r .log ++ emission ∷ []) ++ convertFrom t 0 left .log
     whole-after = r .whole ∙ ap (λ c. r .log ++ c .log) after ∙ sym (append-assoc (r .log) (emission ∷ []) _)
 
-    text-after : flatText blocks (r .log ++ emission ∷ []) ≡ flatText blocks (r .log) ++ more
+    text-after : flatText loaded (r .log ++ emission ∷ []) ≡ flatText loaded (r .log) ++ more
     unfolding textOf
-    text-after = text-append (groupText blocks) (r .log) (emission ∷ []) ∙ ap (λ u. flatText blocks (r .log) ++ u) (append-nil more)
+    text-after = text-append (groupText loaded) (r .log) (emission ∷ []) ∙ ap (λ u. flatText loaded (r .log) ++ u) (append-nil more)
 
-    more-length : length more ≡ at blocks (blockSize * g + 2)
-    more-length = output-length blocks g (emission .word)
+    more-length : length more ≡ at loaded (blockSize * g + 2)
+    more-length = output-length (drop (blockSize * g) loaded) (emission .word) ∙ group-count loaded g
 
-    count-after : length (flatText blocks (r .log ++ emission ∷ [])) ≡ count + at blocks (blockSize * g + 2)
-    count-after = ap length text-after ∙ length-append (flatText blocks (r .log)) more ∙ ap₂ (λ a b. a + b) (r .counted) more-length
+    count-after : length (flatText loaded (r .log ++ emission ∷ [])) ≡ count + at loaded (blockSize * g + 2)
+    count-after = ap length text-after ∙ length-append (flatText loaded (r .log)) more ∙ ap₂ (λ a b. a + b) (r .counted) more-length
 
-    pub reached-room : length (flatText blocks (convert t input .log)) ≤ length buffer → count + at blocks (blockSize * g + 2) ≤ length output
+    pub reached-room : length (flatText loaded (convert t input .log)) ≤ length buffer → count + at loaded (blockSize * g + 2) ≤ length output
     reached-room l =
-        let front = flatText blocks (r .log ++ emission ∷ []) in
-        let back = flatText blocks (convertFrom t 0 left .log) in
-        let whole : length (flatText blocks (convert t input .log)) ≡ length front + length back =
-        ap (λ log. length (flatText blocks log)) whole-after ∙ ap length (text-append (groupText blocks) (r .log ++ emission ∷ []) (convertFrom t 0 left .log))
+        let front = flatText loaded (r .log ++ emission ∷ []) in
+        let back = flatText loaded (convertFrom t 0 left .log) in
+        let whole : length (flatText loaded (convert t input .log)) ≡ length front + length back =
+        ap (λ log. length (flatText loaded log)) whole-after ∙ ap length (text-append (groupText loaded) (r .log ++ emission ∷ []) (convertFrom t 0 left .log))
         ∙ length-append front back in
-        let fits : length (flatText blocks (r .log)) ≤ length buffer = omega (arith, whole, count-after, r .counted, l) in
-        omega (arith, whole, count-after, l, ap length (r .written) ∙ over-whole (flatText blocks (r .log)) buffer fits)
+        let fits : length (flatText loaded (r .log)) ≤ length buffer = omega (arith, whole, count-after, r .counted, l) in
+        omega (arith, whole, count-after, l, ap length (r .written) ∙ over-whole (flatText loaded (r .log)) buffer fits)
 
-    pub reached-step : (output′ : List ℕ) (count′ : ℕ) → count′ ≡ count + at blocks (blockSize * g + 2) →
-        output′ ≡ take count output ++ more ++ drop (count + at blocks (blockSize * g + 2)) output →
-        Reached t blocks input buffer output′ (place + at blocks (blockSize * g)) count′
+    pub reached-step : (output′ : List ℕ) (count′ : ℕ) → count′ ≡ count + at loaded (blockSize * g + 2) →
+        output′ ≡ take count output ++ more ++ drop (count + at loaded (blockSize * g + 2)) output →
+        Reached t loaded input buffer output′ (place + at loaded (blockSize * g)) count′
     unfolding covered
     reached-step output′ count′ q e =
-        let text = flatText blocks (r .log) in
-        let word : length (emission .word) ≡ at blocks (blockSize * g) =
-        length-take-le (at blocks (blockSize * g)) (drop place input) (omega (arith, k .room, length-drop place input)) in
+        let text = flatText loaded (r .log) in
+        let word : length (emission .word) ≡ at loaded (blockSize * g) =
+        length-take-le (at loaded (blockSize * g)) (drop place input) (omega (arith, k .room, length-drop place input)) in
         record {
           log = r .log ++ emission ∷ [];
           whole = whole-after;
@@ -288,7 +294,7 @@ module _ {t : Table} {blocks input buffer output : List ℕ} {place count : ℕ}
           placed = omega (arith, covered-append (r .log) (emission ∷ []), r .placed, word);
           counted = count-after ∙ sym q;
           written =
-              e ∙ ap (λ o. take count o ++ more ++ drop (count + at blocks (blockSize * g + 2)) o) (r .written)
+              e ∙ ap (λ o. take count o ++ more ++ drop (count + at loaded (blockSize * g + 2)) o) (r .written)
               ∙ ap₂ (λ c m. take c (over text buffer) ++ more ++ drop (c + m) (over text buffer)) (sym (r .counted)) (sym more-length)
               ∙ over-more text more buffer ∙ ap (λ u. over u buffer) (sym text-after);
         }

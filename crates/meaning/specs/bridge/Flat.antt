@@ -1,9 +1,9 @@
--- A table as flat arrays, and what is read back of them.
+-- A table as one flat array, and what is read back of it.
 use mathlib.Core.Bool.{Bool, _&&_, cond}
 use mathlib.Core.List.{List, [], _∷_, _++_, map}
-use mathlib.Core.Option.{Option, none, some}
+use mathlib.Core.Option.{none, some}
 use mathlib.Core.Path.{_≡_}
-use Prim.Native.Nat.{ℕ, zero, suc, max, _+_, _-_, _*_, _%_, _^_, _≤_, _<_}
+use Prim.Native.Nat.{ℕ, zero, suc, max, _+_, _-_, _*_, _%_, _/_, _^_, _≤_, _<_}
 use lib.Dec.{eqb, ltb}
 use lib.IntN.{ℤ, pos, negsuc}
 use lib.ListN.{length, take, drop}
@@ -37,78 +37,104 @@ abbrev pub bits : ℤ → ℕ
 bits (pos n) = n % 2 ^ 32
 bits (negsuc n) = 2 ^ 32 - 1 - n % 2 ^ 32
 
-abbrev pub constantOf : Output → ℕ
-constantOf (sum c ks) = bits c
+-- its upper half; the lower half stands in the block
+abbrev pub highOf : Output → ℕ
+highOf (sum c ks) = bits c / 65536
 
-unfoldable pub constantWords : Table → List ℕ
-constantWords t = rows 8 (λ g. map constantOf (g .outputs)) t
+unfoldable pub highWords : Table → List ℕ
+highWords t = rows 8 (λ g. map highOf (g .outputs)) t
+
+-- The array: the blocks, how many ranges each position has, the ranges, the upper halves of the constants.
+abbrev pub joinedWords : List ℕ → List ℕ → List ℕ → List ℕ → List ℕ
+joinedWords blocks slots ranges highs = blocks ++ (slots ++ (ranges ++ highs))
+
+unfoldable pub loadedWords : Table → List ℕ
+loadedWords t = joinedWords (blockWords t) (slotWords t) (rangeWords t) (highWords t)
+
+-- where its parts begin, and its length
+abbrev pub slotsFrom : ℕ
+slotsFrom = blocksSize
+
+abbrev pub rangesFrom : ℕ
+rangesFrom = slotsFrom + 33 * 8
+
+abbrev pub highsFrom : ℕ
+highsFrom = rangesFrom + 33 * 64
+
+abbrev pub loadedSize : ℕ
+loadedSize = highsFrom + 33 * 8
+
+-- the blocks alone
+abbrev pub blocksOf : List ℕ → List ℕ
+blocksOf loaded = take blocksSize loaded
 
 -- Read back: the ranges of place 8 g + p, position p of group g.
-unfoldable pub rangesAt : List ℕ → List ℕ → ℕ → List Range
-rangesAt slots ranges place =
-    tabFrom 0 (at slots place) (λ k. record { lowest = at ranges (8 * place + 2 * k); highest = at ranges (8 * place + 2 * k + 1) })
+abbrev pub rangeAt : List ℕ → ℕ → ℕ → Range
+rangeAt loaded place k =
+    let i = rangesFrom + 8 * place + 2 * k in record { lowest = at loaded i; highest = at loaded (i + 1) }
 
-unfoldable pub patternAt : List ℕ → List ℕ → ℕ → ℕ → List (List Range)
-patternAt slots ranges g size = tabFrom 0 size (λ p. rangesAt slots ranges (8 * g + p))
+unfoldable pub rangesAt : List ℕ → ℕ → List Range
+rangesAt loaded place = tabFrom 0 (at loaded (slotsFrom + place)) (rangeAt loaded place)
+
+unfoldable pub patternAt : List ℕ → ℕ → ℕ → List (List Range)
+patternAt loaded g size = tabFrom 0 size (λ p. rangesAt loaded (8 * g + p))
 
 -- a group without its output characters
-unfoldable pub groupAt : List ℕ → List ℕ → List ℕ → ℕ → Group
-groupAt slots ranges blocks g =
-    let size = at blocks (blockSize * g) in
-    record { size = size; anchored = eqb (at blocks (blockSize * g + 1)) 1; ranges = patternAt slots ranges g size; outputs = [] }
+unfoldable pub groupAt : List ℕ → ℕ → Group
+groupAt loaded g =
+    let size = at loaded (blockSize * g) in
+    record { size = size; anchored = eqb (at loaded (blockSize * g + 1)) 1; ranges = patternAt loaded g size; outputs = [] }
 
 -- the first n groups as rules, and group 32 as the default if there is one
-unfoldable pub tableAt : List ℕ → List ℕ → List ℕ → ℕ → Bool → Table
-tableAt slots ranges blocks n defaulted =
+unfoldable pub tableAt : List ℕ → ℕ → Bool → Table
+tableAt loaded n defaulted =
     record {
-      rules = tabFrom 0 n (groupAt slots ranges blocks);
-      default = cond defaulted (some (groupAt slots ranges blocks defaultNumber)) none;
+      rules = tabFrom 0 n (groupAt loaded);
+      default = cond defaulted (some (groupAt loaded defaultNumber)) none;
     }
 
 -- output character j of group g: its constant of 32 bits, and its coefficients of 16 bits below the group's length
-unfoldable pub outputAt : List ℕ → List ℕ → ℕ → ℕ → Output
-outputAt blocks constants g j =
-    sum (signed 32 (at constants (8 * g + j))) (map (signed 16) (take (at blocks (blockSize * g)) (drop (blockSize * g + 4 + entrySize * j) blocks)))
+unfoldable pub outputAt : List ℕ → ℕ → ℕ → Output
+outputAt loaded g j =
+    sum (signed 32 (at loaded (blockSize * g + 3 + entrySize * j) + 65536 * at loaded (highsFrom + 8 * g + j)))
+    (map (signed 16) (take (at loaded (blockSize * g)) (drop (blockSize * g + 4 + entrySize * j) loaded)))
 
--- refusal 7's test on the arrays: each output character of a group, each group
-unfoldable pub safeGroupAt : List ℕ → List ℕ → List ℕ → List ℕ → ℕ → Bool
-safeGroupAt slots ranges blocks constants g =
-    forBelow (at blocks (blockSize * g + 2)) (λ j. safeOutput (patternAt slots ranges g (at blocks (blockSize * g))) (outputAt blocks constants g j))
+-- refusal 7's test on the array: each output character of a group, each group
+unfoldable pub safeGroupAt : List ℕ → ℕ → Bool
+safeGroupAt loaded g =
+    forBelow (at loaded (blockSize * g + 2)) (λ j. safeOutput (patternAt loaded g (at loaded (blockSize * g))) (outputAt loaded g j))
 
-unfoldable pub safeAt : List ℕ → List ℕ → List ℕ → List ℕ → ℕ → Bool → Bool
-safeAt slots ranges blocks constants n defaulted =
-    forBelow n (safeGroupAt slots ranges blocks constants) && implies defaulted (safeGroupAt slots ranges blocks constants defaultNumber)
+unfoldable pub safeAt : List ℕ → ℕ → Bool → Bool
+safeAt loaded n defaulted = forBelow n (safeGroupAt loaded) && implies defaulted (safeGroupAt loaded defaultNumber)
 
--- E by the arrays
+-- E by the array
 unfoldable pub expansionFrom : List ℕ → ℕ → ℕ → ℕ
-expansionFrom blocks zero most = most
-expansionFrom blocks (suc n) most = max (expansionFrom blocks n most) (at blocks (blockSize * n + 2))
+expansionFrom loaded zero most = most
+expansionFrom loaded (suc n) most = max (expansionFrom loaded n most) (at loaded (blockSize * n + 2))
 
 abbrev pub expansionAt : List ℕ → ℕ → Bool → ℕ
-expansionAt blocks n defaulted = expansionFrom blocks n (cond defaulted (at blocks (32 * blockSize + 2)) 0)
+expansionAt loaded n defaulted = expansionFrom loaded n (cond defaulted (at loaded (32 * blockSize + 2)) 0)
 
--- Definition 7 by the arrays, and the text that the blocks write
-abbrev pub flatConversion : List ℕ → List ℕ → List ℕ → ℕ → Bool → List ℕ → Conversion
-flatConversion slots ranges blocks n defaulted input = convert (tableAt slots ranges blocks n defaulted) input
+-- Definition 7 by the array, and the text that its blocks write
+abbrev pub flatConversion : List ℕ → ℕ → Bool → List ℕ → Conversion
+flatConversion loaded n defaulted input = convert (tableAt loaded n defaulted) input
 
 abbrev pub flatText : List ℕ → List Emission → List ℕ
-flatText blocks log = textOf (λ g w. blockOutput (drop (blockSize * g) blocks) w) log
+flatText loaded log = textOf (λ g w. blockOutput (drop (blockSize * g) loaded) w) log
 
 -- "14, 15", then the conversion into the buffer
-unfoldable pub flatDirect : List ℕ → List ℕ → List ℕ → ℕ → Bool → List ℕ → List ℕ → DirectOutcome
-flatDirect slots ranges blocks n defaulted input buffer =
-    let whole = flatConversion slots ranges blocks n defaulted input in
-    let text = flatText blocks (whole .log) in
+unfoldable pub flatDirect : List ℕ → ℕ → Bool → List ℕ → List ℕ → DirectOutcome
+flatDirect loaded n defaulted input buffer =
+    let whole = flatConversion loaded n defaulted input in
+    let text = flatText loaded (whole .log) in
     select (
     (ltb limit (length input), record { answer = refused 14; output = buffer })
-    ∷ (ltb (length buffer) (expansionAt blocks n defaulted * length input), record { answer = refused 15; output = buffer })
+    ∷ (ltb (length buffer) (expansionAt loaded n defaulted * length input), record { answer = refused 15; output = buffer })
     ∷ []) (record { answer = accepted (record { closed = whole .closed; place = covered (whole .log); count = length text }); output = over text buffer })
 
--- the arrays are of their lengths, and the counts in them within their limits
-pub record Flat (slots ranges blocks : List ℕ) : Type 0 where
-  pub slots-length : length slots ≡ 264
-  pub ranges-length : length ranges ≡ 2112
-  pub blocks-length : length blocks ≡ blocksSize
-  pub few : (p : ℕ) → p < 264 → at slots p ≤ 4
-  pub size : (g : ℕ) → g < 33 → at blocks (blockSize * g) ≤ 8
-  pub outputs : (g : ℕ) → g < 33 → at blocks (blockSize * g + 2) ≤ 8
+-- the array is of its length, and the counts in it within their limits
+pub record Flat (loaded : List ℕ) : Type 0 where
+  pub long : length loaded ≡ loadedSize
+  pub few : (p : ℕ) → p < 33 * 8 → at loaded (slotsFrom + p) ≤ 4
+  pub size : (g : ℕ) → g < 33 → at loaded (blockSize * g) ≤ 8
+  pub outputs : (g : ℕ) → g < 33 → at loaded (blockSize * g + 2) ≤ 8

@@ -22,8 +22,8 @@ use Rattle.reckoning.specs.Machine.{Status, Open, Closed, Stopped}
 use Rattle.reckoning.specs.Session.{Session, store, isOpen, soundSession}
 use Rattle.reckoning.specs.Calls.{Answer, CallOutcome, admits, resumed, callBy, feed, finish}
 use Rattle.reckoning.specs.Reckoning.{Call, ofFeed, ofFinish, piece, bufferOf, room, ends, called}
-use Rattle.reckoning.specs.Claims.{CallAnswers, CallsAnswer}
-use Rattle.reckoning.proofs.Laws.Trace.{trace, logOf, traceStatus}
+use Rattle.reckoning.specs.Claims.{CallAnswers, CallsAnswer, CallsKeep}
+use Rattle.reckoning.proofs.Laws.Trace.{trace, logOf, statusOf}
 use Rattle.reckoning.proofs.Laws.Rounds.{bounded, counted-most}
 use Rattle.reckoning.proofs.Laws.Kept.{trace-few, call-tells, kept-sound}
 
@@ -94,7 +94,7 @@ module _ (w : List ℕ) (s : Session) (c : Call) where
       let tells = call-tells w (a .sound-words) s (piece c) (ends c) (a .sound-session) (a .passed .0) in
       let few : length (textOf (A .write) (logOf t)) ≤ E * covered (logOf t) =
       trace-few A (longestWord w) E (stateCount w) G (sound-short w (a .sound-words)) (ends c) 0 u in
-      let all : covered (logOf t) ≤ length u = counted-most (traceStatus t) _ _ _ (bounded A (longestWord w) (stateCount w) G (ends c) u .counted) in
+      let all : covered (logOf t) ≤ length u = counted-most (statusOf t) _ _ _ (bounded A (longestWord w) (stateCount w) G (ends c) u .counted) in
       let held : covered (logOf t) ≤ s .count + length (piece c) = omega (arith, length-append (store s) (piece c), length-take (s .count) (s .held)) in
       let most = mul-le-mul-left E held in
       let enough = a .passed .2 in
@@ -117,11 +117,13 @@ module _ (w : List ℕ) (s : Session) (c : Call) where
   whole-by (refused k) h = refl
   whole-by (accepted x) h = over-whole text (bufferOf c) (text-fits h)
 
-  keeps-by : (o : Outcome (Unit {0})) (a : Answer) → Tested o → T (soundSession w s) → length (s .held) ≡ 8 → outcome o .answer ≡ accepted a →
-      T (soundSession w (outcome o .session))
-  keeps-by (refused k) a h sd eight e = absurd (accepted-not a k (sym e))
-  keeps-by (accepted x) a h sd eight e =
-      kept-sound w (h .sound-words) s (piece c) (ends c) sd (h .passed .0) eight (h .passed .1)
+  keeps-by : (o : Outcome (Unit {0})) (a : Answer) → Tested o → length (s .held) ≡ 8 → outcome o .answer ≡ accepted a →
+      T (soundSession w (outcome o .session)) × (length (outcome o .session .held) ≡ 8)
+  keeps-by (refused k) a h eight e = absurd (accepted-not a k (sym e))
+  keeps-by (accepted x) a h eight e = (
+    kept-sound w (h .sound-words) s (piece c) (ends c) (h .sound-session) (h .passed .0) eight (h .passed .1),
+    length-pad 8 (resumed (fromWords w) s (piece c) (ends c) .final .store),
+  )
 
   call-answers : CallAnswers s (bufferOf c) (called w s c)
   call-answers =
@@ -135,16 +137,8 @@ unfolding CallsAnswer
 calls-answer w s c = call-answers w s c
 
 -- an accepted call keeps soundness
-pub call-keeps : (w : List ℕ) (s : Session) (c : Call) (a : Answer) → T (soundSession w s) → length (s .held) ≡ 8 → called w s c .answer ≡ accepted a →
-    T (soundSession w (called w s c .session))
-call-keeps w s c a sd eight e =
+pub calls-keep : CallsKeep
+unfolding CallsKeep
+calls-keep w s c a eight e =
     let n = length (piece c) in
-    rw (called-by w s c) (keeps-by w s c (admits w s n (room c)) a (admission w s n (room c)) sd eight (rw (called-by w s c) at e))
-
--- and any call the eight places
-pub call-places : (w : List ℕ) (s : Session) (c : Call) → length (s .held) ≡ 8 → length (called w s c .session .held) ≡ 8
-call-places w s c eight = rw (called-by w s c) (places (admits w s (length (piece c)) (room c)))
-  where
-    places : (o : Outcome (Unit {0})) → length (outcome w s c o .session .held) ≡ 8
-    places (refused k) = eight
-    places (accepted x) = length-pad 8 (resumed (fromWords w) s (piece c) (ends c) .final .store)
+    rw (called-by w s c) (keeps-by w s c (admits w s n (room c)) a (admission w s n (room c)) eight (rw (called-by w s c) at e))

@@ -1,21 +1,20 @@
 -- Demand 3 over the outcome functions: what any list of calls answers, writes and leaves is what the plain machine makes of the whole input.
 -- The calls stand as the words' trace tells (`Calls`), the table's trace is the same (`Swap`), and its log is Definition 7's (`Meaning`).
-use mathlib.Core.Bool.{Bool, true, false, _||_, not}
+use mathlib.Core.Bool.{Bool, true, false, _||_}
 use mathlib.Core.List.{List, [], _∷_, _++_, append-assoc, append-nil}
 use mathlib.Core.Logic.{_↔_}
 use mathlib.Core.Path.{_≡_, refl, sym, ap, subst, _∙_}
 use Prim.Native.Nat.{ℕ, _-_, _<_}
 use native.Mathlib.Omega.{arith}
-use lib.Dec.{T, eqb}
+use lib.Dec.{T}
 use lib.ListN.{length, drop}
 use Rattle.lists.specs.Lists.{Each, pad, isSome}
-use Rattle.lists.proofs.Laws.Tests.{of-not, by-cases}
 use Rattle.lists.proofs.Laws.Each.{each-append}
 use Rattle.meaning.specs.Refusal.{Outcome, refused, accepted}
 use Rattle.meaning.specs.Table.{Characters, Table, group, longest}
 use Rattle.meaning.specs.Meaning.{Emission, written, textOf, covered, convert}
 use Rattle.meaning.proofs.Laws.Groups.{longest-small}
-use Rattle.meaning.proofs.Laws.Reading.{read-shaped}
+use Rattle.meaning.proofs.Laws.Described.{well-formed-shaped}
 use Rattle.automaton.specs.States.{states}
 use Rattle.automaton.specs.Layout.{wordCount, words}
 use Rattle.automaton.specs.Claims.{KeepsCompiling}
@@ -26,26 +25,25 @@ use Rattle.automaton.proofs.Laws.Write.{words-write}
 use Rattle.automaton.proofs.Laws.Sound.{compiled-sound}
 use Rattle.automaton.proofs.Laws.Compile.{compile-accepts}
 use Rattle.automaton.specs.Automaton.{Automaton, fromTable, fromWords}
-use Rattle.reckoning.specs.Machine.{Status, Open, Closed, Stopped, Ended}
+use Rattle.reckoning.specs.Machine.{Status, Open, Closed, Stopped}
 use Rattle.reckoning.specs.Session.{Session, consumed}
-use Rattle.reckoning.specs.Calls.{receivedBy}
-use Rattle.reckoning.specs.Reckoning.{Call, piece, Served, unserved, serve, acceptedPieces, Input, noInput, ran, reckoned, inputBy, reckonCall, reckon}
+use Rattle.reckoning.specs.Calls.{Answer, receivedBy}
+use Rattle.reckoning.specs.Reckoning.{Call, piece, ends, Served, unserved, serve, acceptedPieces, Input, noInput, ran, ranText, reckoned, answerBy, inputBy, reckonCall, reckon}
 use Rattle.reckoning.specs.Claims.{isStopped, Agrees, OutcomesAgree}
-use Rattle.reckoning.proofs.Laws.Trace.{trace, cost, logOf, heldOf, traceStatus}
+use Rattle.reckoning.proofs.Laws.Trace.{trace, cost, logOf, heldOf, statusOf}
 use Rattle.reckoning.proofs.Laws.Rounds.{NotOpen, not-open, trace-graft, graft-stopped, ended-empty, Counted, Bounded, bounded}
 use Rattle.reckoning.proofs.Laws.Meaning.{ending, meaning-law}
-use Rattle.reckoning.proofs.Laws.Swap.{trace-emits, text-same}
-use Rattle.reckoning.proofs.Laws.Calls.{told, Compiled, Standing, calls-stand, ran-tells, same-trace}
+use Rattle.reckoning.proofs.Laws.Calls.{told, Compiled, Standing, calls-stand, ran-tells, same-trace, ran-text}
 
 -- a trace that stopped without the end is the trace of every longer input, ended or not
-pub stopped-firm : (A : Automaton) (u more : List ℕ) (e : Bool) → traceStatus (trace A false 0 u) ≡ Stopped → trace A e 0 (u ++ more) ≡ trace A false 0 u
+pub stopped-firm : (A : Automaton) (u more : List ℕ) (e : Bool) → statusOf (trace A false 0 u) ≡ Stopped → trace A e 0 (u ++ more) ≡ trace A false 0 u
 stopped-firm A u more e s = trace-graft A e more 0 u (omega arith) ∙ graft-stopped (trace A false 0 u) (λ h. trace A e 0 (h ++ more)) (not-open _ (subst NotOpen (sym s) tt))
 
 -- a trace that ended, or stopped, is the trace of the ended input
-over-trace : (A : Automaton) (u : List ℕ) (e : Bool) → T (e || isStopped (traceStatus (trace A e 0 u))) → trace A e 0 u ≡ trace A true 0 u
+over-trace : (A : Automaton) (u : List ℕ) (e : Bool) → T (e || isStopped (statusOf (trace A e 0 u))) → trace A e 0 u ≡ trace A true 0 u
 over-trace A u true h = refl
 over-trace A u false h =
-    sym (subst (λ v. trace A true 0 v ≡ trace A false 0 u) (append-nil u) (stopped-firm A u [] true (is-stopped (traceStatus (trace A false 0 u)) h)))
+    sym (subst (λ v. trace A true 0 v ≡ trace A false 0 u) (append-nil u) (stopped-firm A u [] true (is-stopped (statusOf (trace A false 0 u)) h)))
   where
     is-stopped : (s : Status) → T (isStopped s) → s ≡ Stopped
     is-stopped Open t = absurd t
@@ -75,42 +73,34 @@ consumed-is Stopped m c h k z = let y : h ≡ 0 = z tt in omega arith
 
 -- The reckoning's input is the accepted pieces, joined.
 module _ (t : Table) where
-  -- a refusal of the reckoning is not 0
-  Numbered : Outcome (Unit {0}) → Type 0
-  Numbered (refused n) = T (not (eqb n 0))
-  Numbered (accepted x) = Unit {0}
-
-  reckoned-numbered : (r : Ended) (m : ℕ) (c : Call) → Numbered (reckoned t r m c)
-  unfolding reckoned Numbered
-  reckoned-numbered r m c = by-cases Numbered _ (accepted tt) ((λ _. tt), λ _. ((λ _. tt), λ _. ((λ _. tt), λ _. tt)))
-
   pub record Grown (cs : List Call) (i j : Input) : Type 0 where
-    pub more : List ℕ
-    pub verdicts : j .verdicts ≡ i .verdicts ++ more
+    pub more : List (Outcome Answer)
+    pub answers : j .answers ≡ i .answers ++ more
     pub characters : j .characters ≡ i .characters ++ acceptedPieces cs more
 
-  grown-by : (c : Call) (cs : List Call) (i : Input) (o : Outcome (Unit {0})) → Numbered o → (j : Input) → Grown cs (inputBy o i c) j → Grown (c ∷ cs) i j
-  unfolding Numbered
-  grown-by c cs i (refused n) k j g = record {
-    more = n ∷ g .more;
-    verdicts = g .verdicts ∙ append-assoc (i .verdicts) (n ∷ []) (g .more);
-    characters = rw (of-not (eqb n 0) k) (g .characters);
+  grown-by : (c : Call) (cs : List Call) (i : Input) (o : Outcome (Unit {0})) (j : Input) → Grown cs (inputBy t o i c) j → Grown (c ∷ cs) i j
+  grown-by c cs i (refused n) j g = record {
+    more = refused n ∷ g .more;
+    answers = g .answers ∙ append-assoc (i .answers) (refused n ∷ []) (g .more);
+    characters = g .characters;
   }
-  grown-by c cs i (accepted x) k j g = record {
-    more = 0 ∷ g .more;
-    verdicts = g .verdicts ∙ append-assoc (i .verdicts) (0 ∷ []) (g .more);
-    characters = g .characters ∙ append-assoc (i .characters) (piece c) (acceptedPieces cs (g .more));
-  }
+  grown-by c cs i (accepted x) j g =
+      let a = accepted (answerBy t (ran t (i .characters) (i .ended)) (ran t (i .characters ++ piece c) (ends c))) in
+      record {
+        more = a ∷ g .more;
+        answers = g .answers ∙ append-assoc (i .answers) (a ∷ []) (g .more);
+        characters = g .characters ∙ append-assoc (i .characters) (piece c) (acceptedPieces cs (g .more));
+      }
 
   reckon-grown : (cs : List Call) (i : Input) → Grown cs i (reckon t cs i)
   unfolding reckon
-  reckon-grown [] i = record { more = []; verdicts = sym (append-nil (i .verdicts)); characters = sym (append-nil (i .characters)) }
+  reckon-grown [] i = record { more = []; answers = sym (append-nil (i .answers)); characters = sym (append-nil (i .characters)) }
   reckon-grown (c ∷ cs) i =
       let o = reckoned t (ran t (i .characters) (i .ended)) (length (i .characters)) c in
-      grown-by c cs i o (reckoned-numbered (ran t (i .characters) (i .ended)) (length (i .characters)) c) (reckon t cs (reckonCall t i c)) (reckon-grown cs (reckonCall t i c))
+      grown-by c cs i o (reckon t cs (reckonCall t i c)) (reckon-grown cs (reckonCall t i c))
 
-  pub input-pieces : (cs : List Call) → reckon t cs noInput .characters ≡ acceptedPieces cs (reckon t cs noInput .verdicts)
-  input-pieces cs = let g = reckon-grown cs noInput in g .characters ∙ ap (acceptedPieces cs) (sym (g .verdicts))
+  pub input-pieces : (cs : List Call) → reckon t cs noInput .characters ≡ acceptedPieces cs (reckon t cs noInput .answers)
+  input-pieces cs = let g = reckon-grown cs noInput in g .characters ∙ ap (acceptedPieces cs) (sym (g .answers))
 
 module _ (t : Table) (w : List ℕ) (K : Compiled t w) where
   default-is : fromTable t .default ≡ isSome (t .default)
@@ -119,7 +109,7 @@ module _ (t : Table) (w : List ℕ) (K : Compiled t w) where
 
   -- Definition 7 of an input is the trace with the end known
   meaning-trace : (u : List ℕ) → Characters u →
-      (logOf (trace (fromTable t) true 0 u) ≡ convert t u .log) × (traceStatus (trace (fromTable t) true 0 u) ≡ ending (convert t u .closed))
+      (logOf (trace (fromTable t) true 0 u) ≡ convert t u .log) × (statusOf (trace (fromTable t) true 0 u) ≡ ending (convert t u .closed))
   unfolding convert
   meaning-trace u c = meaning-law (fromTable t) t (K .shaped) (K .reads) default-is 0 u c
 
@@ -127,7 +117,7 @@ module _ (t : Table) (w : List ℕ) (K : Compiled t w) where
   unfolding fromTable
   text-is l = refl
 
-  agrees : (cs : List Call) (v : Served) (i : Input) → i .characters ≡ acceptedPieces cs (i .verdicts) → Standing t w K v i →
+  agrees : (cs : List Call) (v : Served) (i : Input) → i .characters ≡ acceptedPieces cs (i .answers) → Standing t w K v i →
       Agrees t cs v i (ran t (i .characters) (i .ended))
   agrees cs v i pieces S =
       let u = i .characters in
@@ -141,36 +131,35 @@ module _ (t : Table) (w : List ℕ) (K : Compiled t w) where
       let p : x ≡ y = same-trace t w K u e (S .characters) in
       let s : v .session ≡ told M x (length u) = S .session ∙ ap (λ z. told M z (length u)) (sym p) in
       let steps-are : r .final .steps ≡ cost x = let a = tells .steps in omega arith in
-      let st : v .session .status ≡ traceStatus x = ap (λ (z : Session). z .status) s in
-      let text-both : textOf (A .write) (logOf x) ≡ textOf (M .write) (logOf x) = text-same A M t (K .writes) x (trace-emits A t (K .reads) e 0 u (S .characters)) in
-      let out : v .output ≡ textOf (A .write) (logOf x) = S .output ∙ ap (λ z. textOf (M .write) (logOf z)) (sym p) ∙ sym text-both in
+      let st : v .session .status ≡ statusOf x = ap (λ (z : Session). z .status) s in
+      let wrote : ranText t r ≡ textOf (M .write) (logOf y) = ran-text t w K u e (S .characters) in
+      let out : v .output ≡ ranText t r = S .output ∙ sym wrote in
       let b : Bounded (longest t) u x = bounded A (longest t) (length (states t)) (K .good) e u in
       let con : consumed (v .session) ≡ covered (logOf x) =
-      ap consumed s ∙ consumed-is (traceStatus x) (length u) (covered (logOf x)) (length (heldOf x)) (b .counted) (λ n. ap length (ended-empty x n .1)) in
+      ap consumed s ∙ consumed-is (statusOf x) (length u) (covered (logOf x)) (length (heldOf x)) (b .counted) (λ n. ap length (ended-empty x n .1)) in
       let over : T (e || isStopped (v .session .status)) → x ≡ trace A true 0 u = λ h. over-trace A u e (subst (λ z. T (e || isStopped z)) st h) in
       let D = meaning-trace u (S .characters) in
       let log-is : T (e || isStopped (v .session .status)) → logOf x ≡ convert t u .log = λ h. ap logOf (over h) ∙ D .0 in
-      let end-is : T (e || isStopped (v .session .status)) → v .session .status ≡ ending (convert t u .closed) = λ h. st ∙ ap traceStatus (over h) ∙ D .1 in
+      let end-is : T (e || isStopped (v .session .status)) → v .session .status ≡ ending (convert t u .closed) = λ h. st ∙ ap statusOf (over h) ∙ D .1 in
       record {
-        verdicts = S .verdicts;
-        input = pieces ∙ ap (acceptedPieces cs) (sym (S .verdicts));
-        output = out ∙ ap (textOf (A .write)) (sym (tells .log));
+        answers = S .answers;
+        input = pieces ∙ ap (acceptedPieces cs) (sym (S .answers));
+        output = out;
         status = st ∙ sym (tells .status);
         state = ap (λ (z : Session). z .state) s ∙ sym (tells .state);
         held = ap (λ (z : Session). z .held) s ∙ ap (pad 8) (sym (tells .store));
         count = ap (λ (z : Session). z .count) s ∙ ap length (sym (tells .store));
         steps = ap (λ (z : Session). z .steps) s ∙ sym steps-are;
-        produced =
-            ap (λ (z : Session). z .produced) s ∙ ap length (sym text-both) ∙ ap (λ l. length (textOf (A .write) l)) (sym (tells .log));
+        produced = ap (λ (z : Session). z .produced) (S .session) ∙ ap length (sym wrote);
         consumes = con ∙ ap covered (sym (tells .log));
         received =
             ap (λ (z : Session). z .received) s ∙ (λ j. receivedBy (sym (tells .status) j) (length u) (covered (sym (tells .log) j)));
         bound = rw s (b .whole);
-        text = λ h. out ∙ ap (textOf (A .write)) (log-is h) ∙ text-is (convert t u .log);
+        text = λ h. out ∙ ap (textOf (A .write)) (tells .log ∙ log-is h) ∙ text-is (convert t u .log);
         closed = λ h. closed-iff (v .session .status) (convert t u .closed) (end-is h);
         stopped = λ h c. (end-is h ∙ ap ending c, con ∙ ap covered (log-is h));
         firm = λ ne h more cm e′.
-            let sx : traceStatus (trace A false 0 u) ≡ Stopped = subst (λ z. traceStatus (trace A z 0 u) ≡ Stopped) ne (sym st ∙ h) in
+            let sx : statusOf (trace A false 0 u) ≡ Stopped = subst (λ z. statusOf (trace A z 0 u) ≡ Stopped) ne (sym st ∙ h) in
             let c₂ = each-append (λ z. z < 65536) u more (S .characters) cm in
             let D₂ = meaning-trace (u ++ more) c₂ in
             let D₁ = meaning-trace u (S .characters) in
@@ -194,7 +183,7 @@ module _ (t : Table) (w : List ℕ) (K : Compiled t w) where
 compiled : (b buffer : List ℕ) (t : Table) → KeepsCompiling b t → Compiled t (words t ++ drop wordCount buffer)
 compiled b buffer t k =
     let rest = drop wordCount buffer in
-    let s = read-shaped b t (k .keeps .records) in
+    let s = well-formed-shaped t (k .keeps .well-formed) in
     record {
       shaped = s;
       small = longest-small t s;

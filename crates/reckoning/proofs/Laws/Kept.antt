@@ -23,7 +23,7 @@ use Rattle.automaton.proofs.Laws.Words.{sound-good, sound-short, sound-longest}
 use Rattle.reckoning.specs.Machine.{Status, Open, Closed, Stopped, Ended, start}
 use Rattle.reckoning.specs.Session.{Session, fresh, consumed, store, isOpen, settled, pathIf, path, isAt, soundSession}
 use Rattle.reckoning.specs.Calls.{receivedBy, resumed, later}
-use Rattle.reckoning.proofs.Laws.Trace.{Round, waits, closes, stops, accepts, defaults, back, onWait, onEnd, walk, Trace, lastOf, handle, trace, cost, logOf, heldOf, stateOf, traceStatus}
+use Rattle.reckoning.proofs.Laws.Trace.{Round, waits, closes, stops, accepts, defaults, back, onWait, onEnd, walk, Trace, lastOf, handle, trace, cost, logOf, heldOf, stateOf, statusOf}
 use Rattle.reckoning.proofs.Laws.Walk.{settled-both, settled-hit, on-character-elim, go-none, Takes, walk-takes}
 use Rattle.reckoning.proofs.Laws.Rounds.{NotOpen, not-open, trace-rests, rests-open, ended-empty, trace-ended, Counted, spare-of, bounded}
 use Rattle.reckoning.proofs.Laws.Run.{Tells, run-tells, tells-unique}
@@ -134,18 +134,18 @@ module _ (A : Automaton) (L n : ℕ) (G : Good A L n) where
       omega (arith, after-depth 0 h (G .some-state) l, G .depth-0, G .shallow (after A 0 h) (after-inside A L n G 0 h (G .some-state)))
 
   -- where a trace waits
-  pub trace-open : (e : Bool) (u : List ℕ) → traceStatus (trace A e 0 u) ≡ Open →
+  pub trace-open : (e : Bool) (u : List ℕ) → statusOf (trace A e 0 u) ≡ Open →
       (stateOf (trace A e 0 u) ≡ after A 0 (heldOf (trace A e 0 u))) × Leads A 0 (heldOf (trace A e 0 u)) × (settled A (stateOf (trace A e 0 u)) ≡ false)
   trace-open false u o = rests-open A (trace A false 0 u) (trace-rests A L n G 0 u) o
-  trace-open true u o = absurd (not-open (traceStatus (trace A true 0 u)) (trace-ended A 0 u) o)
+  trace-open true u o = absurd (not-open (statusOf (trace A true 0 u)) (trace-ended A 0 u) o)
 
   pub trace-held : (e : Bool) (u : List ℕ) → length (heldOf (trace A e 0 u)) ≤ L
-  trace-held e u = by-status (traceStatus (trace A e 0 u)) refl
+  trace-held e u = by-status (statusOf (trace A e 0 u)) refl
     where
-      nothing : NotOpen (traceStatus (trace A e 0 u)) → length (heldOf (trace A e 0 u)) ≤ L
+      nothing : NotOpen (statusOf (trace A e 0 u)) → length (heldOf (trace A e 0 u)) ≤ L
       nothing k = let z : length (heldOf (trace A e 0 u)) ≡ 0 = ap length (ended-empty (trace A e 0 u) k .1) in omega arith
 
-      by-status : (b : Status) → traceStatus (trace A e 0 u) ≡ b → length (heldOf (trace A e 0 u)) ≤ L
+      by-status : (b : Status) → statusOf (trace A e 0 u) ≡ b → length (heldOf (trace A e 0 u)) ≤ L
       by-status Open p = leads-short (heldOf (trace A e 0 u)) (trace-open e u p .1)
       by-status Closed p = nothing (rw p tt)
       by-status Stopped p = nothing (rw p tt)
@@ -254,7 +254,7 @@ few-sum E c d a b i j = omega arith
 
 -- the run's end as the trace tells it, after k steps
 abbrev told : Trace → ℕ → Ended
-told t k = record { status = traceStatus t; final = record { store = heldOf t; unread = []; state = stateOf t; due = false; log = logOf t; steps = k } }
+told t k = record { status = statusOf t; final = record { store = heldOf t; unread = []; state = stateOf t; due = false; log = logOf t; steps = k } }
 
 -- a call's run on a sound open session tells the trace of what is held and the piece
 pub call-tells : (w : List ℕ) → T (sound w) → (s : Session) (piece : List ℕ) (ended : Bool) → T (soundSession w s) → s .status ≡ Open →
@@ -285,16 +285,16 @@ module _ (w : List ℕ) (W : T (sound w)) (s : Session) (piece : List ℕ) (ende
     stored : length (store s) ≡ s .count
     stored = length-take-le (s .count) (s .held) (omega (arith, f .places))
 
-    add-up : Sums (traceStatus t) (s .received) (s .count) (length piece) (covered (logOf t)) (length (heldOf t))
+    add-up : Sums (statusOf t) (s .received) (s .count) (length piece) (covered (logOf t)) (length (heldOf t))
     add-up =
-        sums (traceStatus t) (s .received) (s .count) (length piece) (covered (logOf t)) (length (heldOf t)) (f .enough)
-        (subst (λ z. Counted (traceStatus t) z (covered (logOf t)) (length (heldOf t))) (length-append (store s) piece ∙ ap (λ z. z + length piece) stored)
+        sums (statusOf t) (s .received) (s .count) (length piece) (covered (logOf t)) (length (heldOf t)) (f .enough)
+        (subst (λ z. Counted (statusOf t) z (covered (logOf t)) (length (heldOf t))) (length-append (store s) piece ∙ ap (λ z. z + length piece) stored)
         (bounded A (longestWord w) n G ended (store s ++ piece) .counted))
         (λ k. ap length (ended-empty t k .1))
 
     module _ (k : ℕ) (j : k + length (store s) ≡ cost t) where
       -- all steps so far, against all that was consumed
-      spent : (b : Status) → traceStatus t ≡ b → s .steps + k ≤ (longestWord w + 3) * consumed (left k) + spare-of (longestWord w) b (length (heldOf t))
+      spent : (b : Status) → statusOf t ≡ b → s .steps + k ≤ (longestWord w + 3) * consumed (left k) + spare-of (longestWord w) b (length (heldOf t))
       spent b p =
           let v : Stands w s Open = subst (Stands w s) o (f .stands) in
           let x : ℕ = spare-of (longestWord w) b (length (heldOf t)) in
@@ -304,7 +304,7 @@ module _ (w : List ℕ) (W : T (sound w)) (s : Session) (piece : List ℕ) (ende
           subst (λ z. s .steps + k ≤ (longestWord w + 3) * z + x) (sym (add-up .2))
           (steps-sum (longestWord w) (consumed s) (s .count) (s .steps) k (covered (logOf t)) x (cost t) (v .1) (ap (λ z. k + z) (sym stored) ∙ j) few)
 
-      left-stands : (b : Status) → traceStatus t ≡ b → Stands w (left k) b
+      left-stands : (b : Status) → statusOf t ≡ b → Stands w (left k) b
       left-stands Open p =
           let r = trace-open A (longestWord w) n G ended (store s ++ piece) p in
           let z : settled A (after A 0 (heldOf t)) ≡ false = ap (settled A) (sym (r .0)) ∙ r .2 in
@@ -323,7 +323,7 @@ module _ (w : List ℕ) (W : T (sound w)) (s : Session) (piece : List ℕ) (ende
             (trace-few A (longestWord w) (expansionWord w) n G (sound-short w W) ended 0 (store s ++ piece)));
         places = omega (arith, sound-longest w W, trace-held A (longestWord w) n G ended (store s ++ piece));
         zeros = pad-zeros 8 (heldOf t);
-        stands = left-stands (traceStatus t) refl;
+        stands = left-stands (statusOf t) refl;
       }
 
   pub kept-sound : T (soundSession w s) → s .status ≡ Open → length (s .held) ≡ 8 → s .received + length piece ≤ limit →

@@ -22,7 +22,7 @@ use Rattle.automaton.specs.Automaton.{Automaton}
 use Rattle.automaton.proofs.Laws.Good.{after, Least, Done, Free, Reads}
 use Rattle.reckoning.specs.Machine.{Status, Closed, Stopped}
 use Rattle.reckoning.proofs.Laws.Walk.{Along, walk-along, characters-front, accept-least}
-use Rattle.reckoning.proofs.Laws.Trace.{Round, waits, closes, stops, accepts, defaults, back, onEnd, walk, Trace, accepting, handle, trace, logOf, traceStatus}
+use Rattle.reckoning.proofs.Laws.Trace.{Round, waits, closes, stops, accepts, defaults, back, onEnd, walk, Trace, accepting, handle, trace, logOf, statusOf}
 
 -- what a round has to do with the choice; the flag tells if there is a default
 abbrev Picks : Table → Bool → List ℕ → Round → Type 0
@@ -132,7 +132,7 @@ ending false = Stopped
 
 -- the trace tells the conversion
 abbrev pub Tells : Trace → Conversion → Type 0
-Tells r c = (logOf r ≡ c .log) × (traceStatus r ≡ ending (c .closed))
+Tells r c = (logOf r ≡ c .log) × (statusOf r ≡ ending (c .closed))
 
 module _ (A : Automaton) (t : Table) (s : Shaped t) (R : Reads A t) where
   picks-along : Along A true (λ z w. Characters z × Short t z w) (Picks t (A .default))
@@ -154,11 +154,11 @@ module _ (A : Automaton) (t : Table) (s : Shaped t) (R : Reads A t) where
 module _ (t : Table) (s : Shaped t) (x : ℕ) (u : List ℕ) (f : ℕ → Trace) (g : ℕ → Conversion) (h : (k : ℕ) → Tells (f k) (g k)) where
   chosen-tells : (n k : ℕ) → choose t (x ∷ u) ≡ some n → group t n .size ≡ k →
       Tells (accepting n (take k (x ∷ u)) (f (pred k))) (convertBy t (choose t (x ∷ u)) (x ∷ u) g)
-  unfolding logOf traceStatus
+  unfolding logOf statusOf
   chosen-tells n k p q = rw (p, q) (ap (λ l. record { group = n; word = take k (x ∷ u) } ∷ l) (h (pred k) .0), h (pred k) .1)
 
   round-tells : (o : Round) → Picks t (isSome (t .default)) (x ∷ u) o → Tells (handle o (x ∷ u) f) (convertBy t (choose t (x ∷ u)) (x ∷ u) g)
-  unfolding logOf traceStatus
+  unfolding logOf statusOf
   round-tells (waits q) p = absurd p
   round-tells closes p = absurd (let z : length (x ∷ u) ≡ 0 = ap length p in omega arith)
   round-tells (stops d) p = rw (choose-is t (x ∷ u) none (p .0), p .1) (refl, refl)
@@ -168,8 +168,8 @@ module _ (t : Table) (s : Shaped t) (x : ℕ) (u : List ℕ) (f : ℕ → Trace)
       chosen-tells r d (choose-is t (x ∷ u) (some r) (p .0)) (ap (λ a. a .size) (group-rule t r s (p .0 .0)) ∙ p .1)
 
 pub meaning-law : (A : Automaton) (t : Table) → Shaped t → Reads A t → A .default ≡ isSome (t .default) → (k : ℕ) (u : List ℕ) → Characters u →
-    (logOf (trace A true k u) ≡ convertFrom t k u .log) × (traceStatus (trace A true k u) ≡ ending (convertFrom t k u .closed))
-unfolding trace convertFrom logOf traceStatus
+    (logOf (trace A true k u) ≡ convertFrom t k u .log) × (statusOf (trace A true k u) ≡ ending (convertFrom t k u .closed))
+unfolding trace convertFrom logOf statusOf
 meaning-law A t s R d k [] c = (refl, refl)
 meaning-law A t s R d (suc k) (x ∷ u) c = meaning-law A t s R d k u (c .1)
 meaning-law A t s R d zero (x ∷ u) c =

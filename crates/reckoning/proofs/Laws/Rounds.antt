@@ -14,7 +14,7 @@ use Rattle.automaton.specs.Automaton.{Automaton}
 use Rattle.automaton.proofs.Laws.Good.{after, Leads, Good}
 use Rattle.reckoning.specs.Machine.{Status, Open, Closed, Stopped}
 use Rattle.reckoning.specs.Session.{settled}
-use Rattle.reckoning.proofs.Laws.Trace.{Round, waits, closes, stops, accepts, defaults, back, onEnd, walk, Trace, waiting, closing, stopping, accepting, defaulting, lastOf, handle, trace, cost, logOf, heldOf, stateOf, traceStatus, graft}
+use Rattle.reckoning.proofs.Laws.Trace.{Round, waits, closes, stops, accepts, defaults, back, onEnd, walk, Trace, waiting, closing, stopping, accepting, defaulting, lastOf, handle, trace, cost, logOf, heldOf, stateOf, statusOf, graft}
 use Rattle.reckoning.proofs.Laws.Walk.{Firm, Span, Takes, Waited, on-character-elim, walk-mono, walk-span, walk-depth, walk-takes, walk-waited, span-weaken}
 
 -- skipping k is dropping k
@@ -64,8 +64,8 @@ module _ (A : Automaton) (e : Bool) (v : List ℕ) where
 
 -- What the parts of a grafted trace are.
 
-pub graft-stopped : (t : Trace) (f : List ℕ → Trace) → traceStatus t ≢ Open → graft t f ≡ t
-unfolding graft traceStatus
+pub graft-stopped : (t : Trace) (f : List ℕ → Trace) → statusOf t ≢ Open → graft t f ≡ t
+unfolding graft statusOf
 graft-stopped (waiting q h) f s = absurd (s refl)
 graft-stopped closing f s = refl
 graft-stopped (stopping d) f s = refl
@@ -74,7 +74,7 @@ graft-stopped (defaulting d x t) f s = ap (defaulting d x) (graft-stopped t f s)
 
 -- a trace that is told in two parts
 pub record Joined (t s r : Trace) : Type 0 where
-  pub status : traceStatus r ≡ traceStatus s
+  pub status : statusOf r ≡ statusOf s
   pub state : stateOf r ≡ stateOf s
   pub held : heldOf r ≡ heldOf s
   pub log : logOf r ≡ logOf t ++ logOf s
@@ -88,8 +88,8 @@ NotOpen Stopped = Unit {0}
 pub not-open : (s : Status) → NotOpen s → s ≢ Open
 not-open s k p = subst NotOpen p k
 
-pub graft-open : (t : Trace) (f : List ℕ → Trace) → traceStatus t ≡ Open → Joined t (f (heldOf t)) (graft t f)
-unfolding graft traceStatus stateOf heldOf logOf cost
+pub graft-open : (t : Trace) (f : List ℕ → Trace) → statusOf t ≡ Open → Joined t (f (heldOf t)) (graft t f)
+unfolding graft statusOf stateOf heldOf logOf cost
 graft-open (waiting q h) f s = record { status = refl; state = refl; held = refl; log = refl; costs = omega arith }
 graft-open closing f s = absurd (not-open Closed tt s)
 graft-open (stopping d) f s = absurd (not-open Stopped tt s)
@@ -188,9 +188,9 @@ module _ (A : Automaton) (L n : ℕ) (G : Good A L n) where
   trace-rests zero (x ∷ u) = rests-round A (walk A false 0 0 (x ∷ u)) (x ∷ u) (λ k. trace A false k u) (walk-waited A 0 0 (x ∷ u)) (λ k. trace-rests k u)
 
 -- of a whole trace that waits, what rests
-pub rests-open : (A : Automaton) (t : Trace) → Rests A t → traceStatus t ≡ Open →
+pub rests-open : (A : Automaton) (t : Trace) → Rests A t → statusOf t ≡ Open →
     (stateOf t ≡ after A 0 (heldOf t)) × Leads A 0 (heldOf t) × (settled A (stateOf t) ≡ false)
-unfolding traceStatus stateOf heldOf
+unfolding statusOf stateOf heldOf
 rests-open A (waiting q h) r s = r
 rests-open A closing r s = absurd (not-open Closed tt s)
 rests-open A (stopping d) r s = absurd (not-open Stopped tt s)
@@ -198,8 +198,8 @@ rests-open A (accepting g w t) r s = rests-open A t r s
 rests-open A (defaulting d x t) r s = rests-open A t r s
 
 -- a trace that does not wait holds nothing, in state 0
-pub ended-empty : (t : Trace) → NotOpen (traceStatus t) → (stateOf t ≡ 0) × (heldOf t ≡ [])
-unfolding traceStatus stateOf heldOf
+pub ended-empty : (t : Trace) → NotOpen (statusOf t) → (stateOf t ≡ 0) × (heldOf t ≡ [])
+unfolding statusOf stateOf heldOf
 ended-empty (waiting q h) k = absurd k
 ended-empty closing k = (refl, refl)
 ended-empty (stopping d) k = (refl, refl)
@@ -222,23 +222,23 @@ counted-more Open w r m c h k p = omega (arith, length-append w r)
 counted-more Closed w r m c h k p = omega (arith, length-append w r)
 counted-more Stopped w r m c h k p = omega (arith, length-append w r)
 
-pub covers-counted : (t : Trace) (u : List ℕ) → Covers u t → Counted (traceStatus t) (length u) (covered (logOf t)) (length (heldOf t))
-unfolding traceStatus logOf covered heldOf
+pub covers-counted : (t : Trace) (u : List ℕ) → Covers u t → Counted (statusOf t) (length u) (covered (logOf t)) (length (heldOf t))
+unfolding statusOf logOf covered heldOf
 covers-counted (waiting q h) u c = zero-add (length h) ∙ ap length c
 covers-counted closing u c = sym (ap length c)
 covers-counted (stopping d) u c = c
 covers-counted (accepting g w t) u c =
-    counted-more (traceStatus t) w (c .0) (length u) (covered (logOf t)) (length (heldOf t)) (ap length (sym (c .1))) (covers-counted t (c .0) (c .2))
+    counted-more (statusOf t) w (c .0) (length u) (covered (logOf t)) (length (heldOf t)) (ap length (sym (c .1))) (covers-counted t (c .0) (c .2))
 covers-counted (defaulting d x t) u c =
-    counted-more (traceStatus t) (x ∷ []) (c .0) (length u) (covered (logOf t)) (length (heldOf t)) (ap length (sym (c .1))) (covers-counted t (c .0) (c .2))
+    counted-more (statusOf t) (x ∷ []) (c .0) (length u) (covered (logOf t)) (length (heldOf t)) (ap length (sym (c .1))) (covers-counted t (c .0) (c .2))
 
 abbrev pub spare-of : ℕ → Status → ℕ → ℕ
 spare-of L Open h = h
 spare-of L Closed h = 1
 spare-of L Stopped h = L + 2
 
-pub spare-is : (L : ℕ) (t : Trace) → spare L t ≡ spare-of L (traceStatus t) (length (heldOf t))
-unfolding spare traceStatus heldOf
+pub spare-is : (L : ℕ) (t : Trace) → spare L t ≡ spare-of L (statusOf t) (length (heldOf t))
+unfolding spare statusOf heldOf
 spare-is L (waiting q h) = refl
 spare-is L closing = refl
 spare-is L (stopping d) = refl
@@ -252,18 +252,18 @@ in-all L Stopped m c h k p b = omega (arith, mul-le-mul-left (L + 3) p)
 
 -- a trace's counts and steps, for its whole input
 pub record Bounded (L : ℕ) (u : List ℕ) (t : Trace) : Type 0 where
-  pub counted : Counted (traceStatus t) (length u) (covered (logOf t)) (length (heldOf t))
-  pub by-status : cost t ≤ (L + 3) * covered (logOf t) + spare-of L (traceStatus t) (length (heldOf t))
+  pub counted : Counted (statusOf t) (length u) (covered (logOf t)) (length (heldOf t))
+  pub by-status : cost t ≤ (L + 3) * covered (logOf t) + spare-of L (statusOf t) (length (heldOf t))
   pub whole : cost t ≤ (L + 3) * length u + 1
 
 pub bounded : (A : Automaton) (L n : ℕ) → Good A L n → (e : Bool) (u : List ℕ) → Bounded L u (trace A e 0 u)
 bounded A L n G e u =
     let t : Trace = trace A e 0 u in
     let k : ℕ = covered (logOf t) in
-    let c : Counted (traceStatus t) (length u) k (length (heldOf t)) = covers-counted t u (trace-covers A L n G e 0 u (omega arith)) in
-    let b : cost t ≤ (L + 3) * k + spare-of L (traceStatus t) (length (heldOf t)) =
+    let c : Counted (statusOf t) (length u) k (length (heldOf t)) = covers-counted t u (trace-covers A L n G e 0 u (omega arith)) in
+    let b : cost t ≤ (L + 3) * k + spare-of L (statusOf t) (length (heldOf t)) =
     subst (λ (z : ℕ). cost t ≤ (L + 3) * k + z) (spare-is L t) (trace-cost A L n G e 0 u) in
-    record { counted = c; by-status = b; whole = in-all L (traceStatus t) (length u) k (length (heldOf t)) (cost t) c b }
+    record { counted = c; by-status = b; whole = in-all L (statusOf t) (length u) k (length (heldOf t)) (cost t) c b }
 
 -- With the end known nothing waits.
 
@@ -283,16 +283,16 @@ walk-firm A d q (x ∷ u) =
     on-character-elim Firm (A .accept q) (A .target q x) (A .default) d (λ p. walk A true (suc d) p u)
     (λ r p. tt) (λ t. walk-firm A (suc d) (A .target q x) u) (λ b. tt) tt
 
-firm-round : (o : Round) (u : List ℕ) (f : ℕ → Trace) → Firm o → ((k : ℕ) → NotOpen (traceStatus (f k))) → NotOpen (traceStatus (handle o u f))
-unfolding traceStatus
+firm-round : (o : Round) (u : List ℕ) (f : ℕ → Trace) → Firm o → ((k : ℕ) → NotOpen (statusOf (f k))) → NotOpen (statusOf (handle o u f))
+unfolding statusOf
 firm-round (waits q) u f h k = h
 firm-round closes u f h k = tt
 firm-round (stops d) u f h k = tt
 firm-round (accepts r d) u f h k = k (pred d)
 firm-round (defaults d) u f h k = k 0
 
-pub trace-ended : (A : Automaton) (k : ℕ) (u : List ℕ) → NotOpen (traceStatus (trace A true k u))
-unfolding trace traceStatus
+pub trace-ended : (A : Automaton) (k : ℕ) (u : List ℕ) → NotOpen (statusOf (trace A true k u))
+unfolding trace statusOf
 trace-ended A k [] = tt
 trace-ended A (suc k) (x ∷ u) = trace-ended A k u
 trace-ended A zero (x ∷ u) = firm-round (walk A true 0 0 (x ∷ u)) (x ∷ u) (λ k. trace A true k u) (walk-firm A 0 0 (x ∷ u)) (λ k. trace-ended A k u)

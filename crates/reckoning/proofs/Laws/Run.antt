@@ -18,7 +18,7 @@ use Rattle.automaton.specs.Automaton.{Automaton}
 use Rattle.automaton.proofs.Laws.Good.{after, Leads, Good}
 use Rattle.reckoning.specs.Machine.{Configuration, Status, Open, Closed, Stopped, onward, halt, emit, read, rollBack, end, fallBack, step, Ended, steps, run, start}
 use Rattle.reckoning.specs.Session.{settled}
-use Rattle.reckoning.proofs.Laws.Trace.{Round, waits, closes, stops, accepts, defaults, back, walk, Trace, waiting, closing, stopping, accepting, defaulting, handle, trace, cost, logOf, heldOf, stateOf, traceStatus}
+use Rattle.reckoning.proofs.Laws.Trace.{Round, waits, closes, stops, accepts, defaults, back, walk, Trace, waiting, closing, stopping, accepting, defaulting, handle, trace, cost, logOf, heldOf, stateOf, statusOf}
 use Rattle.reckoning.proofs.Laws.Walk.{settled-both, Span, walk-span, walk-resume, after-snoc, leads-snoc}
 use Rattle.reckoning.proofs.Laws.Rounds.{trace-round, not-open, trace-rests, rests-open, trace-ended, bounded}
 
@@ -100,7 +100,7 @@ steps-halt A e m c d s p = rw p
 
 -- the run from c ended as the trace t says
 pub record Tells (c : Configuration) (t : Trace) (r : Ended) : Type 0 where
-  pub status : r .status ≡ traceStatus t
+  pub status : r .status ≡ statusOf t
   pub state : r .final .state ≡ stateOf t
   pub store : r .final .store ≡ heldOf t
   pub unread : r .final .unread ≡ []
@@ -127,7 +127,7 @@ tells-unique c t r r′ a b =
 -- What becomes of the telling by an emission, a read, and at the run's end.
 
 tells-emit : (w u : List ℕ) (q : ℕ) (l : List Emission) (s s′ i : ℕ) (g : Emission) (t t′ : Trace) (r : Ended) → s′ ≡ s + i →
-    traceStatus t ≡ traceStatus t′ → stateOf t ≡ stateOf t′ → heldOf t ≡ heldOf t′ → logOf t ≡ g ∷ logOf t′ → cost t ≡ length w + i + cost t′ →
+    statusOf t ≡ statusOf t′ → stateOf t ≡ stateOf t′ → heldOf t ≡ heldOf t′ → logOf t ≡ g ∷ logOf t′ → cost t ≡ length w + i + cost t′ →
     (v : List ℕ) → Tells (at [] v 0 (l ++ g ∷ []) s′) t′ r → Tells (at w u q l s) t r
 tells-emit w u q l s s′ i g t t′ r p₀ p₁ p₂ p₃ p₄ p₅ v a = record {
   status = a .status ∙ sym p₁;
@@ -152,7 +152,7 @@ tells-read w u u′ y q q′ l s t r a = record {
 }
 
 -- t has no emission
-tells-last : (w u : List ℕ) (q : ℕ) (l : List Emission) (s : ℕ) (t : Trace) (b : Status) (w′ : List ℕ) (q′ s′ : ℕ) → b ≡ traceStatus t → q′ ≡ stateOf t →
+tells-last : (w u : List ℕ) (q : ℕ) (l : List Emission) (s : ℕ) (t : Trace) (b : Status) (w′ : List ℕ) (q′ s′ : ℕ) → b ≡ statusOf t → q′ ≡ stateOf t →
     w′ ≡ heldOf t → [] ≡ logOf t → s′ + length w ≡ s + cost t → Tells (at w u q l s) t (record { status = b; final = at w′ [] q′ l s′ })
 tells-last w u q l s t b w′ q′ s′ p₁ p₂ p₃ p₄ p₅ = record {
   status = p₁;
@@ -229,7 +229,7 @@ module _ (A : Automaton) (L n : ℕ) (G : Good A L n) where
       (ld : Leads A 0 w) (p : q ≡ after A 0 w) (tr : t ≡ trace A e 0 (w ++ u)) (few : cost t < suc b + length w) (fuel : cost t < suc m + length w) where
     accept-case : (g : ℕ) → walk A e (length w) q u ≡ accepts g (length w) → w ≢ [] → step A e (at w u q l s) ≡ emit (at w u q l s) g →
         Tells (at w u q l s) t (steps A e (suc m) (at w u q l s))
-    unfolding traceStatus stateOf heldOf logOf cost
+    unfolding statusOf stateOf heldOf logOf cost
     accept-case g k h st =
         let c : Configuration = at w u q l s in
         let t′ : Trace = trace A e 0 u in
@@ -246,7 +246,7 @@ module _ (A : Automaton) (L n : ℕ) (G : Good A L n) where
       (st : step A e (at w u q l s) ≡ rollBack (at w u q l s)) where
     default-case : (m y : ℕ) (v : List ℕ) → A .default ≡ true → w ++ u ≡ y ∷ v → t ≡ defaulting (length w) y (trace A e 0 v) →
         cost t < m + length w → Tells (at w u q l s) t (steps A e m (at w u q l s))
-    unfolding traceStatus stateOf heldOf logOf cost
+    unfolding statusOf stateOf heldOf logOf cost
     default-case zero y v pf pv p′ fuel = absurd (omega (arith, ap cost p′))
     default-case (suc zero) y v pf pv p′ fuel = absurd (omega (arith, ap cost p′))
     default-case (suc (suc zero)) y v pf pv p′ fuel = absurd (omega (arith, ap cost p′))
@@ -266,7 +266,7 @@ module _ (A : Automaton) (L n : ℕ) (G : Good A L n) where
 
     stop-case : (m : ℕ) → A .default ≡ false → t ≡ stopping (length w) → cost t < m + length w →
         Tells (at w u q l s) t (steps A e m (at w u q l s))
-    unfolding traceStatus stateOf heldOf logOf cost
+    unfolding statusOf stateOf heldOf logOf cost
     stop-case zero pf p′ fuel = absurd (omega (arith, ap cost p′))
     stop-case (suc zero) pf p′ fuel = absurd (omega (arith, ap cost p′))
     stop-case (suc (suc m)) pf p′ fuel =
@@ -311,7 +311,7 @@ module _ (A : Automaton) (L n : ℕ) (G : Good A L n) where
       (ld : Leads A 0 w) (p : q ≡ after A 0 w) (tr : t ≡ trace A false 0 (w ++ []))
       (few : cost t < suc b + length w) (fuel : cost t < suc m + length w) where
     open-case : (h : Bool) → settled A q ≡ h → Tells (at w [] q l s) t (steps A false (suc m) (at w [] q l s))
-    unfolding walk traceStatus stateOf heldOf logOf cost
+    unfolding walk statusOf stateOf heldOf logOf cost
     open-case true h =
         accept-case false b ih m w [] q l s t ld p tr few fuel (pred (A .accept q)) (rw h)
         (let k = settled-both A q (to-T (settled A q) h) in accept-store w q (k .0) p (k .1)) (step-settled A w q l s h)
@@ -325,7 +325,7 @@ module _ (A : Automaton) (L n : ℕ) (G : Good A L n) where
   end-case : (b : ℕ) → Holds A true b → (m : ℕ) (w : List ℕ) (q : ℕ) (l : List Emission) (s : ℕ) (t : Trace) →
       Leads A 0 w → q ≡ after A 0 w → t ≡ trace A true 0 (w ++ []) → cost t < suc b + length w → cost t < suc m + length w →
       (k : ℕ) → A .acceptAtEnd q ≡ k → Tells (at w [] q l s) t (steps A true (suc m) (at w [] q l s))
-  unfolding walk traceStatus stateOf heldOf logOf cost
+  unfolding walk statusOf stateOf heldOf logOf cost
   end-case b ih m w q l s t ld p tr few fuel (suc r) k =
       accept-case true b ih m w [] q l s t ld p tr few fuel r (rw k) (end-store w q r p k) (step-end A w q l s r k)
   end-case b ih m [] q l s t ld p tr few fuel zero k =
@@ -380,4 +380,4 @@ module _ (A : Automaton) (L n : ℕ) (G : Good A L n) where
 
   -- with the end known no run ends open
   pub run-ends : L ≤ 8 → (w u : List ℕ) (q : ℕ) → Leads A 0 w → q ≡ after A 0 w → run A true (start w u q) .status ≢ Open
-  run-ends h w u q ld p o = not-open (traceStatus (trace A true 0 (w ++ u))) (trace-ended A 0 (w ++ u)) (sym (run-tells h true w u q ld p .status) ∙ o)
+  run-ends h w u q ld p o = not-open (statusOf (trace A true 0 (w ++ u))) (trace-ended A 0 (w ++ u)) (sym (run-tells h true w u q ld p .status) ∙ o)

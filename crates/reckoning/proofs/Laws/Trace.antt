@@ -107,12 +107,12 @@ stateOf (stopping d) = 0
 stateOf (accepting r w t) = stateOf t
 stateOf (defaulting d x t) = stateOf t
 
-unfoldable pub traceStatus : Trace → Status
-traceStatus (waiting q h) = Open
-traceStatus closing = Closed
-traceStatus (stopping d) = Stopped
-traceStatus (accepting r w t) = traceStatus t
-traceStatus (defaulting d x t) = traceStatus t
+unfoldable pub statusOf : Trace → Status
+statusOf (waiting q h) = Open
+statusOf closing = Closed
+statusOf (stopping d) = Stopped
+statusOf (accepting r w t) = statusOf t
+statusOf (defaulting d x t) = statusOf t
 
 -- goes on with f where a trace waits
 unfoldable pub graft : Trace → (List ℕ → Trace) → Trace

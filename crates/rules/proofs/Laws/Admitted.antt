@@ -1,4 +1,4 @@
--- A record of the table check as it is run: refused alike, or taken in with the summary and the arrays of the table as it then is.
+-- A record of the table check as it is run: refused alike, or taken in with the summary and the array of the table as it then is.
 -- The tests are those of the definition; what each kind of record changes is shown in `TakenGroup`, `TakenRange`, `TakenOutput` and `TakenTerm`.
 use mathlib.Core.Bool.{Bool, true, false, _&&_, _||_, not}
 use mathlib.Core.List.{List, [], _∷_}
@@ -14,12 +14,13 @@ use Rattle.meaning.specs.Refusal.{Outcome, refused, accepted}
 use Rattle.meaning.specs.Table.{Range}
 use Rattle.meaning.specs.Record.{Record, rule, range, output, term, default}
 use Rattle.meaning.specs.Reader.{Reading, latest, latestReach, ranging, unfilled, misplaced, skipping, tooMany, taken, readOne}
-use Rattle.rules.specs.bridge.Summary.{rangesRead, admit, arraysBy}
+use Rattle.rules.specs.bridge.Summary.{rangesRead, next, admit, loadedBy}
+use Rattle.meaning.specs.bridge.Flat.{loadedWords}
 use Rattle.rules.specs.declared.reader.Reader.{Reader}
 use Rattle.meaning.proofs.Laws.Seven.{FilledPosition}
-use Rattle.rules.proofs.Laws.Represents.{latestOf, summary, flat, Read, each-last, latest-begun}
+use Rattle.rules.proofs.Laws.Represents.{latestOf, summary, Read, each-last, latest-begun}
 use Rattle.meaning.proofs.Laws.Decoding.{FittingRecord}
-use Rattle.rules.proofs.Laws.Taken.{next, Taken}
+use Rattle.rules.proofs.Laws.Taken.{Taken}
 use Rattle.rules.proofs.Laws.TakenGroup.{rule-taken, default-taken}
 use Rattle.rules.proofs.Laws.TakenRange.{range-taken}
 use Rattle.rules.proofs.Laws.TakenOutput.{output-taken}
@@ -28,7 +29,7 @@ use Rattle.rules.proofs.Laws.TakenTerm.{term-taken}
 -- what the check as run says, beside what the definition says
 abbrev pub Alike : Reading → Record → Outcome Reader → Outcome Reading → Type 0
 Alike s x o (refused k) = o ≡ refused k
-Alike s x o (accepted s′) = (o ≡ accepted (summary s′)) × (arraysBy (summary s) x (flat (s .table)) ≡ flat (s′ .table)) × Read s′
+Alike s x o (accepted s′) = (o ≡ accepted (summary s′)) × (loadedBy (summary s) x (loadedWords (s .table)) ≡ loadedWords (s′ .table)) × Read s′
 
 abbrev pub Right : Reading → Record → Outcome Reading → Type 0
 Right s x o = Alike s x (admit (summary s) x) o
@@ -65,13 +66,13 @@ last-range r q (x ∷ xs) h a = go (lastD x xs) (each-last FilledPosition x xs (
     go (y ∷ ys) f = refl
 
 range-misplaced : (s : Reading) (p : ℕ) (r : Range) → Read s →
-    (not (rangesRead (summary s)) || leb (summary s .size) p || ltb (p + 1) (summary s .positions) || (eqb (p + 1) (summary s .positions) && leb (r .lowest) (summary s .highest)))
+    (not (rangesRead (summary s)) || leb (summary s .last .size) p || ltb (p + 1) (summary s .last .positions) || (eqb (p + 1) (summary s .last .positions) && leb (r .lowest) (summary s .last .highest)))
     ≡ misplaced s (range p r)
 unfolding misplaced latest
 range-misplaced s p r h =
     let g = latestOf (s .table) in
     let ps = g .ranges in
-    let x = summary s .highest in
+    let x = summary s .last .highest in
     let y = lastD r (lastD [] ps) .highest in
     let one : p + 1 ≡ suc p = omega arith in
     ap (λ q. not (ranging s) || leb (g .size) p || ltb q (length ps) || (eqb q (length ps) && leb (r .lowest) x)) one

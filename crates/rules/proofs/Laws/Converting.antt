@@ -1,4 +1,4 @@
--- Direct conversion by the flat arrays of an accepted table is direct conversion by the table.
+-- Direct conversion by the array of an accepted table is direct conversion by the table.
 -- Each group chosen is a rule that fits or the default, so its values are characters, and its block writes them exactly.
 use mathlib.Core.Bool.{Bool, true, false, cond, or-false, true≢false, false≢true}
 use mathlib.Core.List.{List, [], _∷_, _++_}
@@ -23,8 +23,8 @@ use Rattle.meaning.specs.Value.{fitsWord, SafeTable}
 use Rattle.meaning.specs.Reader.{readTable}
 use Rattle.meaning.specs.Block.{at, block, blockOutput, blockSize}
 use Rattle.meaning.specs.Meaning.{best, orDefault, choose, written, textOf, Conversion, convertBy, convertFrom, convert, meaningText, covered}
-use Rattle.meaning.specs.Direct.{limit, DirectOutcome, over, admitted, directBy, checked, direct}
-use Rattle.meaning.specs.bridge.Flat.{slotWords, rangeWords, blockWords, expansionFrom, expansionAt, flatConversion, flatText, flatDirect, Flat}
+use Rattle.meaning.specs.Direct.{limit, Converted, DirectOutcome, over, admitted, directBy, checked, direct}
+use Rattle.meaning.specs.bridge.Flat.{blockWords, loadedWords, expansionFrom, expansionAt, flatConversion, flatText, flatDirect, Flat}
 use Rattle.rules.specs.bridge.Readings.{LoadedBy}
 use Rattle.rules.specs.declared.load.Load.{Load}
 use Rattle.rules.specs.declared.load.Load.the-variants as Load
@@ -34,64 +34,67 @@ use Rattle.meaning.proofs.Laws.Groups.{rule-shaped, default-each, group-rule, g
 use Rattle.meaning.proofs.Laws.Choice.{Fits, fits-room, Chosen, best-chosen}
 use Rattle.meaning.proofs.Laws.Length.{writes, text-short}
 use Rattle.meaning.proofs.Laws.Exact.{block-size, block-count, block-writes}
-use Rattle.meaning.proofs.Laws.Direct.{read-keeps}
+use Rattle.meaning.proofs.Laws.Direct.{table-rules, table-values}
 use Rattle.meaning.proofs.Laws.Reading.{read-shaped}
 use Rattle.meaning.proofs.Laws.Rows.{rows-at, rowsOf, rowsOf-rule, rowsOf-default}
+use Rattle.meaning.proofs.Laws.Loaded.{loaded-block}
 use Rattle.rules.proofs.Laws.Flattened.{read-narrow, flat-flat}
 use Rattle.meaning.proofs.Laws.SafeFlat.{each-numbers}
 use Rattle.meaning.proofs.Laws.Bare.{conversion-flat}
 
 -- the greatest count of output characters
 
-module _ (blocks : List ℕ) where
-  from-most : (n most : ℕ) → most ≤ expansionFrom blocks n most
+module _ (loaded : List ℕ) where
+  from-most : (n most : ℕ) → most ≤ expansionFrom loaded n most
   unfolding expansionFrom
   from-most zero most = omega arith
   from-most (suc n) most = let h = from-most n most in omega arith
 
-  from-above : (n most k : ℕ) → k < n → at blocks (blockSize * k + 2) ≤ expansionFrom blocks n most
+  from-above : (n most k : ℕ) → k < n → at loaded (blockSize * k + 2) ≤ expansionFrom loaded n most
   unfolding expansionFrom
   from-above zero most k h = absurd (omega arith)
   from-above (suc n) most k h =
       elim (ℕ-discrete k n) [ yes e ↦ rw e (omega arith) | no d ↦ let i = from-above n most k (omega arith) in omega arith ]
 
-  from-below : (n most limit : ℕ) → most ≤ limit → ((k : ℕ) → k < n → at blocks (blockSize * k + 2) ≤ limit) → expansionFrom blocks n most ≤ limit
+  from-below : (n most limit : ℕ) → most ≤ limit → ((k : ℕ) → k < n → at loaded (blockSize * k + 2) ≤ limit) → expansionFrom loaded n most ≤ limit
   unfolding expansionFrom
   from-below zero most limit h f = h
   from-below (suc n) most limit h f =
       let a = from-below n most limit h (λ k i. f k (omega arith)) in let b = f n (omega arith) in omega arith
 
-pub expansion-eight : (slots ranges blocks : List ℕ) (n : ℕ) (d : Bool) → Flat slots ranges blocks → n ≤ 32 → expansionAt blocks n d ≤ 8
-expansion-eight slots ranges blocks n d f h = from-below blocks n (cond d (at blocks (32 * blockSize + 2)) 0) 8 (first d) (λ k i. f .outputs k (omega arith))
+pub expansion-eight : (loaded : List ℕ) (n : ℕ) (d : Bool) → Flat loaded → n ≤ 32 → expansionAt loaded n d ≤ 8
+expansion-eight loaded n d f h = from-below loaded n (cond d (at loaded (32 * blockSize + 2)) 0) 8 (first d) (λ k i. f .outputs k (omega arith))
   where
-    first : (d : Bool) → cond d (at blocks (32 * blockSize + 2)) 0 ≤ 8
+    first : (d : Bool) → cond d (at loaded (32 * blockSize + 2)) 0 ≤ 8
     first true = f .outputs 32 (lit< tt)
     first false = omega arith
 
--- the refusals and the conversion, by the arrays
+-- the refusals and the conversion, by the array
 
-module _ (slots ranges blocks : List ℕ) (n : ℕ) (d : Bool) (input buffer : List ℕ) where
+module _ (loaded : List ℕ) (n : ℕ) (d : Bool) (input buffer : List ℕ) where
   abbrev outcome : DirectOutcome
-  outcome = flatDirect slots ranges blocks n d input buffer
+  outcome = flatDirect loaded n d input buffer
 
   pub flat-long : limit < length input → (refused 14 ≡ outcome .answer) × (buffer ≡ outcome .output)
   unfolding flatDirect select
   flat-long h = rw (lt-ltb limit (length input) h) (refl, refl)
 
   module _ (short : length input ≤ limit) where
-    pub flat-narrow : length buffer < expansionAt blocks n d * length input → (refused 15 ≡ outcome .answer) × (buffer ≡ outcome .output)
+    pub flat-narrow : length buffer < expansionAt loaded n d * length input → (refused 15 ≡ outcome .answer) × (buffer ≡ outcome .output)
     unfolding flatDirect select
-    flat-narrow h = rw (le-ltb limit (length input) short, lt-ltb (length buffer) (expansionAt blocks n d * length input) h) (refl, refl)
+    flat-narrow h = rw (le-ltb limit (length input) short, lt-ltb (length buffer) (expansionAt loaded n d * length input) h) (refl, refl)
 
-    pub flat-converted : expansionAt blocks n d * length input ≤ length buffer →
-        let whole = flatConversion slots ranges blocks n d input in
-        let text = flatText blocks (whole .log) in
-        outcome ≡ record { answer = accepted (record { closed = whole .closed; place = covered (whole .log); count = length text }); output = over text buffer }
+    pub flat-converted : {r : Outcome Converted} {o : List ℕ} → expansionAt loaded n d * length input ≤ length buffer →
+        let whole = flatConversion loaded n d input in
+        let text = flatText loaded (whole .log) in
+        r ≡ accepted (record { closed = whole .closed; place = covered (whole .log); count = length text }) →
+        o ≡ over text buffer → (r ≡ outcome .answer) × (o ≡ outcome .output)
     unfolding flatDirect select
-    flat-converted h = rw (le-ltb limit (length input) short, le-ltb (length buffer) (expansionAt blocks n d * length input) h) refl
+    flat-converted h p q =
+        rw (le-ltb limit (length input) short, le-ltb (length buffer) (expansionAt loaded n d * length input) h) (p, q)
 
-    pub expansion-fits : expansionAt blocks n d ≤ 8 → expansionAt blocks n d * length input ≤ 8796093022208
-    expansion-fits h = let a : expansionAt blocks n d * length input ≤ 8 * length input = mul-le-mul-right (length input) h in omega (arith, short)
+    pub expansion-fits : expansionAt loaded n d ≤ 8 → expansionAt loaded n d * length input ≤ 8796093022208
+    expansion-fits h = let a : expansionAt loaded n d * length input ≤ 8 * length input = mul-le-mul-right (length input) h in omega (arith, short)
 
 -- a group that is chosen: a rule that fits, or the default
 choose-cases : {X : Type 0} (t : Table) (u : List ℕ) (n : ℕ) → choose t u ≡ some n →
@@ -114,70 +117,75 @@ every-fits g x s h = rw (s .ranges, or-false, and-true) (to-between 0 65535 x (o
 module _ (t : Table) (s : Shaped t) where
   -- the block of a rule, and of the default
 
-  block-rule : (r : ℕ) → r < length (t .rules) → (j : ℕ) → j < blockSize → at (blockWords t) (blockSize * r + j) ≡ at (block (ruleAt t r)) j
+  loaded-rule : (r : ℕ) → r < length (t .rules) → (j : ℕ) → j < blockSize → at (loadedWords t) (blockSize * r + j) ≡ at (block (ruleAt t r)) j
   unfolding blockWords
-  block-rule r h j i =
+  loaded-rule r h j i =
       let few : length (t .rules) ≤ 32 = s .few-rules in
-      rows-at blockSize block t r j (omega arith) i ∙ ap (λ l. at l j) (rowsOf-rule block (t .rules) (t .default) r (everyCharacter []) few h)
+      loaded-block t (blockSize * r + j) (omega arith)
+      ∙ rows-at blockSize block t r j (omega arith) i
+      ∙ ap (λ l. at l j) (rowsOf-rule block (t .rules) (t .default) r (everyCharacter []) few h)
 
-  block-default : (g : Group) → t .default ≡ some g → (j : ℕ) → j < blockSize → at (blockWords t) (blockSize * 32 + j) ≡ at (block g) j
+  loaded-default : (g : Group) → t .default ≡ some g → (j : ℕ) → j < blockSize → at (loadedWords t) (blockSize * 32 + j) ≡ at (block g) j
   unfolding blockWords
-  block-default g e j i =
-      rows-at blockSize block t 32 j (lit< tt) i ∙ ap (λ d. at (getD (rowsOf block (t .rules) d) 32 []) j) e ∙ ap (λ l. at l j) (rowsOf-default block (t .rules) g)
+  loaded-default g e j i =
+      loaded-block t (blockSize * 32 + j) (omega arith)
+      ∙ rows-at blockSize block t 32 j (lit< tt) i
+      ∙ ap (λ d. at (getD (rowsOf block (t .rules) d) 32 []) j) e
+      ∙ ap (λ l. at l j) (rowsOf-default block (t .rules) g)
 
-  rule-size : (r : ℕ) → r < length (t .rules) → 1 ≤ at (blockWords t) (blockSize * r)
+  rule-size : (r : ℕ) → r < length (t .rules) → 1 ≤ at (loadedWords t) (blockSize * r)
   rule-size r h =
-      subst (λ i. 1 ≤ at (blockWords t) i) (add-zero (blockSize * r)) (subst (λ x. 1 ≤ x) (sym (block-rule r h 0 (lit< tt) ∙ block-size (ruleAt t r))) (rule-shaped t s r h .positive))
+      subst (λ i. 1 ≤ at (loadedWords t) i) (add-zero (blockSize * r)) (subst (λ x. 1 ≤ x) (sym (loaded-rule r h 0 (lit< tt) ∙ block-size (ruleAt t r))) (rule-shaped t s r h .positive))
 
-  default-one : isSome (t .default) ≡ true → at (blockWords t) (32 * blockSize) ≡ 1
+  default-one : isSome (t .default) ≡ true → at (loadedWords t) (32 * blockSize) ≡ 1
   default-one e =
       let d = some-default (t .default) e in
-      block-default (d .0) (d .1) 0 (lit< tt) ∙ block-size (d .0) ∙ default-each ShapedDefault t (d .0) (d .1) (s .default) .size
+      loaded-default (d .0) (d .1) 0 (lit< tt) ∙ block-size (d .0) ∙ default-each ShapedDefault t (d .0) (d .1) (s .default) .size
 
   -- the expansion
 
-  pub expansion-flat : expansionAt (blockWords t) (length (t .rules)) (isSome (t .default)) ≡ expansion t
+  pub expansion-flat : expansionAt (loadedWords t) (length (t .rules)) (isSome (t .default)) ≡ expansion t
   unfolding expansion
   expansion-flat =
-      let F = expansionAt (blockWords t) (length (t .rules)) (isSome (t .default)) in
+      let F = expansionAt (loadedWords t) (length (t .rules)) (isSome (t .default)) in
       let E = greatest (λ g. length (g .outputs)) (groups t) in
       let below : Each (λ g. length (g .outputs) ≤ E) (groups t) = greatest-above (λ g. length (g .outputs)) E (groups t) (omega arith) in
       let a : F ≤ E =
-      from-below (blockWords t) (length (t .rules)) _ E (first-below E (t .default) refl (each-back (λ g. length (g .outputs) ≤ E) (t .rules) (optional (t .default)) below))
+      from-below (loadedWords t) (length (t .rules)) _ E (first-below E (t .default) refl (each-back (λ g. length (g .outputs) ≤ E) (t .rules) (optional (t .default)) below))
       (λ k h. subst (λ x. x ≤ E) (sym (count-rule k h)) (each-getD (λ g. length (g .outputs) ≤ E) (t .rules) k (everyCharacter []) (each-front (λ g. length (g .outputs) ≤ E) (t .rules) (optional (t .default)) below) h)) in
       let b : E ≤ F =
       greatest-le (λ g. length (g .outputs)) F (groups t)
       (each-append (λ g. length (g .outputs) ≤ F) (t .rules) (optional (t .default))
-      (each-numbers (λ g. length (g .outputs) ≤ F) (t .rules) (everyCharacter []) (λ k h. subst (λ x. x ≤ F) (count-rule k h) (from-above (blockWords t) (length (t .rules)) _ k h)))
-      (first-above F (t .default) refl (from-most (blockWords t) (length (t .rules)) _))) in
+      (each-numbers (λ g. length (g .outputs) ≤ F) (t .rules) (everyCharacter []) (λ k h. subst (λ x. x ≤ F) (count-rule k h) (from-above (loadedWords t) (length (t .rules)) _ k h)))
+      (first-above F (t .default) refl (from-most (loadedWords t) (length (t .rules)) _))) in
       omega arith
     where
-      count-rule : (k : ℕ) → k < length (t .rules) → at (blockWords t) (blockSize * k + 2) ≡ length (ruleAt t k .outputs)
-      count-rule k h = block-rule k h 2 (lit< tt) ∙ block-count (ruleAt t k)
+      count-rule : (k : ℕ) → k < length (t .rules) → at (loadedWords t) (blockSize * k + 2) ≡ length (ruleAt t k .outputs)
+      count-rule k h = loaded-rule k h 2 (lit< tt) ∙ block-count (ruleAt t k)
 
-      count-default : (g : Group) → t .default ≡ some g → at (blockWords t) (32 * blockSize + 2) ≡ length (g .outputs)
-      count-default g e = block-default g e 2 (lit< tt) ∙ block-count g
+      count-default : (g : Group) → t .default ≡ some g → at (loadedWords t) (32 * blockSize + 2) ≡ length (g .outputs)
+      count-default g e = loaded-default g e 2 (lit< tt) ∙ block-count g
 
-      first-below : (E : ℕ) (o : Option Group) → t .default ≡ o → Each (λ g. length (g .outputs) ≤ E) (optional o) → cond (isSome o) (at (blockWords t) (32 * blockSize + 2)) 0 ≤ E
+      first-below : (E : ℕ) (o : Option Group) → t .default ≡ o → Each (λ g. length (g .outputs) ≤ E) (optional o) → cond (isSome o) (at (loadedWords t) (32 * blockSize + 2)) 0 ≤ E
       first-below E none e a = omega arith
       first-below E (some g) e a = subst (λ x. x ≤ E) (sym (count-default g e)) (a .0)
 
-      first-above : (F : ℕ) (o : Option Group) → t .default ≡ o → cond (isSome o) (at (blockWords t) (32 * blockSize + 2)) 0 ≤ F → Each (λ g. length (g .outputs) ≤ F) (optional o)
+      first-above : (F : ℕ) (o : Option Group) → t .default ≡ o → cond (isSome o) (at (loadedWords t) (32 * blockSize + 2)) 0 ≤ F → Each (λ g. length (g .outputs) ≤ F) (optional o)
       first-above F none e a = tt
       first-above F (some g) e a = (subst (λ x. x ≤ F) (count-default g e) a, tt)
 
   -- what is written
 
   module _ (safe : SafeTable t) where
-    group-writes : (g : Group) (n : ℕ) (w : List ℕ) → group t n ≡ g → ((j : ℕ) → j < blockSize → at (blockWords t) (blockSize * n + j) ≡ at (block g) j) →
+    group-writes : (g : Group) (n : ℕ) (w : List ℕ) → group t n ≡ g → ((j : ℕ) → j < blockSize → at (loadedWords t) (blockSize * n + j) ≡ at (block g) j) →
         g .size ≤ 8 → length (g .outputs) ≤ 8 → length w ≡ g .size → T (fitsWord (g .ranges) w) → SafeGroup g →
-        blockOutput (drop (blockSize * n) (blockWords t)) w ≡ writes t n w
+        blockOutput (drop (blockSize * n) (loadedWords t)) w ≡ writes t n w
     group-writes g n w named row small few size takes safe =
-        block-writes g w (drop (blockSize * n) (blockWords t)) small few size (safe-group g w takes safe) (λ j h. getD-drop (blockSize * n) (blockWords t) j 0 ∙ row j h)
+        block-writes g w (drop (blockSize * n) (loadedWords t)) small few size (safe-group g w takes safe) (λ j h. getD-drop (blockSize * n) (loadedWords t) j 0 ∙ row j h)
         ∙ ap (λ a. written a w) (sym named)
 
     chosen-writes : (n : ℕ) (c : ℕ) (rest : List ℕ) → c < 65536 → choose t (c ∷ rest) ≡ some n →
-        let w = take (group t n .size) (c ∷ rest) in blockOutput (drop (blockSize * n) (blockWords t)) w ≡ writes t n w
+        let w = take (group t n .size) (c ∷ rest) in blockOutput (drop (blockSize * n) (loadedWords t)) w ≡ writes t n w
     unfolding SafeTable
     chosen-writes n c rest small e =
         choose-cases t (c ∷ rest) n e
@@ -186,8 +194,8 @@ module _ (t : Table) (s : Shaped t) where
         let shape = rule-shaped t s n h in
         let named : group t n ≡ g = group-rule t n s h in
         let w = take (g .size) (c ∷ rest) in
-        subst (λ k. let w = take k (c ∷ rest) in blockOutput (drop (blockSize * n) (blockWords t)) w ≡ writes t n w) (sym (ap (λ a. a .size) named))
-        (group-writes g n w named (block-rule n h) (shape .small) (shape .outputs) (length-take-le (g .size) (c ∷ rest) (fits-room t n (c ∷ rest) s h f)) (f .match)
+        subst (λ k. let w = take k (c ∷ rest) in blockOutput (drop (blockSize * n) (loadedWords t)) w ≡ writes t n w) (sym (ap (λ a. a .size) named))
+        (group-writes g n w named (loaded-rule n h) (shape .small) (shape .outputs) (length-take-le (g .size) (c ∷ rest) (fits-room t n (c ∷ rest) s h f)) (f .match)
         (each-getD SafeGroup (t .rules) n (everyCharacter []) (each-front SafeGroup (t .rules) (optional (t .default)) safe) h)))
         (λ z d.
         let o = some-default (t .default) d in
@@ -195,36 +203,37 @@ module _ (t : Table) (s : Shaped t) where
         let shape = default-each ShapedDefault t g (o .1) (s .default) in
         let one : g .size ≡ 1 = shape .size in
         let named : group t defaultNumber ≡ g = group-default t g (o .1) in
-        subst (λ m. let w = take (group t m .size) (c ∷ rest) in blockOutput (drop (blockSize * m) (blockWords t)) w ≡ writes t m w) (sym z)
-        (subst (λ k. let w = take k (c ∷ rest) in blockOutput (drop (blockSize * 32) (blockWords t)) w ≡ writes t 32 w) (sym (ap (λ a. a .size) named ∙ one))
-        (group-writes g 32 (c ∷ []) named (block-default g (o .1)) (omega arith) (shape .outputs) (sym one) (every-fits g c shape small)
+        subst (λ m. let w = take (group t m .size) (c ∷ rest) in blockOutput (drop (blockSize * m) (loadedWords t)) w ≡ writes t m w) (sym z)
+        (subst (λ k. let w = take k (c ∷ rest) in blockOutput (drop (blockSize * 32) (loadedWords t)) w ≡ writes t 32 w) (sym (ap (λ a. a .size) named ∙ one))
+        (group-writes g 32 (c ∷ []) named (loaded-default g (o .1)) (omega arith) (shape .outputs) (sym one) (every-fits g c shape small)
         (default-each SafeGroup t g (o .1) (each-back SafeGroup (t .rules) (optional (t .default)) safe)))))
 
-    text-from : (skip : ℕ) (rest : List ℕ) → Characters rest → flatText (blockWords t) (convertFrom t skip rest .log) ≡ textOf (writes t) (convertFrom t skip rest .log)
+    text-from : (skip : ℕ) (rest : List ℕ) → Characters rest → flatText (loadedWords t) (convertFrom t skip rest .log) ≡ textOf (writes t) (convertFrom t skip rest .log)
     unfolding convertFrom textOf
     text-from skip [] e = refl
     text-from (suc skip) (c ∷ rest) e = text-from skip rest (e .1)
     text-from zero (c ∷ rest) e = go (choose t (c ∷ rest)) refl (λ skip. text-from skip rest (e .1))
       where
         go : (o : Option ℕ) → choose t (c ∷ rest) ≡ o →
-            ((skip : ℕ) → flatText (blockWords t) (convertFrom t skip rest .log) ≡ textOf (writes t) (convertFrom t skip rest .log)) →
-            flatText (blockWords t) (convertBy t o (c ∷ rest) (λ skip. convertFrom t skip rest) .log)
+            ((skip : ℕ) → flatText (loadedWords t) (convertFrom t skip rest .log) ≡ textOf (writes t) (convertFrom t skip rest .log)) →
+            flatText (loadedWords t) (convertBy t o (c ∷ rest) (λ skip. convertFrom t skip rest) .log)
             ≡ textOf (writes t) (convertBy t o (c ∷ rest) (λ skip. convertFrom t skip rest) .log)
         go none p h = refl
         go (some n) p h = ap₂ _++_ (chosen-writes n c rest (e .0) p) (h (pred (group t n .size)))
 
     module _ (narrow : Narrow t) (u : List ℕ) (characters : Characters u) where
       abbrev conversion : Conversion
-      conversion = flatConversion (slotWords t) (rangeWords t) (blockWords t) (length (t .rules)) (isSome (t .default)) u
+      conversion = flatConversion (loadedWords t) (length (t .rules)) (isSome (t .default)) u
 
-      text-flat : flatText (blockWords t) (conversion .log) ≡ meaningText t u
+      text-flat : flatText (loadedWords t) (conversion .log) ≡ meaningText t u
       unfolding convert
-      text-flat = ap (λ c. flatText (blockWords t) (c .log)) (conversion-flat t u s narrow) ∙ text-from 0 u characters
+      text-flat =
+          ap (λ c. flatText (loadedWords t) (c .log)) (conversion-flat t u s narrow) ∙ text-from 0 u characters
 
-      text-room : length (flatText (blockWords t) (conversion .log)) ≤ expansionAt (blockWords t) (length (t .rules)) (isSome (t .default)) * length u
+      text-room : length (flatText (loadedWords t) (conversion .log)) ≤ expansionAt (loadedWords t) (length (t .rules)) (isSome (t .default)) * length u
       text-room = rw (text-flat, expansion-flat) (text-short t u)
 
-      direct-flat : (buffer : List ℕ) → flatDirect (slotWords t) (rangeWords t) (blockWords t) (length (t .rules)) (isSome (t .default)) u buffer
+      direct-flat : (buffer : List ℕ) → flatDirect (loadedWords t) (length (t .rules)) (isSome (t .default)) u buffer
           ≡ directBy (select ((ltb limit (length u), refused 14) ∷ (ltb (length buffer) (expansion t * length u), refused 15) ∷ []) (accepted t)) u buffer
       unfolding flatDirect select
       direct-flat buffer =
@@ -251,38 +260,38 @@ abbrev defaultedOf : Load → Bool
 defaultedOf (Load.Accepted n d) = d
 defaultedOf (Load.Refused k) = false
 
-loaded-refused : (o : Outcome Table) (n : ℕ) (slots ranges blocks : List ℕ) → LoadedBy o (Load.Refused n) slots ranges blocks → o ≡ refused n
-loaded-refused (refused k) n slots ranges blocks e = ap refused (sym (ap numberOf e))
-loaded-refused (accepted t) n slots ranges blocks e = absurd (false≢true (ap isLoaded (e .0)))
+loaded-refused : (o : Outcome Table) (n : ℕ) (loaded : List ℕ) → LoadedBy o (Load.Refused n) loaded → o ≡ refused n
+loaded-refused (refused k) n loaded e = ap refused (sym (ap numberOf e))
+loaded-refused (accepted t) n loaded e = absurd (false≢true (ap isLoaded (e .0)))
 
--- what holds of the arrays of the table that is read
-of-loaded : (P : List ℕ → List ℕ → List ℕ → ℕ → Bool → Type 0) (o : Outcome Table) (n : ℕ) (d : Bool) (slots ranges blocks : List ℕ) →
-    LoadedBy o (Load.Accepted n d) slots ranges blocks →
-    ((t : Table) → o ≡ accepted t → P (slotWords t) (rangeWords t) (blockWords t) (length (t .rules)) (isSome (t .default))) → P slots ranges blocks n d
-of-loaded P (refused k) n d slots ranges blocks e f = absurd (true≢false (ap isLoaded e))
-of-loaded P (accepted t) n d slots ranges blocks e f = rw (e .1, e .2, e .3, ap numberOf (e .0), ap defaultedOf (e .0)) (f t refl)
+-- what holds of the array of the table that is read
+of-loaded : (P : List ℕ → ℕ → Bool → Type 0) (o : Outcome Table) (n : ℕ) (d : Bool) (loaded : List ℕ) →
+    LoadedBy o (Load.Accepted n d) loaded →
+    ((t : Table) → o ≡ accepted t → P (loadedWords t) (length (t .rules)) (isSome (t .default))) → P loaded n d
+of-loaded P (refused k) n d loaded e f = absurd (true≢false (ap isLoaded e))
+of-loaded P (accepted t) n d loaded e f = rw (e .1, ap numberOf (e .0), ap defaultedOf (e .0)) (f t refl)
 
--- what the conversion by the arrays needs
-pub record Ready (slots ranges blocks : List ℕ) (n : ℕ) (d : Bool) (input : List ℕ) : Type 0 where
-  pub flat : Flat slots ranges blocks
+-- what the conversion by the array needs
+pub record Ready (loaded : List ℕ) (n : ℕ) (d : Bool) (input : List ℕ) : Type 0 where
+  pub flat : Flat loaded
   pub few : n ≤ 32
-  pub positive : (g : ℕ) → g < n → 1 ≤ at blocks (blockSize * g)
-  pub default : d ≡ true → at blocks (32 * blockSize) ≡ 1
-  pub room : length (flatText blocks (flatConversion slots ranges blocks n d input .log)) ≤ expansionAt blocks n d * length input
+  pub positive : (g : ℕ) → g < n → 1 ≤ at loaded (blockSize * g)
+  pub default : d ≡ true → at loaded (32 * blockSize) ≡ 1
+  pub room : length (flatText loaded (flatConversion loaded n d input .log)) ≤ expansionAt loaded n d * length input
 
 module _ (b : List ℕ) where
   -- a table that is read keeps what the laws above ask
   module _ (t : Table) (e : readTable b ≡ accepted t) (bytes : Each (λ x. x < 256) b) where
     pub is-shaped : Shaped t
-    is-shaped = read-shaped b t (read-keeps b t e .records)
+    is-shaped = read-shaped b t (table-rules b t e)
 
     pub is-narrow : Narrow t
-    is-narrow = read-narrow b t bytes (read-keeps b t e .records)
+    is-narrow = read-narrow b t bytes (table-rules b t e)
 
     is-safe : SafeTable t
-    is-safe = read-keeps b t e .values
+    is-safe = table-values b t e
 
-    read-ready : (input : List ℕ) → Characters input → Ready (slotWords t) (rangeWords t) (blockWords t) (length (t .rules)) (isSome (t .default)) input
+    read-ready : (input : List ℕ) → Characters input → Ready (loadedWords t) (length (t .rules)) (isSome (t .default)) input
     read-ready input c =
         record {
           flat = flat-flat t is-shaped is-narrow;
@@ -293,29 +302,32 @@ module _ (b : List ℕ) where
         }
 
     read-direct : (input buffer : List ℕ) → Characters input →
-        flatDirect (slotWords t) (rangeWords t) (blockWords t) (length (t .rules)) (isSome (t .default)) input buffer ≡ direct b input buffer
+        flatDirect (loadedWords t) (length (t .rules)) (isSome (t .default)) input buffer ≡ direct b input buffer
     unfolding direct admitted andThen
     read-direct input buffer c = rw e (direct-flat t is-shaped is-safe is-narrow input c buffer)
 
-  module _ (r : Load) (slots ranges blocks : List ℕ) (l : LoadedBy (readTable b) r slots ranges blocks) where
+  module _ (r : Load) (loaded : List ℕ) (l : LoadedBy (readTable b) r loaded) where
     module _ (n : ℕ) (d : Bool) (e : r ≡ Load.Accepted n d) where
-      pub of-read : (P : List ℕ → List ℕ → List ℕ → ℕ → Bool → Type 0) →
-          ((t : Table) → readTable b ≡ accepted t → P (slotWords t) (rangeWords t) (blockWords t) (length (t .rules)) (isSome (t .default))) → P slots ranges blocks n d
-      of-read P f = of-loaded P (readTable b) n d slots ranges blocks (subst (λ x. LoadedBy (readTable b) x slots ranges blocks) e l) f
+      pub of-read : (P : List ℕ → ℕ → Bool → Type 0) →
+          ((t : Table) → readTable b ≡ accepted t → P (loadedWords t) (length (t .rules)) (isSome (t .default))) → P loaded n d
+      of-read P f = of-loaded P (readTable b) n d loaded (subst (λ x. LoadedBy (readTable b) x loaded) e l) f
 
-      pub loaded-ready : Each (λ x. x < 256) b → (input : List ℕ) → Characters input → Ready slots ranges blocks n d input
-      loaded-ready bytes input c = of-read (λ s r k n d. Ready s r k n d input) (λ t e. read-ready t e bytes input c)
+      pub loaded-ready : Each (λ x. x < 256) b → (input : List ℕ) → Characters input → Ready loaded n d input
+      loaded-ready bytes input c = of-read (λ l n d. Ready l n d input) (λ t e. read-ready t e bytes input c)
 
-      pub loaded-direct : Each (λ x. x < 256) b → (input buffer : List ℕ) → Characters input → flatDirect slots ranges blocks n d input buffer ≡ direct b input buffer
-      loaded-direct bytes input buffer c = of-read (λ s r k n d. flatDirect s r k n d input buffer ≡ direct b input buffer) (λ t e. read-direct t e bytes input buffer c)
+      pub loaded-direct : {r : Outcome Converted} {o : List ℕ} → Each (λ x. x < 256) b → (input buffer : List ℕ) → Characters input →
+          r ≡ flatDirect loaded n d input buffer .answer → o ≡ flatDirect loaded n d input buffer .output → (r ≡ direct b input buffer .answer) × (o ≡ direct b input buffer .output)
+      loaded-direct {r} {o} bytes input buffer c p q =
+          subst (λ x. (r ≡ x .answer) × (o ≡ x .output))
+          (of-read (λ l n d. flatDirect l n d input buffer ≡ direct b input buffer) (λ t e. read-direct t e bytes input buffer c)) (p, q)
 
       pub loaded-checked : accepted tt ≡ checked b
       unfolding andThen
-      loaded-checked = of-read (λ s r k n d. accepted tt ≡ checked b) (λ t e. rw e refl)
+      loaded-checked = of-read (λ l n d. accepted tt ≡ checked b) (λ t e. rw e refl)
 
     module _ (n : ℕ) (e : r ≡ Load.Refused n) where
       pub is-refused : readTable b ≡ refused n
-      is-refused = loaded-refused (readTable b) n slots ranges blocks (subst (λ x. LoadedBy (readTable b) x slots ranges blocks) e l)
+      is-refused = loaded-refused (readTable b) n loaded (subst (λ x. LoadedBy (readTable b) x loaded) e l)
 
       pub refused-direct : (input buffer : List ℕ) → (refused n ≡ direct b input buffer .answer) × (buffer ≡ direct b input buffer .output)
       unfolding direct admitted andThen

@@ -1,4 +1,4 @@
--- A reading as the table check keeps it: a summary of its last group, and its table in flat arrays.
+-- A reading as the table check keeps it: a summary of its last group, and its table in one flat array.
 -- What holds of every reading on the way makes the two agree: `Admitted` shows that each record keeps it.
 use mathlib.Core.Bool.{Bool, false, not, _||_, true≢false}
 use mathlib.Core.List.{List, [], _∷_, _++_}
@@ -14,21 +14,18 @@ use Rattle.lists.proofs.Laws.Tests.{of-T, of-not, or-cases}
 use Rattle.lists.proofs.Laws.Each.{each-append, each-front, each-back, each-weaken}
 use Rattle.meaning.specs.Table.{sum, Group, Table, everyCharacter}
 use Rattle.meaning.specs.Reader.{Reading, unread, reach, ranging, changeLatest}
-use Rattle.rules.specs.bridge.Summary.{Arrays, started, Fitting}
-use Rattle.meaning.specs.bridge.Flat.{slotWords, rangeWords, blockWords, constantWords}
+use Rattle.rules.specs.bridge.Summary.{Fitting}
 use Rattle.rules.specs.declared.reader.Reader.{Reader}
+use Rattle.rules.specs.declared.reader.Last.{Last}
 use Rattle.meaning.proofs.Laws.Reading.{Begun, Plain, Ended, KeptReading, top, atLast-length, last-each, unread-kept}
 use Rattle.meaning.proofs.Laws.Narrow.{NarrowGroup, Narrow}
 use Rattle.meaning.proofs.Laws.Rows.{Grouped}
 use Rattle.meaning.proofs.Laws.Stored.{last-atLast}
 
--- the last record's kind, the number of rules, whether there is a default, and the group read last
-abbrev pub summaryOf : ℕ → ℕ → Bool → Group → Reader
-summaryOf k n d g =
+-- what is kept of a group
+abbrev pub lastOf : Group → Last
+lastOf g =
     record {
-      kind = k;
-      rules = n;
-      defaulted = d;
       size = g .size;
       positions = length (g .ranges);
       slots = length (lastD [] (g .ranges));
@@ -37,17 +34,15 @@ summaryOf k n d g =
       reach = reach (lastD (sum (pos 0) []) (g .outputs));
     }
 
+-- the last record's kind, the number of rules, whether there is a default, and the group read last
+abbrev pub summaryOf : ℕ → ℕ → Bool → Group → Reader
+summaryOf k n d g = record { kind = k; rules = n; defaulted = d; last = lastOf g }
+
 abbrev pub latestOf : Table → Group
 latestOf t = top (t .rules) (t .default)
 
 abbrev pub summary : Reading → Reader
 summary s = summaryOf (s .kind) (length (s .table .rules)) (isSome (s .table .default)) (latestOf (s .table))
-
-abbrev pub flat : Table → Arrays
-flat t = record { slots = slotWords t; ranges = rangeWords t; blocks = blockWords t; constants = constantWords t }
-
-pub arrays-same : {m k : Arrays} → m .slots ≡ k .slots → m .ranges ≡ k .ranges → m .blocks ≡ k .blocks → m .constants ≡ k .constants → m ≡ k
-arrays-same p q r s = λ i. record { slots = p i; ranges = q i; blocks = r i; constants = s i }
 
 -- what holds of every reading on the way
 pub record Read (s : Reading) : Type 0 where
@@ -59,10 +54,6 @@ pub record Read (s : Reading) : Type 0 where
 pub unread-read : Read unread
 unfolding unread
 unread-read = record { kept = unread-kept; narrow = tt; grouped = λ t. absurd t; writing = λ t. absurd t }
-
-pub unread-started : summary unread ≡ started
-unfolding unread
-unread-started = refl
 
 -- the group read last
 
@@ -133,11 +124,13 @@ read-fitting s h =
     let reaches : reach (lastD (sum (pos 0) []) (g .outputs)) ≤ g .size = each-last (λ o. reach o ≤ g .size) (sum (pos 0) []) (g .outputs) (omega arith) (b .outputs .1) in
     record {
       rules = h .kept .few;
-      size = small;
-      positions = omega arith;
-      slots = each-last (λ rs. length rs ≤ 4) [] (g .ranges) (omega arith) (latest-narrow s h .few);
-      outputs = b .outputs .0;
-      reach = omega arith;
+      last = record {
+        size = small;
+        positions = omega arith;
+        slots = each-last (λ rs. length rs ≤ 4) [] (g .ranges) (omega arith) (latest-narrow s h .few);
+        outputs = b .outputs .0;
+        reach = omega arith;
+      };
       ranging = λ t. let e = without s h t in (there (s .table .rules) (s .table .default) (h .grouped (kind-there (s .kind) 1 2 t tt tt)) e, e);
       grouped = λ t. there (s .table .rules) (s .table .default) (h .grouped t);
       writing = h .writing;

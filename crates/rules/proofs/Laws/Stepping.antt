@@ -1,6 +1,6 @@
--- Taking in one record: the summary's numbers stay within their limits, the arrays keep their lengths, and what is written has its place.
+-- Taking in one record: the summary's numbers stay within their limits, the array keeps its length, and what is written has its place.
 -- By the tests that the record has passed.
-use mathlib.Core.Bool.{Bool, true, false, _&&_, _||_, not, cond, true≢false}
+use mathlib.Core.Bool.{Bool, true, false, _&&_, _||_, not, true≢false}
 use mathlib.Core.List.{List}
 use mathlib.Core.Logic.{_≢_}
 use mathlib.Core.Option.{Option, none, some}
@@ -13,117 +13,85 @@ use lib.ListN.{length, length-set}
 use Rattle.lists.proofs.Laws.Tests.{of-not, not-not, or-none, or-cases, of-cond, by-cases, neqb→ne}
 use Rattle.meaning.specs.Refusal.{Outcome, refused, accepted}
 use Rattle.meaning.specs.Record.{Record, rule, range, output, term, default}
-use Rattle.rules.specs.bridge.Summary.{started, rangesRead, admit, groupNumber, slotNumber, slotsBy, rangesBy, blocksBy, constantsBy, ifAdmitted, ifTaken, Fitting}
+use Rattle.rules.specs.bridge.Summary.{everyLast, started, rangesRead, admit, groupNumber, slotNumber, loadedBy, afterwards, ifTaken, FittingLast, Fitting}
 use Rattle.rules.specs.declared.reader.Reader.{Reader}
 
 pub fails : (b : Bool) → b ≡ false → T (not b)
 fails true e = absurd (true≢false e)
 fails false e = tt
 
--- an array that the record leaves as it is
-pub untouched : (o : Outcome Reader) (l : List ℕ) → l ≡ ifAdmitted o l l
-untouched (refused n) l = refl
-untouched (accepted r) l = refl
+-- the array, which the record changes if it is admitted
+pub kept : {o : Outcome Reader} {n : ℕ} (new old : List ℕ) → o ≡ refused n → old ≡ afterwards o new old
+kept new old e = ap (λ x. afterwards x new old) (sym e)
 
--- an array that the record changes if it is admitted
-pub kept : {o : Outcome Reader} {n : ℕ} (new old : List ℕ) → o ≡ refused n → old ≡ ifAdmitted o new old
-kept new old e = ap (λ x. ifAdmitted x new old) (sym e)
+pub changed : {o : Outcome Reader} {r : Reader} (new old : List ℕ) → o ≡ accepted r → new ≡ afterwards o new old
+changed new old e = ap (λ x. afterwards x new old) (sym e)
 
-pub changed : {o : Outcome Reader} {r : Reader} (new old : List ℕ) → o ≡ accepted r → new ≡ ifAdmitted o new old
-changed new old e = ap (λ x. ifAdmitted x new old) (sym e)
+-- it keeps its length
 
--- the arrays keep their lengths
+loadedBy-length : (r : Reader) (x : Record) (l : List ℕ) → length (loadedBy r x l) ≡ length l
+loadedBy-length r (rule k a) l = simp length-set
+loadedBy-length r (range p c) l = simp length-set
+loadedBy-length r (output c) l = simp length-set
+loadedBy-length r (term p a) l = simp length-set
+loadedBy-length r default l = simp length-set
 
-pub slotsBy-length : (r : Reader) (x : Record) (l : List ℕ) → length (slotsBy r x l) ≡ length l
-slotsBy-length r (rule k a) l = refl
-slotsBy-length r (range p c) l = simp length-set
-slotsBy-length r (output c) l = refl
-slotsBy-length r (term p a) l = refl
-slotsBy-length r default l = simp length-set
-
-pub rangesBy-length : (r : Reader) (x : Record) (l : List ℕ) → length (rangesBy r x l) ≡ length l
-rangesBy-length r (rule k a) l = refl
-rangesBy-length r (range p c) l = simp length-set
-rangesBy-length r (output c) l = refl
-rangesBy-length r (term p a) l = refl
-rangesBy-length r default l = simp length-set
-
-pub blocksBy-length : (r : Reader) (x : Record) (l : List ℕ) → length (blocksBy r x l) ≡ length l
-blocksBy-length r (rule k a) l = simp length-set
-blocksBy-length r (range p c) l = refl
-blocksBy-length r (output c) l = simp length-set
-blocksBy-length r (term p a) l = simp length-set
-blocksBy-length r default l = simp length-set
-
-pub constantsBy-length : (r : Reader) (x : Record) (l : List ℕ) → length (constantsBy r x l) ≡ length l
-constantsBy-length r (rule k a) l = refl
-constantsBy-length r (range p c) l = refl
-constantsBy-length r (output c) l = simp length-set
-constantsBy-length r (term p a) l = refl
-constantsBy-length r default l = refl
-
--- the same of an array that a record changes only if it is taken in
-pub ifTaken-length : (f : Reader → Record → List ℕ → List ℕ) → ((r : Reader) (x : Record) (l : List ℕ) → length (f r x l) ≡ length l) →
-    (r : Reader) (x : Option Record) (l : List ℕ) → length (ifTaken r x f l) ≡ length l
-ifTaken-length f h r none l = refl
-ifTaken-length f h r (some x) l = go (admit r x)
+pub ifTaken-length : (r : Reader) (x : Option Record) (l : List ℕ) → length (ifTaken r x l) ≡ length l
+ifTaken-length r none l = refl
+ifTaken-length r (some x) l = go (admit r x)
   where
-    go : (o : Outcome Reader) → length (ifAdmitted o (f r x l) l) ≡ length l
+    go : (o : Outcome Reader) → length (afterwards o (loadedBy r x l) l) ≡ length l
     go (refused n) = refl
-    go (accepted r′) = h r x l
+    go (accepted r′) = loadedBy-length r x l
 
 -- a range that may come: of a rule, at one of its positions, the next or the last, and in one of four places there
 
 abbrev pub rangeMisplaced : Reader → ℕ → ℕ → Bool
 rangeMisplaced r p lowest =
-    not (rangesRead r) || leb (r .size) p || ltb (p + 1) (r .positions) || (eqb (p + 1) (r .positions) && leb lowest (r .highest))
+    not (rangesRead r) || leb (r .last .size) p || ltb (p + 1) (r .last .positions) || (eqb (p + 1) (r .last .positions) && leb lowest (r .last .highest))
 
 abbrev pub positionFull : Reader → ℕ → Bool
-positionFull r p = eqb (p + 1) (r .positions) && eqb (r .slots) 4
+positionFull r p = eqb (p + 1) (r .last .positions) && eqb (r .last .slots) 4
 
 pub record RangeComes (r : Reader) (p : ℕ) : Type 0 where
   pub ranging : T (rangesRead r)
-  pub inside : p < r .size
-  pub next : r .positions ≤ p + 1
+  pub inside : p < r .last .size
+  pub next : r .last .positions ≤ p + 1
 
 pub range-comes : (r : Reader) (p lowest : ℕ) → T (not (rangeMisplaced r p lowest)) → RangeComes r p
 range-comes r p lowest h =
     let a = not (rangesRead r) in
-    let b = leb (r .size) p in
-    let c = ltb (p + 1) (r .positions) in
-    let t = or-none (a || b) c (or-none (a || b || c) (eqb (p + 1) (r .positions) && leb lowest (r .highest)) h .0) in
+    let b = leb (r .last .size) p in
+    let c = ltb (p + 1) (r .last .positions) in
+    let t = or-none (a || b) c (or-none (a || b || c) (eqb (p + 1) (r .last .positions) && leb lowest (r .last .highest)) h .0) in
     let u = or-none a b (t .0) in
-    record { ranging = not-not (rangesRead r) (u .0); inside = nleb→lt (r .size) p (u .1); next = nltb→le (p + 1) (r .positions) (t .1) }
+    record { ranging = not-not (rangesRead r) (u .0); inside = nleb→lt (r .last .size) p (u .1); next = nltb→le (p + 1) (r .last .positions) (t .1) }
 
-pub slot-free : (r : Reader) (p : ℕ) → r .slots ≤ 4 → r .positions ≤ p + 1 → p ≤ r .positions → positionFull r p ≡ false → slotNumber r p < 4
+pub slot-free : (r : Reader) (p : ℕ) → r .last .slots ≤ 4 → r .last .positions ≤ p + 1 → p ≤ r .last .positions → positionFull r p ≡ false → slotNumber r p < 4
 slot-free r p s n m e =
-    of-cond (λ k. k < 4) (eqb p (r .positions)) 0 (r .slots) (λ _. omega arith) (λ t. few (neqb→ne p (r .positions) t))
+    of-cond (λ k. k < 4) (eqb p (r .last .positions)) 0 (r .last .slots) (λ _. omega arith) (λ t. few (neqb→ne p (r .last .positions) t))
   where
-    few : p ≢ r .positions → r .slots < 4
+    few : p ≢ r .last .positions → r .last .slots < 4
     few d =
-        let last : p + 1 ≡ r .positions = omega arith in
-        let four : eqb (r .slots) 4 ≡ false = subst (λ b. b && eqb (r .slots) 4 ≡ false) (eq-eqb (p + 1) (r .positions) last) e in
-        let other : r .slots ≢ 4 = eqb-false (r .slots) 4 four in
+        let last : p + 1 ≡ r .last .positions = omega arith in
+        let four : eqb (r .last .slots) 4 ≡ false = subst (λ b. b && eqb (r .last .slots) 4 ≡ false) (eq-eqb (p + 1) (r .last .positions) last) e in
+        let other : r .last .slots ≢ 4 = eqb-false (r .last .slots) 4 four in
         omega arith
-
-pub slot-next : (b : Bool) (n : ℕ) → cond b 1 (n + 1) ≡ cond b 0 n + 1
-slot-next true n = refl
-slot-next false n = refl
 
 -- a term that may come: after an output character or a term, at a position of the group
 
 abbrev pub termMisplaced : Reader → ℕ → Bool
-termMisplaced r p = not (eqb (r .kind) 3 || eqb (r .kind) 4) || leb (r .size) p || ltb p (r .reach)
+termMisplaced r p = not (eqb (r .kind) 3 || eqb (r .kind) 4) || leb (r .last .size) p || ltb p (r .last .reach)
 
 pub record TermComes (r : Reader) (p : ℕ) : Type 0 where
   pub writing : T (eqb (r .kind) 3 || eqb (r .kind) 4)
   pub begun : T (not (eqb (r .kind) 0))
-  pub inside : p < r .size
+  pub inside : p < r .last .size
 
 pub term-comes : (r : Reader) (p : ℕ) → T (not (termMisplaced r p)) → TermComes r p
 term-comes r p h =
     let kinds = eqb (r .kind) 3 || eqb (r .kind) 4 in
-    let u = or-none (not kinds) (leb (r .size) p) (or-none (not kinds || leb (r .size) p) (ltb p (r .reach)) h .0) in
+    let u = or-none (not kinds) (leb (r .last .size) p) (or-none (not kinds || leb (r .last .size) p) (ltb p (r .last .reach)) h .0) in
     let t = not-not kinds (u .0) in
     record {
       writing = t;
@@ -131,7 +99,7 @@ term-comes r p h =
           or-cases (eqb (r .kind) 3) (eqb (r .kind) 4) t
           (λ e. subst (λ k. T (not (eqb k 0))) (sym (eqb→eq (r .kind) 3 e)) tt)
           (λ e. subst (λ k. T (not (eqb k 0))) (sym (eqb→eq (r .kind) 4 e)) tt);
-      inside = nleb→lt (r .size) p (u .1);
+      inside = nleb→lt (r .last .size) p (u .1);
     }
 
 pub group-below : (r : Reader) → r .rules ≤ 32 → groupNumber r < 33
@@ -146,15 +114,14 @@ SmallRecord (output c) = Unit {0}
 SmallRecord (term p a) = Unit {0}
 SmallRecord default = Unit {0}
 
+every-fitting : FittingLast everyLast
+every-fitting = record { size = omega arith; positions = omega arith; slots = omega arith; outputs = omega arith; reach = omega arith }
+
 pub started-fitting : Fitting started
 started-fitting =
     record {
       rules = omega arith;
-      size = omega arith;
-      positions = omega arith;
-      slots = omega arith;
-      outputs = omega arith;
-      reach = omega arith;
+      last = every-fitting;
       ranging = λ t. absurd t;
       grouped = λ t. absurd t;
       writing = λ t. absurd t;
@@ -178,11 +145,7 @@ admit-fit r (rule k a) f s =
               let other : r .rules ≢ 32 = neqb→ne (r .rules) 32 n in
               record {
                 rules = omega arith;
-                size = s;
-                positions = omega arith;
-                slots = omega arith;
-                outputs = omega arith;
-                reach = omega arith;
+                last = record { size = s; positions = omega arith; slots = omega arith; outputs = omega arith; reach = omega arith };
                 ranging = λ _. (omega arith, refl);
                 grouped = λ _ _. omega arith;
                 writing = λ t. absurd t;
@@ -199,17 +162,13 @@ admit-fit r (range p c) f s =
           λ _. tt,
           λ n.
               let comes = range-comes r p (c .lowest) d in
-              let inside : p < r .size = comes .inside in
-              let small : r .size ≤ 8 = f .size in
-              let near : p ≤ r .positions = nltb→le (r .positions) p g in
-              let free : slotNumber r p < 4 = slot-free r p (f .slots) (comes .next) near (of-not (positionFull r p) n) in
+              let inside : p < r .last .size = comes .inside in
+              let small : r .last .size ≤ 8 = f .last .size in
+              let near : p ≤ r .last .positions = nltb→le (r .last .positions) p g in
+              let free : slotNumber r p < 4 = slot-free r p (f .last .slots) (comes .next) near (of-not (positionFull r p) n) in
               record {
                 rules = f .rules;
-                size = f .size;
-                positions = omega arith;
-                slots = rw slot-next (omega arith);
-                outputs = f .outputs;
-                reach = f .reach;
+                last = record { size = f .last .size; positions = omega arith; slots = omega arith; outputs = f .last .outputs; reach = f .last .reach };
                 ranging = λ _. f .ranging (comes .ranging);
                 grouped = λ _ _. f .ranging (comes .ranging) .0;
                 writing = λ t. absurd t;
@@ -225,15 +184,11 @@ admit-fit r (output c) f s =
         λ g. (
           λ _. tt,
           λ n.
-              let few : r .outputs ≤ 8 = f .outputs in
-              let other : r .outputs ≢ 8 = neqb→ne (r .outputs) 8 n in
+              let few : r .last .outputs ≤ 8 = f .last .outputs in
+              let other : r .last .outputs ≢ 8 = neqb→ne (r .last .outputs) 8 n in
               record {
                 rules = f .rules;
-                size = f .size;
-                positions = f .positions;
-                slots = f .slots;
-                outputs = omega arith;
-                reach = omega arith;
+                last = record { size = f .last .size; positions = f .last .positions; slots = f .last .slots; outputs = omega arith; reach = omega arith };
                 ranging = λ t. absurd t;
                 grouped = λ _. f .grouped d;
                 writing = λ _. omega arith;
@@ -246,15 +201,11 @@ admit-fit r (term p a) f s =
       λ _. tt,
       λ d.
           let comes = term-comes r p d in
-          let inside : p < r .size = comes .inside in
-          let small : r .size ≤ 8 = f .size in
+          let inside : p < r .last .size = comes .inside in
+          let small : r .last .size ≤ 8 = f .last .size in
           record {
             rules = f .rules;
-            size = f .size;
-            positions = f .positions;
-            slots = f .slots;
-            outputs = f .outputs;
-            reach = omega arith;
+            last = record { size = f .last .size; positions = f .last .positions; slots = f .last .slots; outputs = f .last .outputs; reach = omega arith };
             ranging = λ t. absurd t;
             grouped = λ _. f .grouped (comes .begun);
             writing = λ _. f .writing (comes .writing);
@@ -268,11 +219,7 @@ admit-fit r default f s =
         λ g.
             record {
               rules = f .rules;
-              size = omega arith;
-              positions = omega arith;
-              slots = omega arith;
-              outputs = omega arith;
-              reach = omega arith;
+              last = every-fitting;
               ranging = λ t. absurd t;
               grouped = λ _ e. absurd (true≢false e);
               writing = λ t. absurd t;

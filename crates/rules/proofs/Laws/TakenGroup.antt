@@ -13,33 +13,38 @@ use lib.ListN.{length, set, length-append}
 use Rattle.lists.specs.Lists.{pad, isSome, optional}
 use Rattle.lists.proofs.Laws.Tests.{neqb→ne}
 use Rattle.lists.proofs.Laws.Each.{each-append, each-front}
-use Rattle.meaning.specs.Table.{Group, everyCharacter}
+use Rattle.meaning.specs.Table.{Group, Table, everyCharacter}
 use Rattle.meaning.specs.Record.{rule, default}
 use Rattle.meaning.specs.Reader.{Reading, misplaced, skipping, tooMany, taken}
 use Rattle.meaning.specs.Block.{bit, block, blockSize}
-use Rattle.rules.specs.bridge.Summary.{arraysBy}
-use Rattle.meaning.specs.bridge.Flat.{slotWords, rangeWords, blockWords, constantWords}
+use Rattle.rules.specs.bridge.Summary.{loadedBy}
+use Rattle.meaning.specs.bridge.Flat.{slotWords, rangeWords, blockWords, highWords, loadedWords, slotsFrom, rangesFrom}
 use Rattle.meaning.proofs.Laws.Reading.{top, taken-kept}
 use Rattle.meaning.proofs.Laws.Narrow.{NarrowGroup}
 use Rattle.meaning.proofs.Laws.Rows.{rows-more, rows-default}
-use Rattle.meaning.proofs.Laws.Stored.{lastD-snoc, slotRow, rangeRow, constantRow}
-use Rattle.rules.proofs.Laws.Represents.{arrays-same, summaryOf, flat, Read, every-narrow}
+use Rattle.meaning.proofs.Laws.Loaded.{table-sized, sized-block, sized-slot, set-block, set-slot, set-range, joined-same}
+use Rattle.meaning.proofs.Laws.Stored.{lastD-snoc, slotRow, rangeRow, highRow}
+use Rattle.rules.proofs.Laws.Represents.{summaryOf, Read, every-narrow}
 use Rattle.meaning.proofs.Laws.Decoding.{FittingRecord}
 use Rattle.rules.proofs.Laws.Taken.{Taken}
 
-rule-arrays : (s : Reading) (k : ℕ) (a : Bool) (rs : List Group) (d : Option Group) → T (not (isSome d)) → length rs < 32 →
-    arraysBy (summaryOf (s .kind) (length rs) (isSome d) (top rs d)) (rule k a) (flat (record { rules = rs; default = d }))
-    ≡ flat (record { rules = rs ++ (record { size = k; anchored = a; ranges = []; outputs = [] } ∷ []); default = none })
-unfolding slotWords rangeWords blockWords constantWords block pad
-rule-arrays s k a rs none t h =
+rule-loaded : (s : Reading) (k : ℕ) (a : Bool) (rs : List Group) (d : Option Group) → T (not (isSome d)) → length rs < 32 →
+    loadedBy (summaryOf (s .kind) (length rs) (isSome d) (top rs d)) (rule k a) (loadedWords (record { rules = rs; default = d }))
+    ≡ loadedWords (record { rules = rs ++ (record { size = k; anchored = a; ranges = []; outputs = [] } ∷ []); default = none })
+unfolding loadedWords slotWords rangeWords blockWords highWords block pad
+rule-loaded s k a rs none t h =
     let g : Group = record { size = k; anchored = a; ranges = []; outputs = [] } in
-    arrays-same
+    let old : Table = record { rules = rs; default = none } in
+    let n = blockSize * length rs in
+    ap (λ l. set l (n + 1) (bit a)) (set-block (table-sized old) n k (omega arith))
+    ∙ set-block (sized-block (table-sized old) n k) (n + 1) (bit a) (omega arith)
+    ∙ joined-same
+    (ap (λ i. set (set (blockWords old) i k) (n + 1) (bit a)) (sym (add-zero n))
+    ∙ sym (rows-more blockSize block ((0, k) ∷ (1, bit a) ∷ []) (omega arith, (omega arith, tt)) rs none g h refl))
     (sym (rows-more 8 slotRow [] tt rs none g h refl))
     (sym (rows-more 64 rangeRow [] tt rs none g h refl))
-    (ap (λ i. set (set (blockWords (record { rules = rs; default = none })) i k) (blockSize * length rs + 1) (bit a)) (sym (add-zero (blockSize * length rs)))
-    ∙ sym (rows-more blockSize block ((0, k) ∷ (1, bit a) ∷ []) (omega arith, (omega arith, tt)) rs none g h refl))
-    (sym (rows-more 8 constantRow [] tt rs none g h refl))
-rule-arrays s k a rs (some x) t h = absurd t
+    (sym (rows-more 8 highRow [] tt rs none g h refl))
+rule-loaded s k a rs (some x) t h = absurd t
 
 pub rule-taken : (s : Reading) (k : ℕ) (a : Bool) → Read s → FittingRecord (rule k a) → T (not (misplaced s (rule k a))) → T (not (skipping s (rule k a))) → T (not (tooMany s (rule k a))) → Taken s (rule k a)
 unfolding taken misplaced skipping tooMany
@@ -49,7 +54,7 @@ rule-taken s k a h f m n o =
     let few : length rs ≤ 32 = h .kept .few in
     let other : length rs ≢ 32 = neqb→ne (length rs) 32 o in (
       ap₂ (λ n h. summaryOf 1 n false h) (sym (length-append rs (g ∷ []))) (sym (lastD-snoc (everyCharacter []) rs g)),
-      rule-arrays s k a rs (s .table .default) m (omega arith),
+      rule-loaded s k a rs (s .table .default) m (omega arith),
       record {
         kept = taken-kept s (rule k a) f m n o (h .kept);
         narrow = each-append NarrowGroup (rs ++ (g ∷ [])) [] (each-append NarrowGroup rs (g ∷ []) (each-front NarrowGroup rs (optional (s .table .default)) (h .narrow)) (record { few = tt; narrow = tt }, tt)) tt;
@@ -60,24 +65,28 @@ rule-taken s k a h f m n o =
 
 -- the default
 
-default-arrays : (s : Reading) (rs : List Group) (d : Option Group) → T (not (isSome d)) →
-    arraysBy (summaryOf (s .kind) (length rs) (isSome d) (top rs d)) default (flat (record { rules = rs; default = d }))
-    ≡ flat (record { rules = rs; default = some (everyCharacter []) })
-unfolding slotWords rangeWords blockWords constantWords block pad
-default-arrays s rs d t =
+default-loaded : (s : Reading) (rs : List Group) (d : Option Group) → T (not (isSome d)) →
+    loadedBy (summaryOf (s .kind) (length rs) (isSome d) (top rs d)) default (loadedWords (record { rules = rs; default = d }))
+    ≡ loadedWords (record { rules = rs; default = some (everyCharacter []) })
+unfolding loadedWords slotWords rangeWords blockWords highWords block pad
+default-loaded s rs d t =
     let g = everyCharacter [] in
-    arrays-same
+    let sized = table-sized (record { rules = rs; default = d }) in
+    ap (λ l. set (set l (slotsFrom + 32 * 8) 1) (rangesFrom + 32 * 64 + 1) 65535) (set-block sized (32 * blockSize) 1 (omega arith))
+    ∙ ap (λ l. set l (rangesFrom + 32 * 64 + 1) 65535) (set-slot (sized-block sized (32 * blockSize) 1) (slotsFrom + 32 * 8) 256 1 refl (omega arith))
+    ∙ set-range (sized-slot (sized-block sized (32 * blockSize) 1) 256 1) (rangesFrom + 32 * 64 + 1) 2049 65535 refl (omega arith)
+    ∙ joined-same
+    (sym (rows-default blockSize block ((0, 1) ∷ []) (omega arith, tt) rs d g t refl))
     (sym (rows-default 8 slotRow ((0, 1) ∷ []) (omega arith, tt) rs d g t refl))
     (sym (rows-default 64 rangeRow ((1, 65535) ∷ []) (omega arith, tt) rs d g t refl))
-    (sym (rows-default blockSize block ((0, 1) ∷ []) (omega arith, tt) rs d g t refl))
-    (sym (rows-default 8 constantRow [] tt rs d g t refl))
+    (sym (rows-default 8 highRow [] tt rs d g t refl))
 
 pub default-taken : (s : Reading) → Read s → T (not (misplaced s default)) → T (not (skipping s default)) → T (not (tooMany s default)) → Taken s default
 unfolding taken misplaced skipping tooMany
 default-taken s h m n o =
     let rs = s .table .rules in (
       refl,
-      default-arrays s rs (s .table .default) m,
+      default-loaded s rs (s .table .default) m,
       record {
         kept = taken-kept s default tt m n o (h .kept);
         narrow = each-append NarrowGroup rs (everyCharacter [] ∷ []) (each-front NarrowGroup rs (optional (s .table .default)) (h .narrow)) (every-narrow, tt);

@@ -3,28 +3,29 @@
 use mathlib.Core.Bool.{Bool, true, false, _&&_, _||_, not, cond}
 use mathlib.Core.List.{List, [], _∷_, _++_}
 use mathlib.Core.Logic.{_≢_}
-use mathlib.Core.Path.{_≡_, refl, sym, ap, ap₂, subst, _∙_}
+use mathlib.Core.Path.{_≡_, refl, sym, ap, subst, _∙_}
 use Prim.Native.Nat.{ℕ, suc, _+_, _*_, _≤_, _<_}
 use native.Mathlib.Omega.{arith}
 use lib.Dec.{T, eqb, leb, ltb, eqb-refl, nleb→lt, nltb→le}
-use lib.IntN.{pos}
 use lib.ListN.{length, set, length-append}
 use Rattle.lists.specs.Lists.{Each, atLast, lastD, isSome}
 use Rattle.lists.proofs.Laws.Tests.{not-not, or-none, either, neqb→ne}
 use Rattle.lists.proofs.Laws.Each.{each-append}
-use Rattle.meaning.specs.Table.{Range, sum, Group}
+use Rattle.meaning.specs.Table.{Range, Group}
 use Rattle.meaning.specs.Record.{range}
-use Rattle.meaning.specs.Reader.{Reading, latest, reach, ranging, misplaced, skipping, tooMany, addRange, changeRanges, taken}
+use Rattle.meaning.specs.Reader.{Reading, latest, ranging, misplaced, skipping, tooMany, addRange, changeRanges, taken}
 use Rattle.meaning.specs.Block.{block, blockSize}
-use Rattle.rules.specs.bridge.Summary.{arraysBy}
-use Rattle.meaning.specs.bridge.Flat.{slotWords, rangeWords, blockWords, constantWords}
+use Rattle.rules.specs.bridge.Summary.{slotNumber, rangedTo, next, rangePut, loadedBy}
+use Rattle.meaning.specs.bridge.Flat.{slotWords, rangeWords, blockWords, highWords, loadedWords, slotsFrom, rangesFrom}
 use Rattle.meaning.proofs.Laws.Reading.{taken-kept, last-each}
 use Rattle.meaning.proofs.Laws.Narrow.{NarrowGroup}
 use Rattle.meaning.proofs.Laws.Rows.{Grouped, numberOf, rows-latest}
-use Rattle.meaning.proofs.Laws.Stored.{lastD-snoc, slotRow, rangeRow, constantRow, earlier, length-earlier, addRange-last, addRange-length, here, slotRow-range, rangeRow-range}
-use Rattle.rules.proofs.Laws.Represents.{arrays-same, summaryOf, latestOf, summary, flat, Read, each-last, latest-narrow, latest-begun, kind-there, grouped-changed, summary-changed, narrow-changed}
+use Rattle.meaning.proofs.Laws.Loaded.{table-sized, sized-slot, sized-range, set-slot, set-range, joined-same}
+use Rattle.meaning.proofs.Laws.Stored.{lastD-snoc, slotRow, rangeRow, highRow, earlier, length-earlier, addRange-last, addRange-length, here, slotRow-range, rangeRow-range}
+use Rattle.rules.proofs.Laws.Represents.{summaryOf, latestOf, summary, Read, each-last, latest-narrow, latest-begun, kind-there, grouped-changed, summary-changed, narrow-changed}
 use Rattle.meaning.proofs.Laws.Decoding.{FittingRecord}
-use Rattle.rules.proofs.Laws.Taken.{reader, next, Taken}
+use Rattle.rules.proofs.Laws.Stepping.{group-below}
+use Rattle.rules.proofs.Laws.Taken.{Taken}
 
 range-tests : (s : Reading) (p : ℕ) (r : Range) → T (not (misplaced s (range p r))) →
     T (ranging s) × (p < latestOf (s .table) .size) × (length (latestOf (s .table) .ranges) ≤ suc p)
@@ -74,41 +75,43 @@ module _ (s : Reading) (p : ℕ) (r : Range) (h : Read s) where
       let g = latestOf (s .table) in
       let ps = g .ranges in
       let end : lastD [] (addRange p r ps) ≡ earlier p ps ++ (r ∷ []) = addRange-last p r ps low high in
-      let more : cond (eqb p (length ps)) 1 (length (lastD [] ps) + 1) ≡ cond (eqb p (length ps)) 0 (length (lastD [] ps)) + 1 =
-      either (λ b. cond b 1 (length (lastD [] ps) + 1) ≡ cond b 0 (length (lastD [] ps)) + 1) (eqb p (length ps)) (λ _. refl) (λ _. refl) in
       let positions : p + 1 ≡ length (addRange p r ps) = sym (addRange-length p r ps low high) in
-      let slots : cond (eqb p (length ps)) 1 (length (lastD [] ps) + 1) ≡ length (lastD [] (addRange p r ps)) =
-      more ∙ ap (λ k. k + 1) (sym (length-earlier p ps)) ∙ sym (length-append (earlier p ps) (r ∷ [])) ∙ ap length (sym end) in
+      let slots : slotNumber (summary s) p + 1 ≡ length (lastD [] (addRange p r ps)) =
+      ap (λ k. k + 1) (sym (length-earlier p ps)) ∙ sym (length-append (earlier p ps) (r ∷ [])) ∙ ap length (sym end) in
       let nowhere : Range = record { lowest = 0; highest = 0 } in
       let highest : r .highest ≡ lastD nowhere (lastD [] (addRange p r ps)) .highest =
       sym (ap (λ (l : List Range). lastD nowhere l .highest) end ∙ ap (λ (q : Range). q .highest) (lastD-snoc nowhere (earlier p ps) r)) in
       let same : next (summary s) (range p r) ≡ summaryOf 2 (length (s .table .rules)) (isSome (s .table .default)) (changeRanges (addRange p r) g) =
-      λ i. reader 2 (length (s .table .rules)) (isSome (s .table .default)) (g .size) (positions i) (slots i) (highest i) (length (g .outputs)) (reach (lastD (sum (pos 0) []) (g .outputs))) in
+      λ i. rangedTo (summary s) (positions i) (slots i) (highest i) in
       same ∙ sym (summary-changed (changeRanges (addRange p r)) 2 (s .table .rules) (s .table .default) grouped)
 
-  range-arrays : Grouped (s .table .rules) (s .table .default) → p ≤ length (latestOf (s .table) .ranges) → length (latestOf (s .table) .ranges) ≤ suc p → p < 8 →
-      length (earlier p (latestOf (s .table) .ranges)) < 4 → arraysBy (summary s) (range p r) (flat (s .table)) ≡ flat (taken s (range p r) .table)
-  unfolding taken slotWords rangeWords blockWords constantWords block
-  range-arrays grouped low high inside less =
+  range-loaded : Grouped (s .table .rules) (s .table .default) → p ≤ length (latestOf (s .table) .ranges) → length (latestOf (s .table) .ranges) ≤ suc p → p < 8 →
+      length (earlier p (latestOf (s .table) .ranges)) < 4 → loadedBy (summary s) (range p r) (loadedWords (s .table)) ≡ loadedWords (taken s (range p r) .table)
+  unfolding taken loadedWords slotWords rangeWords blockWords highWords block
+  range-loaded grouped low high inside less =
       let g = latestOf (s .table) in
       let ps = g .ranges in
       let rs = s .table .rules in
       let d = s .table .default in
       let F = changeRanges (addRange p r) in
       let e = length (earlier p ps) in
-      let number = numberOf rs d in
-      let count : cond (eqb p (length ps)) 0 (length (lastD [] ps)) ≡ e = sym (length-earlier p ps) in
-      let first : 64 * number + 8 * p + 2 * e ≡ 64 * number + (8 * p + 2 * e) = omega arith in
-      let second : 64 * number + 8 * p + 2 * e + 1 ≡ 64 * number + (8 * p + (2 * e + 1)) = omega arith in
-      arrays-same
-      (ap (λ v. set (slotWords (s .table)) (8 * number + p) (v + 1)) count
-      ∙ sym (rows-latest 8 slotRow ((p, e + 1) ∷ []) (inside, tt) rs d F (h .kept .few) grouped (slotRow-range p r g low high inside)))
-      (ap (λ v. let i = 64 * number + 8 * p + 2 * v in set (set (rangeWords (s .table)) i (r .lowest)) (i + 1) (r .highest)) count
-      ∙ ap₂ (λ i j. set (set (rangeWords (s .table)) i (r .lowest)) j (r .highest)) first second
-      ∙ sym (rows-latest 64 rangeRow ((8 * p + 2 * e, r .lowest) ∷ (8 * p + (2 * e + 1), r .highest) ∷ []) (omega arith, (omega arith, tt)) rs d F (h .kept .few) grouped
-      (rangeRow-range p r g low high inside less)))
+      let n = numberOf rs d in
+      let below : n < 33 = group-below (summary s) (h .kept .few) in
+      let count : slotNumber (summary s) p ≡ e = sym (length-earlier p ps) in
+      let sized = table-sized (s .table) in
+      let place = slotsFrom + 8 * n + p in
+      let i = rangesFrom + 64 * n + 8 * p + 2 * e in
+      let j = 64 * n + (8 * p + 2 * e) in
+      ap (λ k. rangePut n p k (r .lowest) (r .highest) (loadedWords (s .table))) count
+      ∙ ap (λ l. set (set l i (r .lowest)) (i + 1) (r .highest)) (set-slot sized place (8 * n + p) (e + 1) (omega arith) (omega arith))
+      ∙ ap (λ l. set l (i + 1) (r .highest)) (set-range (sized-slot sized (8 * n + p) (e + 1)) i j (r .lowest) (omega arith) (omega arith))
+      ∙ set-range (sized-range (sized-slot sized (8 * n + p) (e + 1)) j (r .lowest)) (i + 1) (64 * n + (8 * p + (2 * e + 1))) (r .highest) (omega arith) (omega arith)
+      ∙ joined-same
       (sym (rows-latest blockSize block [] tt rs d F (h .kept .few) grouped refl))
-      (sym (rows-latest 8 constantRow [] tt rs d F (h .kept .few) grouped refl))
+      (sym (rows-latest 8 slotRow ((p, e + 1) ∷ []) (inside, tt) rs d F (h .kept .few) grouped (slotRow-range p r g low high inside)))
+      (sym (rows-latest 64 rangeRow ((8 * p + 2 * e, r .lowest) ∷ (8 * p + (2 * e + 1), r .highest) ∷ []) (omega arith, (omega arith, tt)) rs d F (h .kept .few) grouped
+      (rangeRow-range p r g low high inside less)))
+      (sym (rows-latest 8 highRow [] tt rs d F (h .kept .few) grouped refl))
 
   pub range-taken : FittingRecord (range p r) → T (not (misplaced s (range p r))) → T (not (skipping s (range p r))) → T (not (tooMany s (range p r))) → Taken s (range p r)
   unfolding taken skipping tooMany latest
@@ -123,7 +126,7 @@ module _ (s : Reading) (p : ℕ) (r : Range) (h : Read s) where
       let grouped = h .grouped (kind-there (s .kind) 1 2 (t .0) tt tt) in
       let less = earlier-few p ps low (t .2) o (latest-narrow s h .few) in (
         range-summary grouped low (t .2),
-        range-arrays grouped low (t .2) (omega arith) less,
+        range-loaded grouped low (t .2) (omega arith) less,
         record {
           kept = taken-kept s (range p r) (f .1) m n o (h .kept);
           narrow = narrow-changed F (s .table .rules) (s .table .default) (range-narrow p r g low (t .2) less) (h .narrow);

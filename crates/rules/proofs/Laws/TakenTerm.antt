@@ -15,16 +15,18 @@ use Rattle.meaning.specs.Table.{Output, sum}
 use Rattle.meaning.specs.Record.{term}
 use Rattle.meaning.specs.Reader.{signed, Reading, latest, reach, latestReach, misplaced, skipping, tooMany, addTerm, changeOutputs, taken}
 use Rattle.meaning.specs.Block.{word, block, blockSize, entrySize}
-use Rattle.rules.specs.bridge.Summary.{arraysBy}
-use Rattle.meaning.specs.bridge.Flat.{slotWords, rangeWords, blockWords, constantWords}
+use Rattle.rules.specs.bridge.Summary.{summedTo, next, loadedBy}
+use Rattle.meaning.specs.bridge.Flat.{slotWords, rangeWords, blockWords, highWords, loadedWords}
 use Rattle.meaning.proofs.Laws.Reading.{taken-kept, atLast-length}
 use Rattle.meaning.proofs.Laws.Narrow.{Bits, NarrowOutput}
 use Rattle.meaning.proofs.Laws.Numbers.{word-signed}
 use Rattle.meaning.proofs.Laws.Rows.{Grouped, numberOf, rows-latest}
-use Rattle.meaning.proofs.Laws.Stored.{slotRow, rangeRow, constantRow, last-atLast, block-term, constantRow-term}
-use Rattle.rules.proofs.Laws.Represents.{arrays-same, summaryOf, latestOf, summary, flat, Read, latest-begun, kind-there, latest-changed, grouped-changed, summary-changed, narrow-changed}
+use Rattle.meaning.proofs.Laws.Loaded.{table-sized, set-block, joined-same}
+use Rattle.meaning.proofs.Laws.Stored.{slotRow, rangeRow, highRow, last-atLast, block-term, highRow-term}
+use Rattle.rules.proofs.Laws.Represents.{summaryOf, latestOf, summary, Read, latest-begun, kind-there, latest-changed, grouped-changed, summary-changed, narrow-changed}
 use Rattle.meaning.proofs.Laws.Decoding.{FittingRecord}
-use Rattle.rules.proofs.Laws.Taken.{reader, next, Taken}
+use Rattle.rules.proofs.Laws.Stepping.{group-below}
+use Rattle.rules.proofs.Laws.Taken.{Taken}
 
 term-reach : (p a : ℕ) (o : Output) → reach o ≤ p → reach (addTerm p (signed 16 a) o) ≡ p + 1
 term-reach p a (sum c ks) l = rw (length-append, length-append, length-replicate) (omega arith)
@@ -70,27 +72,30 @@ module _ (s : Reading) (p a : ℕ) (h : Read s) where
       let reached : p + 1 ≡ reach (lastD (sum (pos 0) []) (atLast (addTerm p z) os)) =
       sym (ap reach (last-atLast (addTerm p z) (sum (pos 0) []) os some-output) ∙ term-reach p a (lastD (sum (pos 0) []) os) before) in
       let same : next (summary s) (term p a) ≡ summaryOf 4 (length (s .table .rules)) (isSome (s .table .default)) (F g) =
-      ap₂ (reader 4 (length (s .table .rules)) (isSome (s .table .default)) (g .size) (length (g .ranges)) (length (lastD [] (g .ranges))) (summary s .highest)) outputs reached in
+      ap₂ (summedTo (summary s) 4) outputs reached in
       same ∙ sym (summary-changed F 4 (s .table .rules) (s .table .default) grouped)
 
-  term-arrays : Grouped (s .table .rules) (s .table .default) → p < 8 → 1 ≤ length (latestOf (s .table) .outputs) → length (latestOf (s .table) .outputs) ≤ 8 →
-      reach (lastD (sum (pos 0) []) (latestOf (s .table) .outputs)) ≤ p → a < 65536 → arraysBy (summary s) (term p a) (flat (s .table)) ≡ flat (taken s (term p a) .table)
-  unfolding taken slotWords rangeWords blockWords constantWords
-  term-arrays grouped inside some-output most before fits =
+  term-loaded : Grouped (s .table .rules) (s .table .default) → p < 8 → 1 ≤ length (latestOf (s .table) .outputs) → length (latestOf (s .table) .outputs) ≤ 8 →
+      reach (lastD (sum (pos 0) []) (latestOf (s .table) .outputs)) ≤ p → a < 65536 →
+      loadedBy (summary s) (term p a) (loadedWords (s .table)) ≡ loadedWords (taken s (term p a) .table)
+  unfolding taken loadedWords slotWords rangeWords blockWords highWords
+  term-loaded grouped inside some-output most before fits =
       let g = latestOf (s .table) in
       let rs = s .table .rules in
       let d = s .table .default in
       let z = signed 16 a in
       let F = changeOutputs (atLast (addTerm p z)) in
       let o = length (g .outputs) in
-      let number = numberOf rs d in
-      let place : blockSize * number + 4 + entrySize * pred o + p ≡ blockSize * number + (4 + entrySize * pred o + p) = omega arith in
-      arrays-same
-      (sym (rows-latest 8 slotRow [] tt rs d F (h .kept .few) grouped refl))
-      (sym (rows-latest 64 rangeRow [] tt rs d F (h .kept .few) grouped refl))
+      let n = numberOf rs d in
+      let below : n < 33 = group-below (summary s) (h .kept .few) in
+      let place : blockSize * n + 4 + entrySize * pred o + p ≡ blockSize * n + (4 + entrySize * pred o + p) = omega arith in
+      set-block (table-sized (s .table)) (blockSize * n + 4 + entrySize * pred o + p) a (omega arith)
+      ∙ joined-same
       (ap₂ (λ i v. set (blockWords (s .table)) i v) place (sym (word-signed a fits))
       ∙ sym (rows-latest blockSize block ((4 + entrySize * pred o + p, word z) ∷ []) (omega arith, tt) rs d F (h .kept .few) grouped (block-term p z g inside some-output most before)))
-      (sym (rows-latest 8 constantRow [] tt rs d F (h .kept .few) grouped (ap (pad 8) (constantRow-term p z (g .outputs)))))
+      (sym (rows-latest 8 slotRow [] tt rs d F (h .kept .few) grouped refl))
+      (sym (rows-latest 64 rangeRow [] tt rs d F (h .kept .few) grouped refl))
+      (sym (rows-latest 8 highRow [] tt rs d F (h .kept .few) grouped (ap (pad 8) (highRow-term p z (g .outputs)))))
 
   pub term-taken : FittingRecord (term p a) → T (not (misplaced s (term p a))) → T (not (skipping s (term p a))) → T (not (tooMany s (term p a))) → Taken s (term p a)
   unfolding taken
@@ -103,7 +108,7 @@ module _ (s : Reading) (p a : ℕ) (h : Read s) where
       let grouped = h .grouped (kind-there (s .kind) 3 4 (t .0) tt tt) in
       let some-output : 1 ≤ length (g .outputs) = h .writing (t .0) in (
         term-summary grouped some-output (t .2),
-        term-arrays grouped (omega arith) some-output (latest-begun s h .outputs .0) (t .2) (f .2),
+        term-loaded grouped (omega arith) some-output (latest-begun s h .outputs .0) (t .2) (f .2),
         record {
           kept = taken-kept s (term p a) tt m n o (h .kept);
           narrow = narrow-changed F rs d (λ b. record { few = b .few; narrow = each-atLast NarrowOutput (addTerm p (signed 16 a)) (g .outputs) (λ q. term-narrow p a q (f .2)) (b .narrow) }) (h .narrow);

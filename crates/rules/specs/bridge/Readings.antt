@@ -11,13 +11,13 @@ use Rattle.lists.specs.Decide.{select}
 use Rattle.meaning.specs.Refusal.{Outcome, refused, accepted}
 use Rattle.meaning.specs.Record as Spec
 use Rattle.meaning.specs.Table.{Table}
-use Rattle.meaning.specs.bridge.Flat.{slotWords, rangeWords, blockWords}
+use Rattle.meaning.specs.bridge.Flat.{loadedWords}
 use Rattle.rules.specs.bridge.Summary.{gap}
 use Rattle.rules.specs.declared.record.Record.{Record}
 use Rattle.rules.specs.declared.record.Record.the-variants.{Rule, Range, Output, Term, Default, Bad}
 use Rattle.rules.specs.declared.reader.Reader.{Reader}
 use Rattle.rules.specs.declared.reader.Step.{Step}
-use Rattle.rules.specs.declared.reader.Step.the-variants.{Onward, Refused}
+use Rattle.rules.specs.declared.reader.Step.the-variants.{Next, Refused}
 use Rattle.rules.specs.declared.load.Load.{Load}
 use Rattle.rules.specs.declared.load.Load.the-variants as Load
 use Rattle.rules.specs.declared.pattern.Choice.{Choice}
@@ -32,7 +32,7 @@ recordOf Default = some Spec.default
 recordOf Bad = none
 
 abbrev pub stepOf : Step → Outcome Reader
-stepOf (Onward r) = accepted r
+stepOf (Next r) = accepted r
 stepOf (Refused n) = refused n
 
 -- the group's number; none for no choice
@@ -45,8 +45,7 @@ abbrev pub endOf : Reader → Bool → Load
 endOf r safe =
     select ((gap r, Load.Refused 4) ∷ (eqb (r .rules) 0, Load.Refused 5) ∷ (not safe, Load.Refused 7) ∷ []) (Load.Accepted (r .rules) (r .defaulted))
 
--- the check's answer, and where the table is accepted the arrays: a function of the table
-abbrev pub LoadedBy : Outcome Table → Load → List ℕ → List ℕ → List ℕ → Type 0
-LoadedBy (refused n) r slots ranges blocks = r ≡ Load.Refused n
-LoadedBy (accepted t) r slots ranges blocks =
-    (r ≡ Load.Accepted (length (t .rules)) (isSome (t .default))) × (slots ≡ slotWords t) × (ranges ≡ rangeWords t) × (blocks ≡ blockWords t)
+-- the check's answer, and where the table is accepted its array: a function of the table
+abbrev pub LoadedBy : Outcome Table → Load → List ℕ → Type 0
+LoadedBy (refused n) r loaded = r ≡ Load.Refused n
+LoadedBy (accepted t) r loaded = (r ≡ Load.Accepted (length (t .rules)) (isSome (t .default))) × (loaded ≡ loadedWords t)

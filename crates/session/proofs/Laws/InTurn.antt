@@ -6,7 +6,7 @@ use Prim.Native.Nat.{ℕ}
 use Rattle.lists.specs.Lists.{Each}
 use Rattle.meaning.specs.Table.{Characters}
 use Rattle.reckoning.specs.Calls.{CallOutcome}
-use Rattle.reckoning.specs.Reckoning.{Call, ofFeed, ofFinish, piece, Served, unserved, called, verdict, outputBy, serveCall, serve, noInput, reckon}
+use Rattle.reckoning.specs.Reckoning.{Call, ofFeed, ofFinish, piece, Served, unserved, called, outputBy, serveCall, serve, noInput, reckon}
 use Rattle.reckoning.specs.Claims.{OutcomesAgree}
 use Rattle.session.specs.Keeping.{sessionOf}
 use Rattle.session.specs.Contracts.{outcomeOf}
@@ -23,7 +23,7 @@ seen-served : (w : List ℕ) (s : Session) (v : Served) (m : Made) → v .sessio
 seen-served w s v m e k =
     ap
     (λ (o : CallOutcome). record {
-      verdicts = v .verdicts ++ (verdict (o .answer) ∷ []);
+      answers = v .answers ++ (o .answer ∷ []);
       output = v .output ++ outputBy (o .answer) (o .output);
       session = o .session;
     })
@@ -45,7 +45,7 @@ pub demand-3 : Demand3
 unfolding Demand3 OutcomesAgree
 demand-3 table buffer words t keeps room is-compiled s is-fresh ms chars made =
     let cs = callsOf ms in
-    let first : unseen s ≡ unserved = ap (λ x. record { verdicts = []; output = []; session = x }) is-fresh in
+    let first : unseen s ≡ unserved = ap (λ x. record { answers = []; output = []; session = x }) is-fresh in
     let i = reckon t cs noInput in
     let same : seen ms (unseen s) ≡ serve words cs unserved = all-served words ms s (unseen s) refl made ∙ ap (serve words cs) first in
     rw (same, is-compiled) (outcomes-agree table buffer t keeps room cs (each-call ms chars))

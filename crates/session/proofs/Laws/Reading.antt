@@ -4,15 +4,14 @@ use mathlib.Core.Bool.{Bool, true, false, _&&_}
 use mathlib.Core.List.{List, [], _∷_, _++_, append-nil}
 use mathlib.Core.Logic.{_≢_}
 use mathlib.Core.Path.{_≡_, refl, sym, ap, subst, _∙_}
-use Prim.Native.Nat.{ℕ, zero, suc, _+_, _*_, _-_, _≤_, _<_}
+use Prim.Native.Nat.{ℕ, zero, suc, _+_, _-_, _≤_, _<_}
 use native.Mathlib.Decide.{ℕ-discrete}
 use native.Mathlib.Omega.{arith}
 use lib.Dec.{T, eqb, leb, eqb→eq}
 use lib.ListN.{length, getD, set, take, drop, length-append, length-drop, List·getD-append}
-use lib.Seq.{take-all, drop-nil, drop-cons, getD-drop, drop-drop, drop-append-add, getD-set-same, getD-set-other, paste}
+use lib.Seq.{take-all, drop-nil, drop-cons, getD-drop, drop-append-add, getD-set-same, getD-set-other}
 use Rattle.lists.proofs.Laws.Tests.{holds, below, of-cond, of-between}
-use Rattle.meaning.specs.Block.{at, wordSum, blockOutput, blockSize, entrySize}
-use Rattle.meaning.proofs.Laws.Writing.{groupText, groupSum, written-more, written-all}
+use Rattle.meaning.specs.Block.{at, blockOutput}
 use Rattle.automaton.specs.Sound.{longestWord, expansionWord, stateCount, depthWord, acceptWord, targetWord, classCount, blockAt, soundState, sound}
 use Rattle.automaton.specs.Classes.{classOf}
 use Rattle.automaton.specs.Automaton.{fromWords}
@@ -23,7 +22,7 @@ use Rattle.session.specs.declared.kept.Status.the-variants as Code
 use Rattle.session.specs.declared.run.Ran.{Ran}
 use Rattle.session.specs.declared.run.Ahead.{Ahead}
 use Rattle.session.proofs.Laws.Running.{first-at, character-backs, character-reads, decides-character, turn-room, default-words, advances-read, advances-default, beyond-on}
-use Rattle.automaton.specs.Layout.{blocksFrom, classesFrom}
+use Rattle.automaton.specs.Layout.{classesFrom}
 
 -- one more place of a table is filled
 pub filled : (f : ℕ → ℕ) (table : List ℕ) (n x : ℕ) → n < length table → x ≡ f n → ((i : ℕ) → i < n → getD table i 0 ≡ f i) →
@@ -77,38 +76,6 @@ module _ (given piece part : List ℕ) (n : ℕ) (e : part ≡ partOf given piec
   pub part-one : (i : ℕ) → i < length part → n ≤ length u → take 1 (drop i part) ≡ take 1 (drop (n + i) u)
   part-one i h k =
       ap (take 1) (drop-cons part i 0 h) ∙ ap (λ c. c ∷ []) (part-at i h) ∙ ap (take 1) (sym (drop-cons u (n + i) 0 (omega (arith, part-inside k))))
-
--- The default's output, by its places in the words: block 32 begins at 19622.
-
-pub default-count : (w : List ℕ) → at (blockAt w 32) 2 ≡ at w (blocksFrom + 32 * blockSize + 2)
-default-count w = getD-drop (blocksFrom + blockSize * 32) w 2 0
-
-module _ (w word : List ℕ) where
-  abbrev pub defaultText : List ℕ
-  defaultText = groupText (drop blocksFrom w) 32 word
-
-  pub default-sum : (j : ℕ) → at (blockAt w 32) 0 ≡ 1 → wordSum (at w (blocksFrom + 32 * blockSize + 3 + entrySize * j)) (take 1 (drop (blocksFrom + 32 * blockSize + 3 + entrySize * j + 1) w)) word ≡ groupSum (drop blocksFrom w) 32 word j
-  default-sum j one =
-      let a : blocksFrom + 32 * blockSize + 3 + entrySize * j ≡ blocksFrom + (blockSize * 32 + 3 + entrySize * j) = omega arith in
-      let b : blocksFrom + 32 * blockSize + 3 + entrySize * j + 1 ≡ blocksFrom + (blockSize * 32 + 3 + entrySize * j + 1) = omega arith in
-      let p : at w (blocksFrom + 32 * blockSize + 3 + entrySize * j) ≡ at (drop blocksFrom w) (blockSize * 32 + 3 + entrySize * j) = ap (at w) a ∙ sym (getD-drop blocksFrom w (blockSize * 32 + 3 + entrySize * j) 0) in
-      let q : 1 ≡ at (drop blocksFrom w) (blockSize * 32) = sym one ∙ getD-drop (blocksFrom + blockSize * 32) w 0 0 ∙ sym (getD-drop blocksFrom w (blockSize * 32) 0) in
-      let r : drop (blocksFrom + 32 * blockSize + 3 + entrySize * j + 1) w ≡ drop (blockSize * 32 + 3 + entrySize * j + 1) (drop blocksFrom w) =
-      ap (λ k. drop k w) b ∙ sym (drop-drop (blockSize * 32 + 3 + entrySize * j + 1) blocksFrom w) in
-      λ i. wordSum (p i) (take (q i) (r i)) word
-
-  pub default-more : (d : List ℕ) (count j x : ℕ) → j < at w (blocksFrom + 32 * blockSize + 2) → count + j < length d → x ≡ groupSum (drop blocksFrom w) 32 word j →
-      set (paste d count defaultText j) (count + j) x ≡ paste d count defaultText (j + 1)
-  default-more d count j x h k e =
-      ap (set (paste d count defaultText j) (count + j)) e
-      ∙ written-more (drop blocksFrom w) 32 word d count j (omega (arith, getD-drop blocksFrom w (blockSize * 32 + 2) 0)) k
-
-  pub default-all : (d : List ℕ) (count n : ℕ) → n ≡ at w (blocksFrom + 32 * blockSize + 2) →
-      paste d count defaultText n ≡ take count d ++ blockOutput (blockAt w 32) word ++ drop (count + at (blockAt w 32) 2) d
-  default-all d count n e =
-      let m : at (drop blocksFrom w) (blockSize * 32 + 2) ≡ at w (blocksFrom + 32 * blockSize + 2) = getD-drop blocksFrom w (blockSize * 32 + 2) 0 in
-      ap (paste d count defaultText) (e ∙ sym m) ∙ written-all (drop blocksFrom w) 32 word d count
-      ∙ (λ i. take count d ++ blockOutput (drop-drop (blockSize * 32) blocksFrom w i) word ++ drop (count + (m ∙ sym (default-count w)) i) d)
 
 -- A run that leads on, and then on again.
 

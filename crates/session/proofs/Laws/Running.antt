@@ -25,7 +25,7 @@ use Rattle.automaton.proofs.Laws.Good.{after, Leads}
 use Rattle.automaton.proofs.Laws.Words.{Names, sound-header, sound-rule, sound-default, sound-state, sound-class, sound-good, sound-longest, length-blockOutput}
 use Rattle.reckoning.specs.Machine.{Configuration, Status, Open, Closed, Stopped, onward, halt, step, Ended, steps, run, start}
 use Rattle.reckoning.specs.Session.{path, isAt}
-use Rattle.session.specs.Keeping.{statusOf}
+use Rattle.session.specs.Keeping.{meantStatus}
 use Rattle.session.specs.bridge.Running.{firstOf, standing, stepBy, Fits, Decides, storeOf, Placed, Going, EndsAs, left, Advances, Beyond, Move, Emit, Read, Back, Wait, Close}
 use Rattle.session.specs.declared.run.Ran.{Ran}
 use Rattle.reckoning.proofs.Laws.Run.{step-accept, step-read, step-back, due-read, due-stop, due-emit, steps-onward, steps-halt, fuel-enough}
@@ -222,7 +222,7 @@ module _ (w u : List ℕ) (ended : Bool) (W : T (sound w)) (old : Ran) (before :
   shallow = omega (arith, P .depth, sound-state w W (old .state .0) (P .state) .shallow, sound-header w W .longest)
 
   -- the run ended with the old log
-  ended-as : (r : Ended) (G : Going w u ended r old before) (b : Status) (f : Configuration) → r ≡ record { status = b; final = f } → statusOf (new .status) ≡ b →
+  ended-as : (r : Ended) (G : Going w u ended r old before) (b : Status) (f : Configuration) → r ≡ record { status = b; final = f } → meantStatus (new .status) ≡ b →
       new .state .0 ≡ f .state → storeOf u new ≡ f .store → new .from ≡ old .from → new .count ≡ old .count → new .steps ≡ f .steps → f .log ≡ G .log →
       new .from ≤ new .at → new .at ≤ old .at → EndsAs w u r new before
   ended-as r G b f e e₀ e₁ e₂ e₃ e₄ e₅ e₆ p₁ p₂ =
@@ -422,7 +422,7 @@ module _ (w u : List ℕ) (ended : Bool) (W : T (sound w)) (old : Ran) (before :
           let p₄ : old .at - old .from < 9 * 1 = omega (arith, shallow) in
           (advances-put defaultNumber 1 after 3 e₁ e₂ e₃ e₄ e₅ p₁ p₂ p₃ p₄ few-default wrote default-leads, beyond-put w u old before P new defaultNumber (take 1 (drop (old .from) u)) after e₄ wrote)
 
-    pub advances-stop : A .default ≡ false → statusOf (new .status) ≡ Stopped → new .state .0 ≡ 0 → new .from ≡ old .from → new .at ≡ old .from →
+    pub advances-stop : A .default ≡ false → meantStatus (new .status) ≡ Stopped → new .state .0 ≡ 0 → new .from ≡ old .from → new .at ≡ old .from →
         new .count ≡ old .count → new .steps ≡ old .steps + 2 → Advances w u ended (length before) old before true new before
     advances-stop d e₀ e₁ e₂ e₃ e₄ e₅ r G =
         let s : ℕ = old .steps in
@@ -433,7 +433,7 @@ module _ (w u : List ℕ) (ended : Bool) (W : T (sound w)) (old : Ran) (before :
         ended-as r G Stopped f e e₀ e₁ (none-of u (new .at) (new .from) (e₃ ∙ sym e₂)) e₂ e₄ (omega arith) refl (omega arith) (omega (arith, P .order))
 
   -- the run waits, or closes
-  pub advances-wait : ((log : List Emission) (n : ℕ) → step A ended (stood log n) ≡ stepBy Wait (stood log n)) → statusOf (new .status) ≡ Open →
+  pub advances-wait : ((log : List Emission) (n : ℕ) → step A ended (stood log n) ≡ stepBy Wait (stood log n)) → meantStatus (new .status) ≡ Open →
       new .state .0 ≡ old .state .0 → new .from ≡ old .from → new .at ≡ old .at → new .count ≡ old .count → new .steps ≡ old .steps →
       Advances w u ended (length before) old before true new before
   advances-wait st e₀ e₁ e₂ e₃ e₄ e₅ r G =
@@ -441,7 +441,7 @@ module _ (w u : List ℕ) (ended : Bool) (W : T (sound w)) (old : Ran) (before :
       let s : storeOf u new ≡ storeOf u old = λ i. take (e₃ i - e₂ i) (drop (e₂ i) u) in
       ended-as r G Open f (runs-halt A ended most r f f Open (st (G .log) (old .steps)) (G .runs)) e₀ e₁ s e₂ e₄ e₅ refl (omega (arith, P .order)) (omega arith)
 
-  pub advances-close : ((log : List Emission) (n : ℕ) → step A ended (stood log n) ≡ stepBy Close (stood log n)) → statusOf (new .status) ≡ Closed →
+  pub advances-close : ((log : List Emission) (n : ℕ) → step A ended (stood log n) ≡ stepBy Close (stood log n)) → meantStatus (new .status) ≡ Closed →
       new .state .0 ≡ 0 → new .from ≡ old .from → new .at ≡ old .from → new .count ≡ old .count → new .steps ≡ old .steps + 1 →
       Advances w u ended (length before) old before true new before
   advances-close st e₀ e₁ e₂ e₃ e₄ e₅ r G =

@@ -1,17 +1,13 @@
 -- Where held characters lead, and the session that a run leaves, as the code works them out.
-use mathlib.Core.Bool.{false}
 use mathlib.Core.List.{List}
 use mathlib.Core.Option.{Option, none, some}
-use mathlib.Core.Path.{_≡_}
 use Prim.Native.Nat.{ℕ, _+_, _*_, _-_, _≤_}
 use Rattle.meaning.specs.Direct.{limit}
 use Rattle.reckoning.specs.Calls.{receivedBy}
-use Rattle.session.specs.Keeping.{statusOf}
+use Rattle.session.specs.Keeping.{meantStatus}
 use Rattle.session.specs.declared.kept.Path.{Path}
 use Rattle.session.specs.declared.kept.Path.the-variants.{To, Nowhere}
-use Rattle.session.specs.declared.kept.Session.{Session}
 use Rattle.session.specs.declared.run.Ran.{Ran}
-use Rattle.session.specs.declared.call.Called.{Called}
 
 abbrev pub pathOf : Path → Option ℕ
 pathOf (To q) = some (q .0)
@@ -21,11 +17,11 @@ pathOf Nowhere = none
 abbrev pub laterOf : Rattle.reckoning.specs.Session.Session → ℕ → Ran → List ℕ → Rattle.reckoning.specs.Session.Session
 laterOf s n ran held =
     record {
-      status = statusOf (ran .status);
+      status = meantStatus (ran .status);
       state = ran .state .0;
       held = held;
       count = ran .at - ran .from;
-      received = receivedBy (statusOf (ran .status)) (s .received + n) (s .received - s .count + ran .from);
+      received = receivedBy (meantStatus (ran .status)) (s .received + n) (s .received - s .count + ran .from);
       produced = s .produced + ran .count;
       steps = s .steps + ran .steps;
     }
@@ -39,7 +35,3 @@ pub record Small (s : Rattle.reckoning.specs.Session.Session) (n : ℕ) (ran : 
   pub inside : ran .at ≤ s .count + n
   pub produced : s .produced + ran .count ≤ 8 * limit
   pub steps : s .steps + ran .steps ≤ 11 * (limit + 1)
-
--- where a call is not accepted, the session is as found
-abbrev pub Unchanged : Called → Session → Type 0
-Unchanged r found = r .accepted ≡ false → r .session ≡ found

@@ -11,7 +11,7 @@ use Rattle.automaton.specs.Classes.{classOf}
 use Rattle.automaton.specs.Sound.{expansionWord, classCount, stateCount, depthWord, acceptWord, acceptAtEndWord, used, blockAt}
 use Rattle.automaton.specs.Automaton.{fromWords}
 use Rattle.reckoning.specs.Machine.{Configuration, Step, Status, Open, Closed, halt, emit, read, rollBack, end, step, Ended, steps}
-use Rattle.session.specs.Keeping.{statusOf}
+use Rattle.session.specs.Keeping.{meantStatus}
 use Rattle.machine.specs.declared.numbers.RuleNo.{RuleNo}
 use Rattle.machine.specs.declared.numbers.StateNo.{StateNo}
 use Rattle.session.specs.declared.kept.Status.the-variants as Code
@@ -82,7 +82,7 @@ pub record Going (w u : List ℕ) (ended : Bool) (r : Ended) (now : Ran) (output
 
 -- the run ended as r
 pub record EndsAs (w u : List ℕ) (r : Ended) (now : Ran) (output : List ℕ) : Type 0 where
-  pub status : statusOf (now .status) ≡ r .status
+  pub status : meantStatus (now .status) ≡ r .status
   pub state : now .state .0 ≡ r .final .state
   pub order : now .from ≤ now .at
   pub inside : now .at ≤ length u
@@ -126,7 +126,7 @@ pub record Between (place written made : ℕ) (now : Ran) : Type 0 where
 -- the run ended with an empty store after so many steps
 pub record Halted (how : Status) (made : ℕ) (old new : Ran) : Type 0 where
   pub done : new .done ≡ true
-  pub status : statusOf (new .status) ≡ how
+  pub status : meantStatus (new .status) ≡ how
   pub state : new .state .0 ≡ 0
   pub from : new .from ≡ old .from
   pub at : new .at ≡ old .from
@@ -136,7 +136,7 @@ pub record Halted (how : Status) (made : ℕ) (old new : Ran) : Type 0 where
 -- the run waits as it stands
 pub record Waits (old new : Ran) : Type 0 where
   pub done : new .done ≡ true
-  pub status : statusOf (new .status) ≡ Open
+  pub status : meantStatus (new .status) ≡ Open
   pub state : new .state .0 ≡ old .state .0
   pub from : new .from ≡ old .from
   pub at : new .at ≡ old .at

@@ -1,25 +1,29 @@
--- `feeding::convert_input` is safe and ends. The invariant: the output keeps its length.
+-- `feeding::convert_input` is safe and ends. The invariant: the output and the text keep their lengths.
 -- The measure is the number of turns that are left. Assumes nothing.
-use mathlib.Core.Path.{_≡_}
+use mathlib.Core.Path.{_≡_, sym}
+use Prim.Native.Nat.{ℕ}
 use borrow.Author.Needs.{needs}
-use lib.ListN.{length}
+use lib.ListN.{length, length-replicate}
 use Rattle.convert.proofs.feeding.convert_input.Statement.{statement}
 use Rattle.convert.proofs.feeding.convert_input.Tie as tie
 
 abbrev Inv-loop : tie.InvT-loop
-Inv-loop words output₀ turn₀ turns₀ output turn turns = 131136 ≡ length output
+Inv-loop words output₀ text₀ turn₀ turns₀ output text turn turns = (131136 ≡ length output) × (655744 ≡ length text)
 
 abbrev μ-loop : tie.MeasureT-loop
-μ-loop words output₀ turn₀ turns₀ output turn turns = turns
+μ-loop words output₀ text₀ turn₀ turns₀ output text turn turns = turns
 
 fresh-requires : tie.Need-fresh-requires Inv-loop μ-loop
 fresh-requires c κs = search needs
 
 loop-holds : tie.Need-loop-holds Inv-loop μ-loop
-loop-holds c = search needs
+loop-holds c = (sym (length-replicate {A = ℕ} 131136 0), sym (length-replicate {A = ℕ} 655744 0))
 
 slice-aggregate-convert-piece : tie.Need-slice-aggregate-convert-piece Inv-loop μ-loop
 slice-aggregate-convert-piece c = search needs
+
+slice-aggregate-convert-piece-2 : tie.Need-slice-aggregate-convert-piece-2 Inv-loop μ-loop
+slice-aggregate-convert-piece-2 c = search needs
 
 convert-piece-requires : tie.Need-convert-piece-requires Inv-loop μ-loop
 convert-piece-requires c κs = search needs
@@ -48,6 +52,7 @@ convert-input-spec =
     fresh-requires
     loop-holds
     slice-aggregate-convert-piece
+    slice-aggregate-convert-piece-2
     convert-piece-requires
     sub-turns
     loop-less

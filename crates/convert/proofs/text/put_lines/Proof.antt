@@ -6,7 +6,7 @@ use Prim.Native.Nat.{_+_, _*_, _-_, _≤_, _<_}
 use native.Mathlib.Omega.{arith}
 use borrow.Author.Needs.{needs}
 use lib.ListN.{length, take, getD}
-use lib.Seq.{take-length, length-take-le}
+use lib.Seq.{take-length}
 use Rattle.convert.specs.Text.{hexLine, hexLines}
 use Rattle.convert.proofs.Laws.Text.{lines-next}
 use Rattle.convert.proofs.text.put_lines.Statement.{statement}
@@ -60,8 +60,7 @@ returns c =
     let l = c .before .loop in
     let cs = c .before .before .before .before .args .characters .now in
     let e : l .i ≡ length cs = omega arith in
-    let h : l .at ≤ length (l .text) = omega arith in
-    ((h, sym (length-take-le (l .at) (l .text) h)), l .inv .3 ∙ ap (λ k. hexLines (take k cs)) e ∙ ap hexLines (take-length cs))
+    (omega arith, l .inv .3 ∙ ap (λ k. hexLines (take k cs)) e ∙ ap hexLines (take-length cs))
 
 pub put-lines-spec : {M : Type 1} → statement M
 put-lines-spec =

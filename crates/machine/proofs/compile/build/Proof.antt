@@ -21,17 +21,17 @@ use Rattle.machine.proofs.compile.build.Statement.{statement}
 use Rattle.machine.proofs.compile.build.Tie as tie
 use Rattle.meaning.specs.Block.{blocksSize}
 
--- the arrays as a table, without its default
+-- the array as a table, without its default
 abbrev table : tie.Start → Table
-table s = let a = s .args in tableAt (a .slots .now) (a .ranges .now) (a .blocks .now) (a .rules) false
+table s = let a = s .args in tableAt (a .loaded .now) (a .rules) false
 
 -- where the starts have been gathered: the function's entry, the words then, and what holds of them
 
 abbrev start : tie.After-gather-starts → tie.Start
-start g = g .before .before .before .before .before .before
+start g = g .before .before .before .before
 
 abbrev with-starts : tie.After-gather-starts → List ℕ
-with-starts g = g .gather-starts .last .1 .1 .1 .1 .0
+with-starts g = g .gather-starts .last .1 .1 .0
 
 gathers : (g : tie.After-gather-starts) → Gathered (starts (table (start g))) (start g .args .words .now) (with-starts g) (g .gather-starts .result)
 gathers g = g .gather-starts .ensures
@@ -53,7 +53,7 @@ classes-same b =
     gathered-number (start g .args .words .now) (start g .pre .1 .1) (starts (table (start g))) (with-starts g) (g .gather-starts .result) (gathers g) (few-classes b)
 
 abbrev with-states : tie.After-build-states → List ℕ
-with-states b = b .build-states .last .1 .1 .1 .1 .1 .0
+with-states b = b .build-states .last .1 .1 .1 .0
 
 kept : (b : tie.After-build-states) → Kept (with-starts (before-states b)) (with-states b)
 kept b = b .build-states .ensures .1 .1
@@ -65,7 +65,7 @@ long b =
 
 gather-starts-requires : tie.Need-gather-starts-requires
 gather-starts-requires c κs =
-    let s = c .before .before .before .before .before in
+    let s = c .before .before .before in
     (s .pre .0, (omega (arith, s .pre .1 .0), zero-starts (s .args .words .now) (s .pre .1 .1)))
 
 clear-requires : tie.Need-clear-requires
@@ -82,7 +82,7 @@ returns c =
     let a = s .args in
     let w = a .words .now in
     let over = gathered-over w (s .pre .1 .1) (starts (table s)) (with-starts g) (g .gather-starts .result) (gathers g) (done .before .before .if1 .taken) in
-    let e = built-classes (table s) (a .blocks .now) (a .rules) (a .defaulted) (drop wordCount w) over in
+    let e = built-classes (table s) (a .loaded .now) (a .rules) (a .defaulted) (drop wordCount w) over in
     (sym (ap (λ o. o .answer) e), done .clear .ensures ∙ ap (λ l. pad wordCount [] ++ l) (same-back g) ∙ sym (ap (λ o. o .words) e))
 
 slice-aggregate-build-states : tie.Need-slice-aggregate-build-states
@@ -119,7 +119,7 @@ returns-2 c =
     let a = s .args in
     let few : length (starts (table s)) ≤ 64 = omega (arith, classes-same b, few-classes b) in
     let over = states-over (length (states (table s))) (b .build-states .result) (b .build-states .ensures .0) (done .before .before .if2 .taken) in
-    let e = built-states (table s) (a .blocks .now) (a .rules) (a .defaulted) (drop wordCount (a .words .now)) few over in (
+    let e = built-states (table s) (a .loaded .now) (a .rules) (a .defaulted) (drop wordCount (a .words .now)) few over in (
       sym (ap (λ o. o .answer) e),
       done .clear2 .ensures
           ∙ ap (λ l. pad wordCount [] ++ l) (drop-later blocksFrom blocksSize (with-states b) (with-starts g) (kept b .back) ∙ same-back g)
@@ -143,8 +143,8 @@ put-header-requires c κs =
       omega (arith, long b),
       e .if2 .left,
       few-classes b,
-      subst (λ m. m ≤ 8) (sym (l .longest-of .ensures)) (longest-eight (a .slots .now) (a .ranges .now) (a .blocks .now) flat (a .rules) (s .pre .0 .1)),
-      subst (λ m. m ≤ 8) (sym (c .before .expansion .ensures)) (expansion-eight (a .slots .now) (a .ranges .now) (a .blocks .now) (a .rules) (a .defaulted) flat (s .pre .0 .1)),
+      subst (λ m. m ≤ 8) (sym (l .longest-of .ensures)) (longest-eight (a .loaded .now) flat (a .rules) (s .pre .0 .1)),
+      subst (λ m. m ≤ 8) (sym (c .before .expansion .ensures)) (expansion-eight (a .loaded .now) (a .rules) (a .defaulted) flat (s .pre .0 .1)),
       s .pre .0 .1,
     )
 
@@ -152,7 +152,7 @@ copy-blocks-requires : tie.Need-copy-blocks-requires
 copy-blocks-requires c κs =
     let h = c .before .before .before in
     let b = h .before .before .before .before .before .before .before .before in
-    (subst (λ m. wordCount ≤ m) (sym (h .put-header .kept .0)) (long b), start (before-states b) .pre .0 .0 .blocks-length)
+    (subst (λ m. wordCount ≤ m) (sym (h .put-header .kept .0)) (long b), omega (arith, start (before-states b) .pre .0 .0 .long))
 
 same-length-3 : tie.Need-same-length-3
 same-length-3 c = search needs
@@ -171,9 +171,9 @@ returns-3 c =
     let few : length (starts t) ≤ 64 = omega (arith, classes-same b, few-classes b) in
     let counted = states-few (length (states t)) (b .build-states .result) (b .build-states .ensures .0) (l .before .if2 .left) in
     let small : length (states t) ≤ 256 = subst (λ m. m ≤ 256) counted (l .before .if2 .left) in
-    let e = built-words t (a .blocks .now) (a .rules) (a .defaulted) (drop wordCount (a .words .now)) few small in
+    let e = built-words t (a .loaded .now) (a .rules) (a .defaulted) (drop wordCount (a .words .now)) few small in
     let whole =
-    put-together t (a .rules) (a .defaulted) (a .words .now) (with-starts g) (with-states b) (h .put-header .last .0) (done .copy-blocks .last .0) (a .blocks .now)
+    put-together t (a .rules) (a .defaulted) (a .words .now) (with-starts g) (with-states b) (h .put-header .last .0) (done .copy-blocks .last .0) (a .loaded .now)
     (b .build-states .result) (g .gather-starts .result) (l .longest-of .result) (x .expansion .result) (s .pre .1 .0) counted (classes-same b)
     (l .longest-of .ensures) (x .expansion .ensures) (gathers g .filled few) (b .build-states .ensures .1 .0 small) (h .put-header .ensures) (done .copy-blocks .ensures) in
     (sym (ap (λ o. o .answer) e), whole ∙ sym (ap (λ o. o .words) e))

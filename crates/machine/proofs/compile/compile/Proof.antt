@@ -1,4 +1,4 @@
--- `compile::compile` meets its contract: the words are cleared first, and what is built by the arrays that were loaded is what is compiled.
+-- `compile::compile` meets its contract: the words are cleared first, and what is built by the array that was loaded is what is compiled.
 -- Assumes nothing.
 use mathlib.Core.Path.{sym, ap, subst, _∙_}
 use Prim.Native.Nat.{_≤_, _<_}
@@ -12,12 +12,12 @@ use Rattle.automaton.specs.Layout.{wordCount}
 use Rattle.machine.proofs.Laws.Compiling.{cleared-back, cleared, compile-short, compile-refused, compile-flat, compile-built}
 use Rattle.machine.proofs.compile.compile.Statement.{statement}
 use Rattle.machine.proofs.compile.compile.Tie as tie
-use Rattle.meaning.specs.Block.{blocksSize}
+use Rattle.meaning.specs.bridge.Flat.{loadedSize}
 
 -- where the table has been loaded: the words cleared, the function's entry, the bytes
 
 abbrev clearing : tie.After-load-table → tie.After-clear
-clearing l = l .before .before .before .before .before .before
+clearing l = l .before .before .before .before
 
 abbrev start : tie.After-load-table → tie.Start
 start l = clearing l .before .before .before .before .before
@@ -37,37 +37,25 @@ clear-requires c κs = search needs
 slice-aggregate-load-table : tie.Need-slice-aggregate-load-table
 slice-aggregate-load-table c = search needs
 
-slice-aggregate-load-table-2 : tie.Need-slice-aggregate-load-table-2
-slice-aggregate-load-table-2 c = search needs
-
-slice-aggregate-load-table-3 : tie.Need-slice-aggregate-load-table-3
-slice-aggregate-load-table-3 c = search needs
-
 load-table-requires : tie.Need-load-table-requires
-load-table-requires c κs = (sym (pad-zeros 264), sym (pad-zeros 2112), sym (pad-zeros blocksSize))
+load-table-requires c κs = sym (pad-zeros loadedSize)
 
-enum-known-loaded : tie.Need-enum-known-loaded
-enum-known-loaded c = search needs
+enum-known-load : tie.Need-enum-known-load
+enum-known-load c = search needs
 
-enum-known-loaded-2 : tie.Need-enum-known-loaded-2
-enum-known-loaded-2 c = search needs
+enum-known-load-2 : tie.Need-enum-known-load-2
+enum-known-load-2 c = search needs
 
 slice-aggregate-build : tie.Need-slice-aggregate-build
 slice-aggregate-build c = search needs
 
-slice-aggregate-build-2 : tie.Need-slice-aggregate-build-2
-slice-aggregate-build-2 c = search needs
-
-slice-aggregate-build-3 : tie.Need-slice-aggregate-build-3
-slice-aggregate-build-3 c = search needs
-
 build-requires : tie.Need-build-requires
 build-requires c κs =
-    let l = c .before .before .before .before .before .before .before .before .before .before in
-    let told = c .before .before .before .before .before .loaded2 .given in
+    let l = c .before .before .before .before .before .before in
+    let told = c .before .before .before .load2 .given in
     let a = start l .args in
     let k = clearing l .clear in (
-      compile-flat (a .table .now) (a .words .now) (room l) (l .load-table .result) _ _ _ (l .load-table .ensures) (told .0 .0) (told .0 .1 .0) (told .1) (bytes l),
+      compile-flat (a .table .now) (a .words .now) (room l) (l .load-table .result) _ (l .load-table .ensures) (told .0 .0) (told .0 .1 .0) (told .1) (bytes l),
       (subst (λ m. wordCount ≤ m) (sym (k .kept .0)) (room l), cleared (a .words .now) (k .last .0) (k .ensures)),
     )
 
@@ -76,9 +64,9 @@ same-length c = search needs
 
 returns-2 : tie.Need-returns-2
 returns-2 c =
-    let l = c .before .before .before .before .before .before in
+    let l = c .before .before .before .before in
     let a = start l .args in
-    let e = compile-refused (a .table .now) (a .words .now) (room l) (l .load-table .result) _ _ _ (l .load-table .ensures) (c .before .loaded .given .0 .0) (c .before .loaded .given .1) in
+    let e = compile-refused (a .table .now) (a .words .now) (room l) (l .load-table .result) _ (l .load-table .ensures) (c .before .load .given .0 .0) (c .before .load .given .1) in
     (e .0, clearing l .clear .ensures ∙ e .1)
 
 same-length-2 : tie.Need-same-length-2
@@ -87,11 +75,11 @@ same-length-2 c = search needs
 returns-3 : tie.Need-returns-3
 returns-3 c =
     let done = c .before .before in
-    let l = done .before .before .before .before .before .before .before .before .before .before .before in
-    let told = done .before .before .before .before .before .before .loaded2 .given in
+    let l = done .before .before .before .before .before .before .before in
+    let told = done .before .before .before .before .load2 .given in
     let a = start l .args in
     let k = clearing l .clear in
-    let e = compile-built (a .table .now) (a .words .now) (room l) (l .load-table .result) _ _ _ (l .load-table .ensures) (told .0 .0) (told .0 .1 .0) (told .1) (bytes l) (k .last .0) (cleared-back (a .words .now) (k .last .0) (k .ensures)) in
+    let e = compile-built (a .table .now) (a .words .now) (room l) (l .load-table .result) _ (l .load-table .ensures) (told .0 .0) (told .0 .1 .0) (told .1) (bytes l) (k .last .0) (cleared-back (a .words .now) (k .last .0) (k .ensures)) in
     (done .build .ensures .0 ∙ ap (λ o. o .answer) e, done .build .ensures .1 ∙ ap (λ o. o .words) e)
 
 pub compile-spec : {M : Type 1} → statement M
@@ -101,14 +89,10 @@ compile-spec =
     returns
     clear-requires
     slice-aggregate-load-table
-    slice-aggregate-load-table-2
-    slice-aggregate-load-table-3
     load-table-requires
-    enum-known-loaded
-    enum-known-loaded-2
+    enum-known-load
+    enum-known-load-2
     slice-aggregate-build
-    slice-aggregate-build-2
-    slice-aggregate-build-3
     build-requires
     same-length
     returns-2

@@ -1,25 +1,24 @@
 -- `compile::copy_blocks` meets its contract. The invariant: the first i blocks' words are copied.
 -- The measure is the words left. Assumes nothing.
 use mathlib.Core.Path.{_≡_, refl, sym, ap, _∙_}
-use mathlib.Core.List.{_++_}
 use Prim.Native.Nat.{_+_, _≤_, _<_, _-_}
 use native.Mathlib.Numerals.{add-one}
 use borrow.Author.Needs.{needs}
-use lib.ListN.{set, length, getD, take, drop}
-use lib.Seq.{paste, paste-zero, paste-suc, take-all}
+use lib.ListN.{set, length, getD}
+use lib.Seq.{paste, paste-zero, paste-suc}
 use Rattle.machine.proofs.compile.copy_blocks.Statement.{statement}
 use Rattle.machine.proofs.compile.copy_blocks.Tie as tie
 use Rattle.meaning.specs.Block.{blocksSize}
-use Rattle.automaton.specs.Layout.{blocksFrom, wordCount}
+use Rattle.automaton.specs.Layout.{blocksFrom}
 
 abbrev Inv-loop : tie.InvT-loop
-Inv-loop words₀ blocks i₀ words i = (i ≤ blocksSize) × (length words ≡ length words₀) × (words ≡ paste words₀ blocksFrom blocks i)
+Inv-loop words₀ loaded i₀ words i = (i ≤ blocksSize) × (length words ≡ length words₀) × (words ≡ paste words₀ blocksFrom loaded i)
 
 abbrev μ-loop : tie.MeasureT-loop
-μ-loop words₀ blocks i₀ words i = blocksSize - i
+μ-loop words₀ loaded i₀ words i = blocksSize - i
 
 loop-holds : tie.Need-loop-holds Inv-loop μ-loop
-loop-holds c = (search needs, refl, paste-zero (c .args .words .now) blocksFrom (c .args .blocks .now))
+loop-holds c = (search needs, refl, paste-zero (c .args .words .now) blocksFrom (c .args .loaded .now))
 
 mul-words : tie.Need-mul-words Inv-loop μ-loop
 mul-words c = search needs
@@ -46,7 +45,7 @@ loop-again : tie.Need-loop-again Inv-loop μ-loop
 loop-again c =
     let l = c .before .before in
     let w = l .before .args .words .now in
-    let b = l .before .args .blocks .now in
+    let b = l .before .args .loaded .now in
     let i = l .loop .i in
     let h : i < length b = search needs in
     let k : blocksFrom + i < length w = search needs in
@@ -59,10 +58,9 @@ returns : tie.Need-returns Inv-loop μ-loop
 returns c =
     let l = c .before in
     let w = l .before .args .words .now in
-    let b = l .before .args .blocks .now in
+    let b = l .before .args .loaded .now in
     let e : l .loop .i ≡ blocksSize = search needs in
-    let h : length b ≤ blocksSize = search needs in
-    l .loop .inv .2 ∙ ap (paste w blocksFrom b) e ∙ ap (λ k. take blocksFrom w ++ k ++ drop wordCount w) (take-all blocksSize b h)
+    l .loop .inv .2 ∙ ap (paste w blocksFrom b) e
 
 pub copy-blocks-spec : {M : Type 1} → statement M
 copy-blocks-spec =

@@ -11,10 +11,10 @@ use Rattle.machine.proofs.compile.longest_of.Statement.{statement}
 use Rattle.machine.proofs.compile.longest_of.Tie as tie
 
 abbrev Inv-loop : tie.InvT-loop
-Inv-loop blocks rules most₀ group₀ most group = (group ≤ rules) × (most ≡ longestAt blocks group) × (most < 65536)
+Inv-loop loaded rules most₀ group₀ most group = (group ≤ rules) × (most ≡ longestAt loaded group) × (most < 65536)
 
 abbrev μ-loop : tie.MeasureT-loop
-μ-loop blocks rules most₀ group₀ most group = rules - group
+μ-loop loaded rules most₀ group₀ most group = rules - group
 
 loop-holds : tie.Need-loop-holds Inv-loop μ-loop
 unfolding longestAt
@@ -42,7 +42,7 @@ loop-again : tie.Need-loop-again Inv-loop μ-loop
 unfolding longestAt
 loop-again c =
     let l = c .before .before .before in
-    let size = at (l .before .args .blocks .now) (blockSize * l .loop .group) in
+    let size = at (l .before .args .loaded .now) (blockSize * l .loop .group) in
     let inv = l .loop .inv in
     let test = c .before .before .loop-test .taken in
     let known = c .before .shared-slice-known .given (blockSize * l .loop .group) in
@@ -57,7 +57,7 @@ returns c =
     let l = c .before .loop in
     let a = c .before .before .args in
     let e : l .group ≡ a .rules = omega arith in
-    l .inv .1 ∙ ap (longestAt (a .blocks .now)) e
+    l .inv .1 ∙ ap (longestAt (a .loaded .now)) e
 
 pub longest-of-spec : {M : Type 1} → statement M
 longest-of-spec =

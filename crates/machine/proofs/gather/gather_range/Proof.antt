@@ -36,7 +36,7 @@ same-length c = search needs
 returns : tie.Need-returns
 returns c =
     let a = c .before .before .before .before .before .before .before .before .before .before .before .before .before .args in
-    gathers-both (rangeFrom (a .ranges .now) (a .i)) (c .before .before .before .before .before .before .before .insert-start .ensures) (c .before .before .before .before .if1 .taken) (c .before .before .insert-start2 .ensures)
+    gathers-both (rangeFrom (a .loaded .now) (a .i)) (c .before .before .before .before .before .before .before .insert-start .ensures) (c .before .before .before .before .if1 .taken) (c .before .before .insert-start2 .ensures)
 
 same-length-2 : tie.Need-same-length-2
 same-length-2 c = search needs
@@ -44,7 +44,7 @@ same-length-2 c = search needs
 returns-2 : tie.Need-returns-2
 returns-2 c =
     let a = c .before .before .before .before .before .before .before .before .before .args in
-    gathers-low (rangeFrom (a .ranges .now) (a .i)) (c .before .before .before .insert-start .ensures) (c .if1 .left)
+    gathers-low (rangeFrom (a .loaded .now) (a .i)) (c .before .before .before .insert-start .ensures) (c .if1 .left)
 
 pub gather-range-spec : {M : Type 1} → statement M
 gather-range-spec =

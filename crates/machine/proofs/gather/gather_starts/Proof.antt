@@ -15,11 +15,11 @@ use Rattle.machine.proofs.gather.gather_starts.Statement.{statement}
 use Rattle.machine.proofs.gather.gather_starts.Tie as tie
 
 abbrev Inv-loop : tie.InvT-loop
-Inv-loop slots ranges blocks rules words₀ met₀ rule₀ words met rule =
-    (rule ≤ rules) × (length words ≡ length words₀) × Gathers (flatMap (λ g. flatMap (flatMap edges) (g .ranges)) (tabFrom 0 rule (groupAt slots ranges blocks))) words₀ 1 words met
+Inv-loop loaded rules words₀ met₀ rule₀ words met rule =
+    (rule ≤ rules) × (length words ≡ length words₀) × Gathers (flatMap (λ g. flatMap (flatMap edges) (g .ranges)) (tabFrom 0 rule (groupAt loaded))) words₀ 1 words met
 
 abbrev μ-loop : tie.MeasureT-loop
-μ-loop slots ranges blocks rules words₀ met₀ rule₀ words met rule = rules - rule
+μ-loop loaded rules words₀ met₀ rule₀ words met rule = rules - rule
 
 loop-holds : tie.Need-loop-holds Inv-loop μ-loop
 loop-holds c = search needs
@@ -27,7 +27,7 @@ loop-holds c = search needs
 gather-rule-requires : tie.Need-gather-rule-requires Inv-loop μ-loop
 gather-rule-requires c κs =
     let l = c .before .before in
-    let s = l .before .before .before .before .before in
+    let s = l .before .before .before in
     ((s .pre .0 .0, omega (arith, c .before .loop-test .taken, s .pre .0 .1)), (omega (arith, l .loop .inv .1, s .pre .1 .0), l .loop .inv .2 .few))
 
 add-rule : tie.Need-add-rule Inv-loop μ-loop
@@ -40,8 +40,8 @@ loop-again : tie.Need-loop-again Inv-loop μ-loop
 unfolding groupAt
 loop-again c =
     let l = c .before .before .before .before .before in
-    let a = l .before .before .before .before .before .args in
-    (search needs, search needs, gathers-next (λ g. flatMap (flatMap edges) (g .ranges)) (groupAt (a .slots .now) (a .ranges .now) (a .blocks .now)) (l .loop .rule) (l .loop .inv .2) (c .before .before .gather-rule .ensures))
+    let a = l .before .before .before .args in
+    (search needs, search needs, gathers-next (λ g. flatMap (flatMap edges) (g .ranges)) (groupAt (a .loaded .now)) (l .loop .rule) (l .loop .inv .2) (c .before .before .gather-rule .ensures))
 
 same-length : tie.Need-same-length Inv-loop μ-loop
 same-length c = search needs
@@ -50,10 +50,10 @@ returns : tie.Need-returns Inv-loop μ-loop
 unfolding tableAt
 returns c =
     let l = c .before in
-    let s = l .before .before .before .before .before in
+    let s = l .before .before .before in
     let a = s .args in
     let e : l .loop .rule ≡ a .rules = search needs in
-    gathered (tableAt (a .slots .now) (a .ranges .now) (a .blocks .now) (a .rules) false) (a .words .now) (l .loop .words) (l .loop .met) (s .pre .1 .1)
+    gathered (tableAt (a .loaded .now) (a .rules) false) (a .words .now) (l .loop .words) (l .loop .met) (s .pre .1 .1)
     (rw e at (l .loop .inv .2))
 
 pub gather-starts-spec : {M : Type 1} → statement M

@@ -18,20 +18,17 @@ Inv-loop words c low₀ high₀ low high =
 abbrev μ-loop : tie.MeasureT-loop
 μ-loop words c low₀ high₀ low high = high - low
 
-shared-slice-read-size : tie.Need-shared-slice-read-size Inv-loop μ-loop
-shared-slice-read-size c = let s = c .before .before in omega (arith, sound-header (s .args .words .now) (s .pre) .long)
-
-size-requires : tie.Need-size-requires Inv-loop μ-loop
-size-requires c κs = tt
+class-count-requires : tie.Need-class-count-requires Inv-loop μ-loop
+class-count-requires c κs = sound-header (c .before .args .words .now) (c .before .pre) .long
 
 loop-holds : tie.Need-loop-holds Inv-loop μ-loop
 loop-holds c =
-    let s = c .before .before .before in
+    let s = c .before .before in
     let w = s .args .words .now in
     let h = sound-header w (s .pre) in
     let some = h .some-class in
     let first = first-start w (s .pre) in
-    let e : c .size .result ≡ at w 1 = c .size .ensures in
+    let e : c .class-count .result ≡ at w 1 = c .class-count .ensures in
     (h .long, h .few-classes, omega arith, omega arith, omega arith, λ l. absurd (omega arith))
 
 add-loop : tie.Need-add-loop Inv-loop μ-loop
@@ -40,14 +37,8 @@ add-loop c = omega arith
 add-middle : tie.Need-add-middle Inv-loop μ-loop
 add-middle c = omega arith
 
-add-if1 : tie.Need-add-if1 Inv-loop μ-loop
-add-if1 c = omega arith
-
-mul-if1 : tie.Need-mul-if1 Inv-loop μ-loop
-mul-if1 c = omega arith
-
-shared-slice-read-if1 : tie.Need-shared-slice-read-if1 Inv-loop μ-loop
-shared-slice-read-if1 c = omega arith
+class-start-requires : tie.Need-class-start-requires Inv-loop μ-loop
+class-start-requires c κs = omega arith
 
 loop-less : tie.Need-loop-less Inv-loop μ-loop
 loop-less c = omega arith
@@ -55,7 +46,7 @@ loop-less c = omega arith
 loop-again : tie.Need-loop-again Inv-loop μ-loop
 loop-again c =
     let i = c .before .before .before .loop .inv in
-    (i .0, i .1, omega arith, i .3, c .if1 .taken, i .5)
+    (i .0, i .1, omega arith, i .3, omega (arith, c .if1 .taken, c .before .class-start .ensures), i .5)
 
 loop-less-2 : tie.Need-loop-less-2 Inv-loop μ-loop
 loop-less-2 c = omega arith
@@ -63,14 +54,14 @@ loop-less-2 c = omega arith
 loop-again-2 : tie.Need-loop-again-2 Inv-loop μ-loop
 loop-again-2 c =
     let i = c .before .before .before .loop .inv in
-    (i .0, i .1, omega arith, omega arith, i .4, λ _. c .if1 .left)
+    (i .0, i .1, omega arith, omega arith, i .4, λ _. omega (arith, c .if1 .left, c .before .class-start .ensures))
 
-cast-t7 : tie.Need-cast-t7 Inv-loop μ-loop
-cast-t7 c = omega arith
+cast-t9 : tie.Need-cast-t9 Inv-loop μ-loop
+cast-t9 c = omega arith
 
 returns : tie.Need-returns Inv-loop μ-loop
 returns c =
-    let s = c .before .before .before .before .before in
+    let s = c .before .before .before .before in
     let l = c .before .loop in
     let e : l .high ≡ l .low + 1 = omega arith in
     sym (class-found (s .args .words .now) (s .pre) (s .args .c) (l .low) (omega arith) (l .inv .4) (rw e at (l .inv .5)))
@@ -81,17 +72,14 @@ class-of-spec =
     (tie.spec
     Inv-loop
     μ-loop
-    shared-slice-read-size
-    size-requires
+    class-count-requires
     loop-holds
     add-loop
     add-middle
-    add-if1
-    mul-if1
-    shared-slice-read-if1
+    class-start-requires
     loop-less
     loop-again
     loop-less-2
     loop-again-2
-    cast-t7
+    cast-t9
     returns)

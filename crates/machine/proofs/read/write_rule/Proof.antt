@@ -27,8 +27,8 @@ write-group-requires c κs =
     let g = a .group in
     let h = s .pre .0 .1 in
     let small = s .pre .1 .0 in
-    let size = sym (blocks-size w g h) in
-    let few = sym (blocks-count w g h) in (
+    let size = sym (blocks-size w g) in
+    let few = sym (blocks-count w g) in (
       (h, blocks-long w (s .pre .0 .0)),
       (
         (subst (λ n. n ≤ 8) size (small .0), subst (λ n. n ≤ 8) few (small .1)),
@@ -47,10 +47,9 @@ returns c =
     let s = c .before .before .before .before .before .before .before .before in
     let a = s .args in
     let w = a .words .now in
-    let h = s .pre .0 .1 in
     let known = c .before .before .write-group .ensures in (
-      known .0 ∙ ap (λ n. a .count + n) (blocks-count w (a .group) h),
-      known .1 ∙ blocks-written w (a .group) h (a .store .now) (a .output .now) (a .count) (s .pre .1 .0 .0) (s .pre .1 .0 .1),
+      known .0 ∙ ap (λ n. a .count + n) (blocks-count w (a .group)),
+      blocks-written w (a .group) (a .store .now) (a .output .now) _ (a .count) (known .1),
     )
 
 pub write-rule-spec : {M : Type 1} → statement M

@@ -1,5 +1,6 @@
--- `sets::accept_of` meets its contract: the tests of the rules' size and anchor, by the blocks, are those of the table.
+-- `sets::accept_of` meets its contract: the tests of the rules' size and anchor, by the array, are those of the table.
 -- Assumes nothing.
+use mathlib.Core.Bool.{false}
 use mathlib.Core.Path.{sym, _∙_}
 use borrow.Author.Needs.{needs}
 use Rattle.automaton.proofs.Laws.Sets.{accept-flat}
@@ -10,9 +11,9 @@ lowest-ending-requires : tie.Need-lowest-ending-requires
 lowest-ending-requires c κs = search needs
 
 returns : tie.Need-returns
-returns c slots ranges d =
+returns c =
     let a = c .before .before .args in
-    c .lowest-ending .ensures ∙ sym (accept-flat slots ranges (a .blocks .now) (a .rules) d (a .set) (a .depth))
+    c .lowest-ending .ensures ∙ sym (accept-flat (a .loaded .now) (a .rules) false (a .set) (a .depth))
 
 pub accept-of-spec : {M : Type 1} → statement M
 accept-of-spec = tie.close (tie.spec lowest-ending-requires returns)

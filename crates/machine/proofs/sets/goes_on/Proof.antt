@@ -18,19 +18,19 @@ shared-slice-read-if1 : tie.Need-shared-slice-read-if1
 shared-slice-read-if1 c = search needs
 
 cast-if1 : tie.Need-cast-if1
-cast-if1 c = omega (arith, c .shared-slice-known4 .given (blockSize * c .before .before .before .before .args .rule))
+cast-if1 c = omega (arith, c .shared-slice-known2 .given (blockSize * c .before .before .args .rule))
 
 mul-in-ranges : tie.Need-mul-in-ranges
 mul-in-ranges c = search needs
 
 add-in-ranges : tie.Need-add-in-ranges
-add-in-ranges c = let s = c .before .before .before .before .before in omega (arith, s .pre .0 .size (s .args .rule) (omega arith))
+add-in-ranges c = let s = c .before .before .before in omega (arith, s .pre .0 .size (s .args .rule) (omega arith))
 
 in-ranges-requires : tie.Need-in-ranges-requires
 in-ranges-requires c κs =
-    let s = c .before .before .before .before .before in
+    let s = c .before .before .before in
     let f = s .pre .0 in
-    let z : at (s .args .blocks .now) (blockSize * s .args .rule) ≤ 8 = f .size (s .args .rule) (omega arith) in
+    let z : at (s .args .loaded .now) (blockSize * s .args .rule) ≤ 8 = f .size (s .args .rule) (omega arith) in
     (omega arith, omega arith, f .few (8 * s .args .rule + s .args .depth) (omega arith))
 
 returns : tie.Need-returns

@@ -10,24 +10,24 @@ use Rattle.machine.proofs.sets.longer_rules.Statement.{statement}
 use Rattle.machine.proofs.sets.longer_rules.Tie as tie
 
 abbrev Inv-loop : tie.InvT-loop
-Inv-loop slots ranges blocks rules set depth c longer₀ weight₀ rest₀ rule₀ longer weight rest rule =
-    Built (goesOn slots ranges blocks depth c) rules set rule rest longer weight
+Inv-loop loaded rules set depth c longer₀ weight₀ rest₀ rule₀ longer weight rest rule =
+    Built (goesOn loaded depth c) rules set rule rest longer weight
 
 abbrev μ-loop : tie.MeasureT-loop
-μ-loop slots ranges blocks rules set depth c longer₀ weight₀ rest₀ rule₀ longer weight rest rule = rest
+μ-loop loaded rules set depth c longer₀ weight₀ rest₀ rule₀ longer weight rest rule = rest
 
 -- the test of a rule, by the arguments
 abbrev test : tie.Start Inv-loop μ-loop → ℕ → Bool
-test s = let a = s .args in goesOn (a .slots .now) (a .ranges .now) (a .blocks .now) (a .depth) (a .c)
+test s = let a = s .args in goesOn (a .loaded .now) (a .depth) (a .c)
 
 loop-holds : tie.Need-loop-holds Inv-loop μ-loop
-loop-holds c = let s = c .before .before .before in built-start (test s) (s .args .rules) (s .args .set) (omega arith)
+loop-holds c = let s = c .before in built-start (test s) (s .args .rules) (s .args .set) (omega arith)
 
 -- where something is left, there is a rule that it begins with
-rule-left : (c : tie.In-loop Inv-loop μ-loop) → c .before .loop .rule < c .before .before .before .before .before .args .rules
+rule-left : (c : tie.In-loop Inv-loop μ-loop) → c .before .loop .rule < c .before .before .before .args .rules
 rule-left c =
     let l = c .before .loop in
-    left-rule (c .before .before .before .before .before .args .rules) (l .rule) (l .rest) (l .inv .left) (omega arith)
+    left-rule (c .before .before .before .args .rules) (l .rule) (l .rest) (l .inv .left) (omega arith)
 
 weight-small : (c : tie.In-loop Inv-loop μ-loop) → c .before .loop .weight ≤ 4294967296
 weight-small c =
@@ -36,7 +36,7 @@ weight-small c =
     subst (λ w. w ≤ 4294967296) (sym (l .inv .power)) (power-up-to 32 (l .rule) (omega arith))
 
 goes-on-requires : tie.Need-goes-on-requires Inv-loop μ-loop
-goes-on-requires c κs = let h = rule-left (c .before) in (c .before .before .before .before .before .before .pre .0, omega arith)
+goes-on-requires c κs = let h = rule-left (c .before) in (c .before .before .before .before .pre .0, omega arith)
 
 add-longer : tie.Need-add-longer Inv-loop μ-loop
 add-longer c =
@@ -56,7 +56,7 @@ loop-less c = omega arith
 loop-again : tie.Need-loop-again Inv-loop μ-loop
 loop-again c =
     let l = c .before .before .loop in
-    let s = c .before .before .before .before .before .before in
+    let s = c .before .before .before .before in
     let n = s .args .rules in
     let h = rule-left (c .before) in
     let take = built-take (test s) n (s .args .set) (l .rule) (l .rest) (l .longer) (l .weight) h (l .inv) in
@@ -70,24 +70,24 @@ loop-again c =
 
 -- where nothing is left, the set that was built is the one asked for
 built : (c : tie.After-loop Inv-loop μ-loop) →
-    let s = c .before .before .before .before .before in Filtered (test s) (s .args .rules) (s .args .set) (c .before .loop .longer)
+    let s = c .before .before .before in Filtered (test s) (s .args .rules) (s .args .set) (c .before .loop .longer)
 built c =
     let l = c .before .loop in
-    let s = c .before .before .before .before .before in
+    let s = c .before .before .before in
     let n = s .args .rules in
     let e : l .rest ≡ 0 = omega arith in
     built-end (test s) n (s .args .set) (l .rule) (l .longer) (l .weight) (subst (λ x. Built (test s) n (s .args .set) (l .rule) x (l .longer) (l .weight)) e (l .inv))
 
 cast-result : tie.Need-cast-result Inv-loop μ-loop
 cast-result c =
-    let n = c .before .before .before .before .before .args .rules in
+    let n = c .before .before .before .args .rules in
     let b : c .before .loop .longer < 2 ^ n = built c .1 in omega (arith, power-up-to 32 n (omega arith))
 
 returns : tie.Need-returns Inv-loop μ-loop
 returns c =
-    let a = c .before .before .before .before .before .args in
+    let a = c .before .before .before .args in
     let b = built c in
-    (b .0 ∙ sym (longer-flat (a .slots .now) (a .ranges .now) (a .blocks .now) (a .rules) false (a .set) (a .depth) (a .c)), b .1)
+    (b .0 ∙ sym (longer-flat (a .loaded .now) (a .rules) false (a .set) (a .depth) (a .c)), b .1)
 
 pub longer-rules-spec : {M : Type 1} → statement M
 longer-rules-spec =

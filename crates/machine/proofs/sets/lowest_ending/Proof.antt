@@ -1,7 +1,7 @@
 -- `sets::lowest_ending` meets its contract. The invariant: the first rule that ends there is the first of what is left of the set.
 -- The measure is what is left, which each turn halves. Assumes nothing.
-use mathlib.Core.Bool.{Bool}
-use mathlib.Core.Logic.{⊎-elim}
+use mathlib.Core.Bool.{Bool, false}
+use mathlib.Core.Logic.{⊎-elim, _⊎_}
 use mathlib.Core.Path.{_≡_, sym, subst, _∙_}
 use Prim.Native.Nat.{ℕ, _<_}
 use native.Mathlib.Omega.{arith}
@@ -10,14 +10,14 @@ use Rattle.machine.proofs.sets.lowest_ending.Statement.{statement}
 use Rattle.machine.proofs.sets.lowest_ending.Tie as tie
 
 abbrev Inv-loop : tie.InvT-loop
-Inv-loop blocks rules set depth free rest₀ rule₀ rest rule = Sought (endsAt blocks depth free) rules set rule rest
+Inv-loop loaded rules set depth free rest₀ rule₀ rest rule = Sought (endsAt loaded depth free) rules set rule rest
 
 abbrev μ-loop : tie.MeasureT-loop
-μ-loop blocks rules set depth free rest₀ rule₀ rest rule = rest
+μ-loop loaded rules set depth free rest₀ rule₀ rest rule = rest
 
 -- the test of a rule, by the arguments
 abbrev test : tie.Start Inv-loop μ-loop → ℕ → Bool
-test s = let a = s .args in endsAt (a .blocks .now) (a .depth) (a .free)
+test s = let a = s .args in endsAt (a .loaded .now) (a .depth) (a .free)
 
 loop-holds : tie.Need-loop-holds Inv-loop μ-loop
 loop-holds c = let s = c .before in sought-start (test s) (s .args .rules) (s .args .set) (omega arith)
@@ -50,12 +50,16 @@ add-rule c = omega (arith, rule-left (c .before))
 loop-less : tie.Need-loop-less Inv-loop μ-loop
 loop-less c = omega arith
 
+-- the rule is not in the set, or it doesn't end there
+passed-over : {A B : Type 0} {b : Bool} → (A → b ≡ false) → (B → b ≡ false) → A ⊎ B → b ≡ false
+passed-over f g = ⊎-elim f g
+
 loop-again : tie.Need-loop-again Inv-loop μ-loop
 loop-again c =
     let l = c .before .before .loop in
     let s = c .before .before .before .before in
     sought-skip (test s) (s .args .rules) (s .args .set) (l .rule) (l .rest) (rule-left (c .before))
-    (λ o. ⊎-elim (λ w. sym (w .1 .ensures) ∙ w .2 .left) (λ w. absurd (w .left o)) (c .if1 .came)) (l .inv)
+    (λ o. passed-over (λ w. sym (w .1 .ensures) ∙ w .2 .left) (λ w. absurd (w .left o)) (c .if1 .came)) (l .inv)
 
 returns-2 : tie.Need-returns-2 Inv-loop μ-loop
 returns-2 c =

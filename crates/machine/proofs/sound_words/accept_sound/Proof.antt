@@ -41,33 +41,24 @@ names-rule-requires c κs = search needs
 returns-2 : tie.Need-returns-2
 returns-2 c = sym (in-use _ (accept-used (c .before .before .before)) ∙ all-stops _ (failed (named (c .before)) (c .if2 .taken)))
 
-cast-block : tie.Need-cast-block
-cast-block c = search needs
+cast-group-anchored : tie.Need-cast-group-anchored
+cast-group-anchored c = search needs
 
-mul-if3 : tie.Need-mul-if3
-mul-if3 c = search needs
-
-add-if3 : tie.Need-add-if3
-add-if3 c = search needs
-
-mul-if3-2 : tie.Need-mul-if3-2
-mul-if3-2 c = search needs
-
-shared-slice-read-if3 : tie.Need-shared-slice-read-if3
-shared-slice-read-if3 c =
-    let n = c .before .before in
-    let w = now (n .before .before .before .before .before .args .words) in
-    omega (arith, names-small w _ _ (passed (n .names-rule .ensures) (c .before .if2 .left)))
+group-anchored-requires : tie.Need-group-anchored-requires
+group-anchored-requires c κs =
+    let n = c .before in
+    let s = n .before .before .before .before .before in
+    (s .pre .0, omega (arith, s .pre .1, names-small (now (s .args .words)) _ _ (passed (n .names-rule .ensures) (c .if2 .left))))
 
 returns-3 : tie.Need-returns-3
 returns-3 c =
     let d = c .before .before in
     let e = d .before .before .before in
-    let free = named-word (now (e .before .before .before .args .words)) (e .before .accept-word .ensures) (e .if1 .left) in
+    let free = named-word (now (e .before .before .before .args .words)) 1 (e .before .accept-word .ensures) (e .if1 .left) in
     sym
     (in-use _ (accept-used e)
     ∙ all-next _ (passed (named (d .before)) (d .if2 .left))
-    ∙ all-stops _ (ne-eqb _ _ (λ z. c .if3 .taken (sym free ∙ z))))
+    ∙ all-stops _ (ne-eqb _ _ (λ z. c .if3 .taken (c .before .group-anchored .ensures ∙ sym free ∙ z))))
 
 accept-at-end-word-requires : tie.Need-accept-at-end-word-requires
 accept-at-end-word-requires c κs = search needs
@@ -76,12 +67,12 @@ returns-4 : tie.Need-returns-4
 returns-4 c =
     let d = c .before .before .before in
     let e = d .before .before .before in
-    let free = named-word (now (e .before .before .before .args .words)) (e .before .accept-word .ensures) (e .if1 .left) in
+    let free = named-word (now (e .before .before .before .args .words)) 1 (e .before .accept-word .ensures) (e .if1 .left) in
     ap used (c .accept-at-end-word .ensures)
     ∙ sym
     (in-use _ (accept-used e)
     ∙ all-next _ (passed (named (d .before)) (d .if2 .left))
-    ∙ all-next _ (eq-eqb _ _ (free ∙ c .before .if3 .left))
+    ∙ all-next _ (eq-eqb _ _ (free ∙ sym (c .before .before .group-anchored .ensures) ∙ c .before .if3 .left))
     ∙ all-last _)
 
 pub accept-sound-spec : {M : Type 1} → statement M
@@ -94,11 +85,8 @@ accept-sound-spec =
     depth-word-requires
     names-rule-requires
     returns-2
-    cast-block
-    mul-if3
-    add-if3
-    mul-if3-2
-    shared-slice-read-if3
+    cast-group-anchored
+    group-anchored-requires
     returns-3
     accept-at-end-word-requires
     returns-4)

@@ -1,98 +1,72 @@
 -- `block_sound` meets its contract: the first test that fails decides, and past two the third.
 -- Assumes nothing.
-use mathlib.Core.Path.{sym, _∙_}
+use mathlib.Core.Path.{_≡_, sym, ap, ap₂, _∙_}
+use borrow.Author.Needs.{needs}
 use borrow.Author.Tests.{le-leb, lt-leb}
 use denote.Ref.{now}
+use lib.Dec.{leb}
 use Rattle.lists.proofs.Laws.Tests.{passed, failed, all-stops, all-next, all-last}
-use Rattle.automaton.proofs.Laws.Checking.{block-words}
-use borrow.Author.Needs.{needs}
+use Rattle.meaning.specs.Block.{at}
+use Rattle.automaton.specs.Sound.{blockAt, between, soundBlock}
 use Rattle.machine.proofs.sound_words.block_sound.Statement.{statement}
 use Rattle.machine.proofs.sound_words.block_sound.Tie as tie
 
-mul-within : tie.Need-mul-within
-mul-within c = search needs
+-- the first two tests, of the words that were read for them
+sizes : (c : tie.After-within) →
+    let a = c .before .before .before .args in
+    c .within .result ≡ between 1 (a .most) (at (blockAt (now (a .words)) (a .block)) 0)
+sizes c = c .within .ensures ∙ ap (between 1 (c .before .before .before .args .most)) (c .before .group-size .ensures)
 
-add-within : tie.Need-add-within
-add-within c = search needs
+anchors : (c : tie.After-group-anchored) →
+    let a = c .before .before .before .before .before .args in
+    leb (at (blockAt (now (a .words)) (a .block)) 1) (a .anchored) ≡ leb (c .group-anchored .result) (a .anchored)
+anchors c = ap (λ n. leb n (c .before .before .before .before .before .args .anchored)) (sym (c .group-anchored .ensures))
 
-mul-within-2 : tie.Need-mul-within-2
-mul-within-2 c = search needs
-
-shared-slice-read-within : tie.Need-shared-slice-read-within
-shared-slice-read-within c = search needs
+group-size-requires : tie.Need-group-size-requires
+group-size-requires c κs = search needs
 
 within-requires : tie.Need-within-requires
 within-requires c κs = search needs
 
 returns : tie.Need-returns
-returns c =
-    let a = c .before .before .before .before .args in
-    sym (block-words (now (a .words)) (a .block) (a .most) (a .anchored) ∙ all-stops _ (failed (c .before .within .ensures) (c .if1 .taken)))
+unfolding soundBlock
+returns c = sym (all-stops _ (failed (sizes (c .before)) (c .if1 .taken)))
 
-mul-if2 : tie.Need-mul-if2
-mul-if2 c = search needs
-
-add-if2 : tie.Need-add-if2
-add-if2 c = search needs
-
-mul-if2-2 : tie.Need-mul-if2-2
-mul-if2-2 c = search needs
-
-shared-slice-read-if2 : tie.Need-shared-slice-read-if2
-shared-slice-read-if2 c = search needs
+group-anchored-requires : tie.Need-group-anchored-requires
+group-anchored-requires c κs = search needs
 
 returns-2 : tie.Need-returns-2
+unfolding soundBlock
 returns-2 c =
     let e = c .before .before in
-    let a = e .before .before .before .before .args in
-    sym
-    (block-words (now (a .words)) (a .block) (a .most) (a .anchored)
-    ∙ all-next _ (passed (e .before .within .ensures) (e .if1 .left))
-    ∙ all-stops _ (lt-leb _ _ (c .if2 .taken)))
+    sym (all-next _ (passed (sizes (e .before)) (e .if1 .left)) ∙ all-stops _ (anchors (c .before) ∙ lt-leb _ _ (c .if2 .taken)))
 
-mul-result : tie.Need-mul-result
-mul-result c = search needs
+group-outputs-requires : tie.Need-group-outputs-requires
+group-outputs-requires c κs = search needs
 
-add-result : tie.Need-add-result
-add-result c = search needs
-
-mul-result-2 : tie.Need-mul-result-2
-mul-result-2 c = search needs
-
-shared-slice-read-result : tie.Need-shared-slice-read-result
-shared-slice-read-result c = search needs
-
-shared-slice-read-result-2 : tie.Need-shared-slice-read-result-2
-shared-slice-read-result-2 c = search needs
+expansion-requires : tie.Need-expansion-requires
+expansion-requires c κs = search needs
 
 returns-3 : tie.Need-returns-3
+unfolding soundBlock
 returns-3 c =
-    let e = c .before .before .before .before in
-    let a = e .before .before .before .before .args in
-    sym
-    (block-words (now (a .words)) (a .block) (a .most) (a .anchored)
-    ∙ all-next _ (passed (e .before .within .ensures) (e .if1 .left))
-    ∙ all-next _ (le-leb _ _ (c .before .before .if2 .left))
+    let d = c .before .before in
+    let e = d .before .before in
+    ap₂ leb (c .before .group-outputs .ensures) (c .expansion .ensures)
+    ∙ sym
+    (all-next _ (passed (sizes (e .before)) (e .if1 .left))
+    ∙ all-next _ (anchors (d .before) ∙ le-leb _ _ (d .if2 .left))
     ∙ all-last _)
 
 pub block-sound-spec : {M : Type 1} → statement M
 block-sound-spec =
     tie.close
     (tie.spec
-    mul-within
-    add-within
-    mul-within-2
-    shared-slice-read-within
+    group-size-requires
     within-requires
     returns
-    mul-if2
-    add-if2
-    mul-if2-2
-    shared-slice-read-if2
+    group-anchored-requires
     returns-2
-    mul-result
-    add-result
-    mul-result-2
-    shared-slice-read-result
-    shared-slice-read-result-2
+    group-outputs-requires
+    expansion-requires
     returns-3)

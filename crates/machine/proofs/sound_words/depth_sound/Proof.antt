@@ -1,11 +1,10 @@
 -- `depth_sound` meets its contract: whether the state is 0 decides which test counts.
 -- Assumes nothing.
-use mathlib.Core.Path.{ap, _∙_}
-use borrow.Author.Tests.{eq-eqb, ne-eqb}
-use denote.Ref.{now}
-use lib.Dec.{eqb}
-use Rattle.automaton.specs.Sound.{longestWord, between}
+use mathlib.Core.Path.{ap, ap₂, _∙_}
 use borrow.Author.Needs.{needs}
+use borrow.Author.Tests.{eq-eqb, ne-eqb}
+use lib.Dec.{eqb}
+use Rattle.automaton.specs.Sound.{between}
 use Rattle.machine.proofs.sound_words.depth_sound.Statement.{statement}
 use Rattle.machine.proofs.sound_words.depth_sound.Tie as tie
 
@@ -15,8 +14,11 @@ depth-word-requires c κs = search needs
 returns : tie.Need-returns
 returns c = rw (eq-eqb _ _ (c .if1 .taken)) (ap (λ d. eqb d 0) (c .before .before .depth-word .ensures))
 
-shared-slice-read-within : tie.Need-shared-slice-read-within
-shared-slice-read-within c = search needs
+longest-requires : tie.Need-longest-requires
+longest-requires c κs = search needs
+
+cast-within : tie.Need-cast-within
+cast-within c = search needs
 
 within-requires : tie.Need-within-requires
 within-requires c κs = search needs
@@ -24,10 +26,9 @@ within-requires c κs = search needs
 returns-2 : tie.Need-returns-2
 returns-2 c =
     let e = c .before .before in
-    let d = e .before .before in
-    rw (ne-eqb _ _ (e .if1 .left)) (c .within .ensures ∙ ap (between 1 (longestWord (now (d .before .before .args .words)))) (d .depth-word .ensures))
+    rw (ne-eqb _ _ (e .if1 .left)) (c .within .ensures ∙ ap₂ (between 1) (c .before .longest .ensures) (e .before .before .depth-word .ensures))
 
 pub depth-sound-spec : {M : Type 1} → statement M
 depth-sound-spec =
     tie.close
-    (tie.spec depth-word-requires returns shared-slice-read-within within-requires returns-2)
+    (tie.spec depth-word-requires returns longest-requires cast-within within-requires returns-2)

@@ -1,7 +1,7 @@
 -- `header_sound` meets its contract: the first test that fails decides, and past five the sixth.
 -- Assumes nothing.
 use mathlib.Core.List.{List, [], _∷_}
-use mathlib.Core.Path.{_≡_, sym, _∙_}
+use mathlib.Core.Path.{_≡_, sym, ap, _∙_}
 use Prim.Native.Nat.{ℕ}
 use borrow.Author.Tests.{le-leb, lt-leb}
 use denote.Ref.{now}
@@ -30,88 +30,104 @@ w4 c = w3 (c .before .before)
 abbrev w5 : tie.Else5 → List ℕ
 w5 c = w4 (c .before .before .before)
 
+-- each test, of the word that was read for it
+states : (c : tie.After-within) → c .within .result ≡ between 1 256 (at (now (c .before .before .before .args .words)) 0)
+states c = c .within .ensures ∙ ap (between 1 256) (c .before .state-count .ensures)
+
+classes : (c : tie.After-within2) → c .within2 .result ≡ between 1 64 (at (w1 (c .before .before)) 1)
+classes c = c .within2 .ensures ∙ ap (between 1 64) (c .before .class-count .ensures)
+
+lengths : (c : tie.After-within3) → c .within3 .result ≡ between 1 8 (at (w2 (c .before .before)) 2)
+lengths c = c .within3 .ensures ∙ ap (between 1 8) (c .before .longest .ensures)
+
+outputs : (c : tie.After-expansion) → leb (at (w3 (c .before)) 3) 8 ≡ leb (c .expansion .result) 8
+outputs c = ap (λ n. leb n 8) (sym (c .expansion .ensures))
+
+rules : (c : tie.After-within4) → c .within4 .result ≡ between 1 32 (at (w4 (c .before .before)) 4)
+rules c = c .within4 .ensures ∙ ap (between 1 32) (c .before .rule-count .ensures)
+
 past-states : (c : tie.Else1) → soundHeader (w1 c) ≡ allOf (between 1 64 (at (w1 c) 1) ∷ between 1 8 (at (w1 c) 2) ∷ leb (at (w1 c) 3) 8 ∷ between 1 32 (at (w1 c) 4) ∷ leb (at (w1 c) 5) 1 ∷ [])
 unfolding soundHeader
-past-states c = all-next _ (passed (c .before .within .ensures) (c .if1 .left))
+past-states c = all-next _ (passed (states (c .before)) (c .if1 .left))
 
 past-classes : (c : tie.Else2) → soundHeader (w2 c) ≡ allOf (between 1 8 (at (w2 c) 2) ∷ leb (at (w2 c) 3) 8 ∷ between 1 32 (at (w2 c) 4) ∷ leb (at (w2 c) 5) 1 ∷ [])
-past-classes c = past-states (c .before .before .before) ∙ all-next _ (passed (c .before .within2 .ensures) (c .if2 .left))
+past-classes c = past-states (c .before .before .before) ∙ all-next _ (passed (classes (c .before)) (c .if2 .left))
 
 past-longest : (c : tie.Else3) → soundHeader (w3 c) ≡ allOf (leb (at (w3 c) 3) 8 ∷ between 1 32 (at (w3 c) 4) ∷ leb (at (w3 c) 5) 1 ∷ [])
-past-longest c = past-classes (c .before .before .before) ∙ all-next _ (passed (c .before .within3 .ensures) (c .if3 .left))
+past-longest c = past-classes (c .before .before .before) ∙ all-next _ (passed (lengths (c .before)) (c .if3 .left))
 
 past-expansion : (c : tie.Else4) → soundHeader (w4 c) ≡ allOf (between 1 32 (at (w4 c) 4) ∷ leb (at (w4 c) 5) 1 ∷ [])
-past-expansion c = past-longest (c .before .before) ∙ all-next _ (le-leb _ _ (c .if4 .left))
+past-expansion c = past-longest (c .before .before) ∙ all-next _ (outputs (c .before) ∙ le-leb _ _ (c .if4 .left))
 
 past-rules : (c : tie.Else5) → soundHeader (w5 c) ≡ allOf (leb (at (w5 c) 5) 1 ∷ [])
-past-rules c = past-expansion (c .before .before .before) ∙ all-next _ (passed (c .before .within4 .ensures) (c .if5 .left))
+past-rules c = past-expansion (c .before .before .before) ∙ all-next _ (passed (rules (c .before)) (c .if5 .left))
 
-shared-slice-read-within : tie.Need-shared-slice-read-within
-shared-slice-read-within c = search needs
+state-count-requires : tie.Need-state-count-requires
+state-count-requires c κs = search needs
 
 within-requires : tie.Need-within-requires
 within-requires c κs = search needs
 
 returns : tie.Need-returns
 unfolding soundHeader
-returns c = sym (all-stops _ (failed (c .before .within .ensures) (c .if1 .taken)))
+returns c = sym (all-stops _ (failed (states (c .before)) (c .if1 .taken)))
 
-shared-slice-read-within-2 : tie.Need-shared-slice-read-within-2
-shared-slice-read-within-2 c = search needs
+class-count-requires : tie.Need-class-count-requires
+class-count-requires c κs = search needs
 
 within-requires-2 : tie.Need-within-requires-2
 within-requires-2 c κs = search needs
 
 returns-2 : tie.Need-returns-2
-returns-2 c = sym (past-states (c .before .before .before) ∙ all-stops _ (failed (c .before .within2 .ensures) (c .if2 .taken)))
+returns-2 c = sym (past-states (c .before .before .before) ∙ all-stops _ (failed (classes (c .before)) (c .if2 .taken)))
 
-shared-slice-read-within-3 : tie.Need-shared-slice-read-within-3
-shared-slice-read-within-3 c = search needs
+longest-requires : tie.Need-longest-requires
+longest-requires c κs = search needs
 
 within-requires-3 : tie.Need-within-requires-3
 within-requires-3 c κs = search needs
 
 returns-3 : tie.Need-returns-3
-returns-3 c = sym (past-classes (c .before .before .before) ∙ all-stops _ (failed (c .before .within3 .ensures) (c .if3 .taken)))
+returns-3 c = sym (past-classes (c .before .before .before) ∙ all-stops _ (failed (lengths (c .before)) (c .if3 .taken)))
 
-shared-slice-read-if4 : tie.Need-shared-slice-read-if4
-shared-slice-read-if4 c = search needs
+expansion-requires : tie.Need-expansion-requires
+expansion-requires c κs = search needs
 
 returns-4 : tie.Need-returns-4
-returns-4 c = sym (past-longest (c .before .before) ∙ all-stops _ (lt-leb _ _ (c .if4 .taken)))
+returns-4 c = sym (past-longest (c .before .before) ∙ all-stops _ (outputs (c .before) ∙ lt-leb _ _ (c .if4 .taken)))
 
-shared-slice-read-within-4 : tie.Need-shared-slice-read-within-4
-shared-slice-read-within-4 c = search needs
+rule-count-requires : tie.Need-rule-count-requires
+rule-count-requires c κs = search needs
 
 within-requires-4 : tie.Need-within-requires-4
 within-requires-4 c κs = search needs
 
 returns-5 : tie.Need-returns-5
-returns-5 c = sym (past-expansion (c .before .before .before) ∙ all-stops _ (failed (c .before .within4 .ensures) (c .if5 .taken)))
+returns-5 c = sym (past-expansion (c .before .before .before) ∙ all-stops _ (failed (rules (c .before)) (c .if5 .taken)))
 
-shared-slice-read-result : tie.Need-shared-slice-read-result
-shared-slice-read-result c = search needs
+default-word-requires : tie.Need-default-word-requires
+default-word-requires c κs = search needs
 
 returns-6 : tie.Need-returns-6
-returns-6 c = sym (past-rules (c .before) ∙ all-last _)
+returns-6 c = ap (λ n. leb n 1) (c .default-word .ensures) ∙ sym (past-rules (c .before) ∙ all-last _)
 
 pub header-sound-spec : {M : Type 1} → statement M
 header-sound-spec =
     tie.close
     (tie.spec
-    shared-slice-read-within
+    state-count-requires
     within-requires
     returns
-    shared-slice-read-within-2
+    class-count-requires
     within-requires-2
     returns-2
-    shared-slice-read-within-3
+    longest-requires
     within-requires-3
     returns-3
-    shared-slice-read-if4
+    expansion-requires
     returns-4
-    shared-slice-read-within-4
+    rule-count-requires
     within-requires-4
     returns-5
-    shared-slice-read-result
+    default-word-requires
     returns-6)

@@ -16,31 +16,37 @@ abbrev test : List ℕ → ℕ → Bool
 test w g = soundBlock w g (longestWord w) 1
 
 abbrev Inv-loop : tie.InvT-loop
-Inv-loop words rules rule₀ rule = (rule ≤ ruleCount words) × (forBelow rule (test words) ≡ true)
+Inv-loop words rules most rule₀ rule = (rule ≤ ruleCount words) × (forBelow rule (test words) ≡ true)
 
 abbrev μ-loop : tie.MeasureT-loop
-μ-loop words rules rule₀ rule = ruleCount words - rule
+μ-loop words rules most rule₀ rule = ruleCount words - rule
 
-shared-slice-read-rules : tie.Need-shared-slice-read-rules Inv-loop μ-loop
-shared-slice-read-rules c = omega arith
+-- the test of one rule's block
+tested : (c : tie.After-block-sound Inv-loop μ-loop) →
+    let l = c .before .before in
+    c .block-sound .result ≡ test (now (l .before .before .before .before .args .words)) (l .loop .rule)
+tested c =
+    let l = c .before .before in
+    let w = now (l .before .before .before .before .args .words) in
+    c .block-sound .ensures ∙ ap (λ most. soundBlock w (l .loop .rule) most 1) (l .before .longest .ensures)
 
-cast-rules : tie.Need-cast-rules Inv-loop μ-loop
-cast-rules c = omega arith
+rule-count-requires : tie.Need-rule-count-requires Inv-loop μ-loop
+rule-count-requires c κs = omega arith
+
+longest-requires : tie.Need-longest-requires Inv-loop μ-loop
+longest-requires c κs = omega arith
 
 loop-holds : tie.Need-loop-holds Inv-loop μ-loop
-loop-holds c = (omega arith, none-below (test (now (c .before .before .args .words))))
-
-shared-slice-read-block-sound : tie.Need-shared-slice-read-block-sound Inv-loop μ-loop
-shared-slice-read-block-sound c = omega arith
+loop-holds c = (omega arith, none-below (test (now (c .before .before .before .args .words))))
 
 block-sound-requires : tie.Need-block-sound-requires Inv-loop μ-loop
 block-sound-requires c κs = omega arith
 
 returns : tie.Need-returns Inv-loop μ-loop
 returns c =
-    let l = c .before .before .before .before in
-    let w = now (l .before .before .before .args .words) in
-    sym (below-fails (test w) (ruleCount w) (l .loop .rule) (omega arith) (c .before .block-sound .ensures) (c .if1 .taken))
+    let l = c .before .before .before in
+    let w = now (l .before .before .before .before .args .words) in
+    sym (below-fails (test w) (ruleCount w) (l .loop .rule) (omega arith) (tested (c .before)) (c .if1 .taken))
 
 add-rule : tie.Need-add-rule Inv-loop μ-loop
 add-rule c = omega arith
@@ -50,14 +56,14 @@ loop-less c = omega arith
 
 loop-again : tie.Need-loop-again Inv-loop μ-loop
 loop-again c =
-    let l = c .before .before .before .before in
-    let w = now (l .before .before .before .args .words) in
-    (omega arith, below-again (test w) (l .loop .rule) (l .loop .inv .1) (c .before .block-sound .ensures) (c .if1 .left))
+    let l = c .before .before .before in
+    let w = now (l .before .before .before .before .args .words) in
+    (omega arith, below-again (test w) (l .loop .rule) (l .loop .inv .1) (tested (c .before)) (c .if1 .left))
 
 returns-2 : tie.Need-returns-2 Inv-loop μ-loop
 returns-2 c =
     let l = c .before in
-    let w = now (l .before .before .before .args .words) in
+    let w = now (l .before .before .before .before .args .words) in
     let all : l .loop .rule ≡ ruleCount w = omega arith in
     sym (l .loop .inv .1) ∙ ap (λ n. forBelow n (test w)) all
 
@@ -67,10 +73,9 @@ rule-blocks-sound-spec =
     (tie.spec
     Inv-loop
     μ-loop
-    shared-slice-read-rules
-    cast-rules
+    rule-count-requires
+    longest-requires
     loop-holds
-    shared-slice-read-block-sound
     block-sound-requires
     returns
     add-rule

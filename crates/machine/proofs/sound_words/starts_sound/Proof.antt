@@ -26,51 +26,48 @@ Inv-loop words classes k₀ k = (k ≤ pred (classCount words)) × (forBelow k (
 abbrev μ-loop : tie.MeasureT-loop
 μ-loop words classes k₀ k = pred (classCount words) - k
 
-shared-slice-read-if1 : tie.Need-shared-slice-read-if1 Inv-loop μ-loop
-shared-slice-read-if1 c = omega arith
+class-start-requires : tie.Need-class-start-requires Inv-loop μ-loop
+class-start-requires c κs = omega arith
 
 returns : tie.Need-returns Inv-loop μ-loop
 unfolding soundStarts
-returns c = sym (all-stops _ (ne-eqb _ _ (c .if1 .taken)))
+returns c = sym (all-stops _ (ne-eqb _ _ (λ z. c .if1 .taken (c .before .class-start .ensures ∙ z))))
 
-shared-slice-read-classes : tie.Need-shared-slice-read-classes Inv-loop μ-loop
-shared-slice-read-classes c = omega arith
-
-cast-classes : tie.Need-cast-classes Inv-loop μ-loop
-cast-classes c = omega arith
+class-count-requires : tie.Need-class-count-requires Inv-loop μ-loop
+class-count-requires c κs = omega arith
 
 loop-holds : tie.Need-loop-holds Inv-loop μ-loop
-loop-holds c = (omega arith, none-below (rises (now (c .before .before .before .args .words))))
+loop-holds c = (omega arith, none-below (rises (now (c .before .before .before .before .args .words))))
 
 add-loop : tie.Need-add-loop Inv-loop μ-loop
 add-loop c = omega arith
 
-add-if2 : tie.Need-add-if2 Inv-loop μ-loop
-add-if2 c = omega arith
+class-start-requires-2 : tie.Need-class-start-requires-2 Inv-loop μ-loop
+class-start-requires-2 c κs = omega arith
 
-mul-if2 : tie.Need-mul-if2 Inv-loop μ-loop
-mul-if2 c = omega arith
+add-class-start : tie.Need-add-class-start Inv-loop μ-loop
+add-class-start c = omega arith
 
-shared-slice-read-if2 : tie.Need-shared-slice-read-if2 Inv-loop μ-loop
-shared-slice-read-if2 c = omega arith
+class-start-requires-3 : tie.Need-class-start-requires-3 Inv-loop μ-loop
+class-start-requires-3 c κs = omega arith
 
-add-if2-2 : tie.Need-add-if2-2 Inv-loop μ-loop
-add-if2-2 c = omega arith
+-- the first start, and the place of the next one
+from-zero : (c : tie.Else1 Inv-loop μ-loop) → at (now (c .before .before .before .args .words)) 6 ≡ 0
+from-zero c = sym (c .before .class-start .ensures) ∙ c .if1 .left
 
-mul-if2-2 : tie.Need-mul-if2-2 Inv-loop μ-loop
-mul-if2-2 c = omega arith
-
-shared-slice-read-if2-2 : tie.Need-shared-slice-read-if2-2 Inv-loop μ-loop
-shared-slice-read-if2-2 c = omega arith
+next : (w : List ℕ) (k : ℕ) → at w (classesFrom + (k + 1)) ≡ at w (classesFrom + 1 + k)
+next w k = let e : classesFrom + (k + 1) ≡ classesFrom + 1 + k = omega arith in ap (at w) e
 
 returns-2 : tie.Need-returns-2 Inv-loop μ-loop
 unfolding soundStarts
 returns-2 c =
     let l = c .before .before .before .before in
     let e = l .before .before in
-    let w = now (e .before .before .args .words) in
-    sym (all-next _ (eq-eqb _ _ (e .if1 .left))
-    ∙ all-stops _ (below-fails (rises w) (pred (classCount w)) (l .loop .k) (omega arith) {r = false} (sym (le-ltb _ _ (c .if2 .taken))) refl))
+    let w = now (e .before .before .before .args .words) in
+    let k = l .loop .k in
+    let falls = le-ltb (at w (classesFrom + k)) (at w (classesFrom + 1 + k))
+    (omega (arith, c .if2 .taken, c .before .before .class-start2 .ensures, c .before .class-start3 .ensures, next w k)) in
+    sym (all-next _ (eq-eqb _ _ (from-zero e)) ∙ all-stops _ (below-fails (rises w) (pred (classCount w)) k (omega arith) {r = false} (sym falls) refl))
 
 add-k : tie.Need-add-k Inv-loop μ-loop
 add-k c = omega arith
@@ -81,17 +78,20 @@ loop-less c = omega arith
 loop-again : tie.Need-loop-again Inv-loop μ-loop
 loop-again c =
     let l = c .before .before .before .before in
-    let w = now (l .before .before .before .before .args .words) in
-    (omega arith, below-again (rises w) (l .loop .k) (l .loop .inv .1) {r = true} (sym (lt-ltb _ _ (c .if2 .left))) refl)
+    let w = now (l .before .before .before .before .before .args .words) in
+    let k = l .loop .k in
+    let rise = lt-ltb (at w (classesFrom + k)) (at w (classesFrom + 1 + k))
+    (omega (arith, c .if2 .left, c .before .before .class-start2 .ensures, c .before .class-start3 .ensures, next w k)) in
+    (omega arith, below-again (rises w) k (l .loop .inv .1) {r = true} (sym rise) refl)
 
 returns-3 : tie.Need-returns-3 Inv-loop μ-loop
 unfolding soundStarts
 returns-3 c =
     let l = c .before in
     let e = l .before .before in
-    let w = now (e .before .before .args .words) in
+    let w = now (e .before .before .before .args .words) in
     let all : l .loop .k ≡ pred (classCount w) = omega arith in
-    sym (all-next _ (eq-eqb _ _ (e .if1 .left)) ∙ all-last _ ∙ ap (λ n. forBelow n (rises w)) (sym all) ∙ l .loop .inv .1)
+    sym (all-next _ (eq-eqb _ _ (from-zero e)) ∙ all-last _ ∙ ap (λ n. forBelow n (rises w)) (sym all) ∙ l .loop .inv .1)
 
 pub starts-sound-spec : {M : Type 1} → statement M
 starts-sound-spec =
@@ -99,18 +99,14 @@ starts-sound-spec =
     (tie.spec
     Inv-loop
     μ-loop
-    shared-slice-read-if1
+    class-start-requires
     returns
-    shared-slice-read-classes
-    cast-classes
+    class-count-requires
     loop-holds
     add-loop
-    add-if2
-    mul-if2
-    shared-slice-read-if2
-    add-if2-2
-    mul-if2-2
-    shared-slice-read-if2-2
+    class-start-requires-2
+    add-class-start
+    class-start-requires-3
     returns-2
     add-k
     loop-less

@@ -17,11 +17,14 @@ Inv-loop words states state₀ state = (state ≤ stateCount words) × (forBelow
 abbrev μ-loop : tie.MeasureT-loop
 μ-loop words states state₀ state = stateCount words - state
 
-shared-slice-read-states : tie.Need-shared-slice-read-states Inv-loop μ-loop
-shared-slice-read-states c = omega arith
+state-count-requires : tie.Need-state-count-requires Inv-loop μ-loop
+state-count-requires c κs = omega arith
 
 loop-holds : tie.Need-loop-holds Inv-loop μ-loop
 loop-holds c = (omega arith, none-below (soundState (now (c .before .before .args .words))))
+
+cast-t5 : tie.Need-cast-t5 Inv-loop μ-loop
+cast-t5 c = omega arith
 
 state-sound-requires : tie.Need-state-sound-requires Inv-loop μ-loop
 state-sound-requires c κs = omega arith
@@ -57,8 +60,9 @@ states-sound-spec =
     (tie.spec
     Inv-loop
     μ-loop
-    shared-slice-read-states
+    state-count-requires
     loop-holds
+    cast-t5
     state-sound-requires
     returns
     add-state

@@ -22,11 +22,14 @@ Inv-loop words state classes class₀ class = (class ≤ classCount words) × (f
 abbrev μ-loop : tie.MeasureT-loop
 μ-loop words state classes class₀ class = classCount words - class
 
-shared-slice-read-classes : tie.Need-shared-slice-read-classes Inv-loop μ-loop
-shared-slice-read-classes c = omega arith
+class-count-requires : tie.Need-class-count-requires Inv-loop μ-loop
+class-count-requires c κs = omega arith
 
 loop-holds : tie.Need-loop-holds Inv-loop μ-loop
 loop-holds c = let a = c .before .before .args in (omega arith, none-below (test (now (a .words)) (a .state .0)))
+
+cast-t6 : tie.Need-cast-t6 Inv-loop μ-loop
+cast-t6 c = omega arith
 
 class-target-sound-requires : tie.Need-class-target-sound-requires Inv-loop μ-loop
 class-target-sound-requires c κs = omega arith
@@ -62,8 +65,9 @@ targets-sound-spec =
     (tie.spec
     Inv-loop
     μ-loop
-    shared-slice-read-classes
+    class-count-requires
     loop-holds
+    cast-t6
     class-target-sound-requires
     returns
     add-class

@@ -19,18 +19,18 @@ use Rattle.machine.proofs.states.build_states.Tie as tie
 use Rattle.automaton.specs.Layout.{statesFrom}
 
 abbrev Inv-loop : tie.InvT-loop
-Inv-loop slots ranges blocks rules classes words₀ sets₀ count₀ state₀ words sets count state =
-    (state ≤ length (states (tableAt slots ranges blocks rules false))) × (length sets ≡ length sets₀) × Kept words₀ words
-    × NotedAt (tableAt slots ranges blocks rules false) rules state state 0 words sets count
+Inv-loop loaded rules classes words₀ sets₀ count₀ state₀ words sets count state =
+    (state ≤ length (states (tableAt loaded rules false))) × (length sets ≡ length sets₀) × Kept words₀ words
+    × NotedAt (tableAt loaded rules false) rules state state 0 words sets count
 
 abbrev μ-loop : tie.MeasureT-loop
-μ-loop slots ranges blocks rules classes words₀ sets₀ count₀ state₀ words sets count state = 256 - state
+μ-loop loaded rules classes words₀ sets₀ count₀ state₀ words sets count state = 256 - state
 
 abbrev entry : tie.At-loop Inv-loop μ-loop → tie.Start Inv-loop μ-loop
-entry l = l .before .before .before .before .before .before .before
+entry l = l .before .before .before .before .before
 
 abbrev table : tie.Start Inv-loop μ-loop → Table
-table s = let a = s .args in tableAt (a .slots .now) (a .ranges .now) (a .blocks .now) (a .rules) false
+table s = let a = s .args in tableAt (a .loaded .now) (a .rules) false
 
 -- the words since the function began
 kept : (l : tie.At-loop Inv-loop μ-loop) (w : List ℕ) → Kept (l .loop .words) w → Kept (entry l .args .words .now) w
@@ -47,7 +47,7 @@ slice-write-sets c = omega arith
 
 loop-holds : tie.Need-loop-holds Inv-loop μ-loop
 loop-holds c =
-    let s = c .before .before .before .before .before .before in
+    let s = c .before .before .before .before in
     let a = s .args in
     let g = s .pre .1 .0 in
     let h = s .pre .1 .1 in (
@@ -55,7 +55,7 @@ loop-holds c =
       refl,
       kept-same (set (a .words .now) statesFrom 0),
       noted-start (table s) (a .rules) (a .words .now) (a .sets .now) (c .all-rules .result) (h .0) (h .1) (omega arith) (g .3) (h .2)
-          (rules-counted (a .slots .now) (a .ranges .now) (a .blocks .now) (a .rules) false) (c .all-rules .ensures .0) (c .all-rules .ensures .1),
+          (rules-counted (a .loaded .now) (a .rules) false) (c .all-rules .ensures .0) (c .all-rules .ensures .1),
     )
 
 note-state-requires : tie.Need-note-state-requires Inv-loop μ-loop
@@ -71,12 +71,12 @@ note-state-requires c κs =
 same-length : tie.Need-same-length Inv-loop μ-loop
 same-length c =
     let k = c .before .before .before .before .before in
-    kept (k .before .before .before .before) (k .note-state .last .1 .1 .1 .1 .1 .0) (k .note-state .ensures .kept) .size
+    kept (k .before .before .before .before) (k .note-state .last .1 .1 .1 .0) (k .note-state .ensures .kept) .size
 
 same-length-2 : tie.Need-same-length-2 Inv-loop μ-loop
 same-length-2 c =
     let k = c .before .before .before .before .before in
-    k .note-state .kept .1 .1 .1 .1 .1 .1 .0 ∙ k .before .before .before .before .loop .inv .1 ∙ simp length-set
+    k .note-state .kept .1 .1 .1 .1 .0 ∙ k .before .before .before .before .loop .inv .1 ∙ simp length-set
 
 returns : tie.Need-returns Inv-loop μ-loop
 returns c =
@@ -84,7 +84,7 @@ returns c =
     let o = k .note-state .ensures in
     let q = o .over (c .if1 .taken) in (
       q .0 ∙ sym (ap (λ b. cond b 257 (length (states (table (entry (k .before .before .before .before)))))) (lt-ltb _ _ (q .1))),
-      (λ h. absurd (omega arith), kept (k .before .before .before .before) (k .note-state .last .1 .1 .1 .1 .1 .0) (o .kept)),
+      (λ h. absurd (omega arith), kept (k .before .before .before .before) (k .note-state .last .1 .1 .1 .0) (o .kept)),
     )
 
 add-state : tie.Need-add-state Inv-loop μ-loop
@@ -102,9 +102,9 @@ loop-again c =
     let b : l .loop .count ≤ length (states (table s)) =
     noted-below (table s) (s .args .rules) (l .loop .state) (l .loop .state) 0 (l .loop .words) (l .loop .sets) (l .loop .count) (l .loop .inv .0) (l .loop .inv .3) in (
       omega arith,
-      k .note-state .kept .1 .1 .1 .1 .1 .1 .0 ∙ l .loop .inv .1,
+      k .note-state .kept .1 .1 .1 .1 .0 ∙ l .loop .inv .1,
       kept-on (l .loop .inv .2) (o .kept),
-      subst (λ i. NotedAt (table s) (s .args .rules) i i 0 (k .note-state .last .1 .1 .1 .1 .1 .0) (k .note-state .last .1 .1 .1 .1 .1 .1 .0) (k .note-state .result))
+      subst (λ i. NotedAt (table s) (s .args .rules) i i 0 (k .note-state .last .1 .1 .1 .0) (k .note-state .last .1 .1 .1 .1 .0) (k .note-state .result))
           (sym (add-one (l .loop .state))) (o .noted (c .if1 .left)),
     )
 

@@ -17,10 +17,10 @@ use Rattle.machine.proofs.states.note_class.Tie as tie
 use Rattle.automaton.specs.Layout.{statesFrom, targetsFrom}
 
 abbrev entry : tie.After-longer-rules → tie.Start
-entry l = l .before .before .before .before .before .before .before .before .before
+entry l = l .before .before .before .before .before .before .before
 
 abbrev table : tie.Start → Table
-table s = let a = s .args in tableAt (a .slots .now) (a .ranges .now) (a .blocks .now) (a .rules) false
+table s = let a = s .args in tableAt (a .loaded .now) (a .rules) false
 
 low : (s : tie.Start) → depthWord (s .args .words .now) (s .args .state) ≤ s .args .state
 low s = s .pre .1 .1 .shallow (s .args .state) (s .pre .1 .0 .1)
@@ -58,7 +58,7 @@ slice-read-depth : tie.Need-slice-read-depth
 slice-read-depth c = omega arith
 
 cast-depth : tie.Need-cast-depth
-cast-depth c = omega (arith, low (c .before .before .before .before .before .before))
+cast-depth c = omega (arith, low (c .before .before .before .before))
 
 mul-longer-rules : tie.Need-mul-longer-rules
 mul-longer-rules c = omega arith
@@ -76,7 +76,7 @@ slice-read-longer-rules-2 : tie.Need-slice-read-longer-rules-2
 slice-read-longer-rules-2 c = omega arith
 
 longer-rules-requires : tie.Need-longer-rules-requires
-longer-rules-requires c κs = let s = c .before .before .before .before .before .before .before .before in (s .pre .0, (s .pre .1 .0 .0, s .pre .1 .1 .fit (s .args .state) (s .pre .1 .0 .1)))
+longer-rules-requires c κs = let s = c .before .before .before .before .before .before in (s .pre .0, (s .pre .1 .0 .0, s .pre .1 .1 .fit (s .args .state) (s .pre .1 .0 .1)))
 
 returns : tie.Need-returns
 returns c =
@@ -87,11 +87,11 @@ add-find-state : tie.Need-add-find-state
 add-find-state c = omega arith
 
 add-find-state-2 : tie.Need-add-find-state-2
-add-find-state-2 c = omega (arith, low (c .before .before .before .before .before .before .before .before .before .before .before .before))
+add-find-state-2 c = omega (arith, low (c .before .before .before .before .before .before .before .before .before .before))
 
 find-state-requires : tie.Need-find-state-requires
 find-state-requires c κs =
-    let s = c .before .before .before .before .before .before .before .before .before .before .before .before in
+    let s = c .before .before .before .before .before .before .before .before .before .before in
     let a = s .args in
     let g = s .pre .1 .0 in
     let N = s .pre .1 .1 in
@@ -149,10 +149,10 @@ returns-3 c =
     too-large (kept-same (a .words .now)) (omega arith) (refl, ways l .over p (f .find-state .result) (number f) (omega arith) (omega arith))
 
 add-words : tie.Need-add-words
-add-words c = omega (arith, low (c .before .before .before .before .before .before .before .before .before .before .before .before .before .before .before))
+add-words c = omega (arith, low (c .before .before .before .before .before .before .before .before .before .before .before .before .before))
 
 cast-words-2 : tie.Need-cast-words-2
-cast-words-2 c = omega (arith, low (c .before .before .before .before .before .before .before .before .before .before .before .before .before .before .before))
+cast-words-2 c = omega (arith, low (c .before .before .before .before .before .before .before .before .before .before .before .before .before))
 
 mul-words-2 : tie.Need-mul-words-2
 mul-words-2 c = omega arith

@@ -16,21 +16,21 @@ use Rattle.machine.proofs.states.note_classes.Statement.{statement}
 use Rattle.machine.proofs.states.note_classes.Tie as tie
 
 abbrev Inv-loop : tie.InvT-loop
-Inv-loop slots ranges blocks rules classes words₀ sets₀ count state total₀ class₀ words sets total class =
-    (class ≤ classes) × (length sets ≡ length sets₀) × Kept words₀ words × NotedAt (tableAt slots ranges blocks rules false) rules (suc state) state class words sets total
+Inv-loop loaded rules classes words₀ sets₀ count state total₀ class₀ words sets total class =
+    (class ≤ classes) × (length sets ≡ length sets₀) × Kept words₀ words × NotedAt (tableAt loaded rules false) rules (suc state) state class words sets total
 
 abbrev μ-loop : tie.MeasureT-loop
-μ-loop slots ranges blocks rules classes words₀ sets₀ count state total₀ class₀ words sets total class =
+μ-loop loaded rules classes words₀ sets₀ count state total₀ class₀ words sets total class =
     classes - class
 
 abbrev entry : tie.At-loop Inv-loop μ-loop → tie.Start Inv-loop μ-loop
-entry l = l .before .before .before .before .before .before
+entry l = l .before .before .before .before
 
 abbrev table : tie.Start Inv-loop μ-loop → Table
-table s = let a = s .args in tableAt (a .slots .now) (a .ranges .now) (a .blocks .now) (a .rules) false
+table s = let a = s .args in tableAt (a .loaded .now) (a .rules) false
 
 loop-holds : tie.Need-loop-holds Inv-loop μ-loop
-loop-holds c = let s = c .before .before .before .before .before in (omega arith, refl, kept-same (s .args .words .now), s .pre .1 .1)
+loop-holds c = let s = c .before .before .before in (omega arith, refl, kept-same (s .args .words .now), s .pre .1 .1)
 
 note-class-requires : tie.Need-note-class-requires Inv-loop μ-loop
 note-class-requires c κs =
@@ -46,7 +46,7 @@ same-length : tie.Need-same-length Inv-loop μ-loop
 same-length c = let k = c .before .before .before .before .before in k .note-class .ensures .kept .size ∙ k .before .before .before .before .loop .inv .2 .size
 
 same-length-2 : tie.Need-same-length-2 Inv-loop μ-loop
-same-length-2 c = let k = c .before .before .before .before .before in k .note-class .kept .1 .1 .1 .1 .1 .0 ∙ k .before .before .before .before .loop .inv .1
+same-length-2 c = let k = c .before .before .before .before .before in k .note-class .kept .1 .1 .1 .0 ∙ k .before .before .before .before .loop .inv .1
 
 returns : tie.Need-returns Inv-loop μ-loop
 returns c =
@@ -67,9 +67,9 @@ loop-again c =
     let s = entry l in
     let o = k .note-class .ensures in (
       omega arith,
-      k .note-class .kept .1 .1 .1 .1 .1 .0 ∙ l .loop .inv .1,
+      k .note-class .kept .1 .1 .1 .0 ∙ l .loop .inv .1,
       kept-on (l .loop .inv .2) (o .kept),
-      subst (λ i. NotedAt (table s) (s .args .rules) (suc (s .args .state)) (s .args .state) i (k .note-class .last .1 .1 .1 .1 .0) (k .note-class .last .1 .1 .1 .1 .1 .0) (k .note-class .result))
+      subst (λ i. NotedAt (table s) (s .args .rules) (suc (s .args .state)) (s .args .state) i (k .note-class .last .1 .1 .0) (k .note-class .last .1 .1 .1 .0) (k .note-class .result))
           (sym (add-one (l .loop .class))) (o .noted (c .if1 .left)),
     )
 

@@ -20,13 +20,13 @@ use Rattle.machine.proofs.states.note_state.Tie as tie
 use Rattle.automaton.specs.Layout.{statesFrom}
 
 abbrev table : tie.Start → Table
-table s = let a = s .args in tableAt (a .slots .now) (a .ranges .now) (a .blocks .now) (a .rules) false
+table s = let a = s .args in tableAt (a .loaded .now) (a .rules) false
 
 low : (s : tie.Start) → depthWord (s .args .words .now) (s .args .state) ≤ s .args .state
 low s = s .pre .1 .1 .shallow (s .args .state) (s .pre .1 .0 .3)
 
 abbrev entry : tie.After-accept-of → tie.Start
-entry k = k .before .before .before .before .before .before .before .before .before
+entry k = k .before .before .before .before .before .before .before
 
 -- the words when both accepts are noted
 abbrev words : tie.After-accept-of → List ℕ
@@ -42,7 +42,7 @@ noted k =
     let s = entry k in
     let a = s .args in
     accepts-noted (table s) (a .rules) (a .state) (s .pre .1 .0 .2) (a .words .now) (a .sets .now) (a .count) (k .before .accept-at-end-of .result) (k .accept-of .result)
-    (k .before .accept-at-end-of .ensures (a .slots .now) (a .ranges .now) false) (k .accept-of .ensures (a .slots .now) (a .ranges .now) false) (s .pre .1 .1)
+    (k .before .accept-at-end-of .ensures) (k .accept-of .ensures) (s .pre .1 .1)
 
 kept : (k : tie.After-accept-of) → Kept (entry k .args .words .now) (words k)
 kept k =
@@ -65,7 +65,7 @@ slice-read-depth : tie.Need-slice-read-depth
 slice-read-depth c = omega arith
 
 cast-depth : tie.Need-cast-depth
-cast-depth c = omega (arith, low (c .before .before .before .before .before .before))
+cast-depth c = omega (arith, low (c .before .before .before .before))
 
 mul-set : tie.Need-mul-set
 mul-set c = omega arith
@@ -74,10 +74,10 @@ slice-read-set : tie.Need-slice-read-set
 slice-read-set c = omega arith
 
 accept-at-end-of-requires : tie.Need-accept-at-end-of-requires
-accept-at-end-of-requires c κs = let s = c .before .before .before .before .before .before .before in (s .pre .0 .blocks-length, s .pre .1 .0 .0, s .pre .1 .1 .fit (s .args .state) (s .pre .1 .0 .3))
+accept-at-end-of-requires c κs = let s = c .before .before .before .before .before in (omega (arith, s .pre .0 .long), s .pre .1 .0 .0, s .pre .1 .1 .fit (s .args .state) (s .pre .1 .0 .3))
 
 accept-of-requires : tie.Need-accept-of-requires
-accept-of-requires c κs = let s = c .before .before .before .before .before .before .before .before in (s .pre .0 .blocks-length, s .pre .1 .0 .0, s .pre .1 .1 .fit (s .args .state) (s .pre .1 .0 .3))
+accept-of-requires c κs = let s = c .before .before .before .before .before .before in (omega (arith, s .pre .0 .long), s .pre .1 .0 .0, s .pre .1 .1 .fit (s .args .state) (s .pre .1 .0 .3))
 
 mul-words : tie.Need-mul-words
 mul-words c = omega arith
@@ -128,7 +128,7 @@ same-length-2 : tie.Need-same-length-2
 same-length-2 c = let k = c .before .before .before .before in k .note-classes .ensures .kept .size ∙ kept (k .before .before .before .before) .size
 
 same-length-3 : tie.Need-same-length-3
-same-length-3 c = c .before .before .before .before .note-classes .kept .1 .1 .1 .1 .1 .1 .0
+same-length-3 c = c .before .before .before .before .note-classes .kept .1 .1 .1 .1 .0
 
 returns-2 : tie.Need-returns-2
 returns-2 c =

@@ -1,6 +1,6 @@
 -- `rules::convert::convert_flat` meets its contract. The invariant: the whole conversion is a log so far and the conversion of what is left.
 -- A turn adds the group chosen to that log; the measure is the characters left. Assumes nothing.
-use mathlib.Core.Path.{_≡_, refl, sym, ap, _∙_}
+use mathlib.Core.Path.{_≡_, refl, ap, _∙_}
 use Prim.Native.Nat.{_-_}
 use native.Mathlib.Omega.{arith}
 use borrow.Author.Needs.{needs}
@@ -13,24 +13,24 @@ use Rattle.rules.proofs.convert.convert_flat.Statement.{statement}
 use Rattle.rules.proofs.convert.convert_flat.Tie as tie
 
 abbrev Inv-loop : tie.InvT-loop
-Inv-loop slots ranges blocks rules defaulted input output₀ place₀ count₀ output place count =
-    Reached (tableAt slots ranges blocks rules defaulted) blocks input output₀ output place count × (length output ≡ length output₀)
+Inv-loop loaded rules defaulted input output₀ place₀ count₀ output place count =
+    Reached (tableAt loaded rules defaulted) loaded input output₀ output place count × (length output ≡ length output₀)
 
 abbrev μ-loop : tie.MeasureT-loop
-μ-loop slots ranges blocks rules defaulted input output₀ place₀ count₀ output place count = length input - place
+μ-loop loaded rules defaulted input output₀ place₀ count₀ output place count = length input - place
 
--- the arrays as a table
+-- the array as a table
 abbrev table : tie.Start Inv-loop μ-loop → Table
-table s = let a = s .args in tableAt (a .slots .now) (a .ranges .now) (a .blocks .now) (a .rules) (a .defaulted)
+table s = let a = s .args in tableAt (a .loaded .now) (a .rules) (a .defaulted)
 
 loop-holds : tie.Need-loop-holds Inv-loop μ-loop
 loop-holds c =
-    let s = c .before .before .before .before .before in
-    (reached-start (table s) (s .args .blocks .now) (s .args .input .now) (s .args .output .now), refl)
+    let s = c .before .before .before in
+    (reached-start (table s) (s .args .loaded .now) (s .args .input .now) (s .args .output .now), refl)
 
 choose-at-requires : tie.Need-choose-at-requires Inv-loop μ-loop
 choose-at-requires c κs =
-    let s = c .before .before .before .before .before .before .before in
+    let s = c .before .before .before .before .before in
     (s .pre .0, (s .pre .1 .0, search needs))
 
 enum-known-group : tie.Need-enum-known-group Inv-loop μ-loop
@@ -46,21 +46,21 @@ returns : tie.Need-returns Inv-loop μ-loop
 returns c =
     let called = c .before .before in
     reached-stop (called .before .before .loop .inv .0) (called .before .loop-test .taken)
-    (sym (called .choose-at .ensures) ∙ ap choiceOf (c .enum-told .given .1))
+    (called .choose-at .ensures) (ap choiceOf (c .enum-told .given .1))
 
 -- a turn in which a group was chosen
 abbrev start : tie.After-group Inv-loop μ-loop → tie.Start Inv-loop μ-loop
-start c = c .before .before .before .before .before .before .before .before .before .before
+start c = c .before .before .before .before .before .before .before .before
 
 taken :
     (c : tie.After-group Inv-loop μ-loop) →
-    Taken (table (start c)) (start c .args .blocks .now) (start c .args .input .now) (c .before .before .before .before .loop .place) (c .group .given .0 .0)
+    Taken (table (start c)) (start c .args .loaded .now) (start c .args .input .now) (c .before .before .before .before .loop .place) (c .group .given .0 .0)
 taken c =
     let s = start c in
     let called = c .before .before in
-    choice-taken (s .args .slots .now) (s .args .ranges .now) (s .args .blocks .now) (s .args .rules) (s .args .defaulted) (s .args .input .now)
+    choice-taken (s .args .loaded .now) (s .args .rules) (s .args .defaulted) (s .args .input .now)
     (called .before .before .loop .place) (c .group .given .0 .0) (s .pre .1 .0) (s .pre .1 .1 .0) (s .pre .1 .1 .1 .0) (called .before .loop-test .taken)
-    (sym (called .choose-at .ensures) ∙ ap choiceOf (c .group .given .1))
+    (called .choose-at .ensures) (ap choiceOf (c .group .given .1))
 
 write-group-requires : tie.Need-write-group-requires Inv-loop μ-loop
 write-group-requires c κs =
@@ -68,7 +68,7 @@ write-group-requires c κs =
     let g = b .group .given .0 .0 in
     let k = taken b in
     let flat = start b .pre .0 in (
-      (k .below, flat .blocks-length),
+      (k .below, omega (arith, flat .long)),
       (
         (flat .size g (k .below), flat .outputs g (k .below)),
         (k .room, reached-room (b .before .before .before .before .loop .inv .0) k (start b .pre .1 .1 .1 .1)),
@@ -84,7 +84,7 @@ mul-place-2 c = omega (arith, taken (c .before .before .before .before .before) 
 shared-slice-read-place : tie.Need-shared-slice-read-place Inv-loop μ-loop
 shared-slice-read-place c =
     let b = c .before .before .before .before .before .before in
-    omega (arith, taken b .below, start b .pre .0 .blocks-length)
+    omega (arith, taken b .below, start b .pre .0 .long)
 
 cast-place : tie.Need-cast-place Inv-loop μ-loop
 cast-place c =

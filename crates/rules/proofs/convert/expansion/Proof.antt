@@ -12,11 +12,11 @@ use Rattle.rules.proofs.convert.expansion.Statement.{statement}
 use Rattle.rules.proofs.convert.expansion.Tie as tie
 
 abbrev Inv-loop : tie.InvT-loop
-Inv-loop blocks rules defaulted most₀ group₀ most group =
-    (group ≤ rules) × (most ≡ expansionFrom blocks group (cond defaulted (at blocks (32 * blockSize + 2)) 0)) × (most < 65536)
+Inv-loop loaded rules defaulted most₀ group₀ most group =
+    (group ≤ rules) × (most ≡ expansionFrom loaded group (cond defaulted (at loaded (32 * blockSize + 2)) 0)) × (most < 65536)
 
 abbrev μ-loop : tie.MeasureT-loop
-μ-loop blocks rules defaulted most₀ group₀ most group = rules - group
+μ-loop loaded rules defaulted most₀ group₀ most group = rules - group
 
 shared-slice-read-most : tie.Need-shared-slice-read-most Inv-loop μ-loop
 shared-slice-read-most c = omega arith
@@ -28,7 +28,7 @@ loop-holds : tie.Need-loop-holds Inv-loop μ-loop
 unfolding expansionFrom
 loop-holds c =
     ⊎-elim
-    (λ w. let e : c .if1 .most ≡ at (c .before .args .blocks .now) (32 * blockSize + 2) = w .2 in let h = w .1 .given (32 * blockSize + 2) in (omega arith, rw (w .0 .taken) e, omega arith))
+    (λ w. let e : c .if1 .most ≡ at (c .before .args .loaded .now) (32 * blockSize + 2) = w .2 in let h = w .1 .given (32 * blockSize + 2) in (omega arith, rw (w .0 .taken) e, omega arith))
     (λ w. let e : c .if1 .most ≡ 0 = w .1 in (omega arith, rw (w .0 .left) e, omega arith))
     (c .if1 .came)
 
@@ -56,7 +56,7 @@ loop-less c = omega arith
 loop-again : tie.Need-loop-again Inv-loop μ-loop
 unfolding expansionFrom
 loop-again c =
-    let count = at (c .before .before .before .before .before .args .blocks .now) (blockSize * c .before .before .before .loop .group + 2) in
+    let count = at (c .before .before .before .before .before .args .loaded .now) (blockSize * c .before .before .before .loop .group + 2) in
     let inv = c .before .before .before .loop .inv in
     let test = c .before .before .loop-test .taken in
     let known = c .before .shared-slice-known2 .given (blockSize * c .before .before .before .loop .group + 2) in
@@ -70,7 +70,7 @@ returns : tie.Need-returns Inv-loop μ-loop
 returns c =
     let l = c .before .loop .inv in
     let e : c .before .loop .group ≡ c .before .before .before .args .rules = omega arith in
-    l .1 ∙ ap (λ n. expansionFrom (c .before .before .before .args .blocks .now) n (cond (c .before .before .before .args .defaulted) (at (c .before .before .before .args .blocks .now) (32 * blockSize + 2)) 0)) e
+    l .1 ∙ ap (λ n. expansionFrom (c .before .before .before .args .loaded .now) n (cond (c .before .before .before .args .defaulted) (at (c .before .before .before .args .loaded .now) (32 * blockSize + 2)) 0)) e
 
 pub expansion-spec : {M : Type 1} → statement M
 expansion-spec =

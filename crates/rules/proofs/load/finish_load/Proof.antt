@@ -1,5 +1,5 @@
 -- `rules::load::finish_load` meets its contract: at each `return` the tests that led there say what `endOf` answers.
--- The arrays are as `all_safe` needs them where the table has no gap and a rule.
+-- The array is as `all_safe` needs it where the table has no gap and a rule.
 use mathlib.Core.Bool.{false}
 use mathlib.Core.Path.{_≡_, refl, sym, _∙_}
 use native.Mathlib.Omega.{arith}
@@ -13,7 +13,7 @@ use Rattle.rules.proofs.load.finish_load.Tie as tie
 has-gap-requires : tie.Need-has-gap-requires
 has-gap-requires c κs = search needs
 
-no-gap : (c : tie.Else2) → gap (c .before .before .before .before .before .before .before .args .reader) ≡ false
+no-gap : (c : tie.Else2) → gap (c .before .before .before .before .args .reader) ≡ false
 no-gap c = sym (c .before .before .has-gap .ensures) ∙ c .before .if1 .left
 
 returns : tie.Need-returns
@@ -26,8 +26,8 @@ returns-2 c = simp (sym (c .before .before .has-gap .ensures) ∙ c .before .if1
 
 all-safe-requires : tie.Need-all-safe-requires
 all-safe-requires c κs =
-    let s = c .before .before .before .before .before .before .before in
-    (s .pre .1 (no-gap c) (omega (arith, c .if2 .left)), s .pre .0 .0, s .pre .0 .1)
+    let s = c .before .before .before .before in
+    (s .pre .1 (no-gap c) (omega (arith, c .if2 .left)), s .pre .0)
 
 returns-3 : tie.Need-returns-3
 unfolding select

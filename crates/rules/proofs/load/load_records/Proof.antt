@@ -6,35 +6,31 @@ use native.Mathlib.Omega.{arith}
 use borrow.Author.Needs.{needs}
 use lib.ListN.{length}
 use Rattle.rules.specs.bridge.Readings.{recordOf, stepOf}
-use Rattle.rules.proofs.Laws.Represents.{arrays-same}
 use Rattle.rules.proofs.Laws.Loading.{Passed, passed-start, passed-room, passed-end, passed-stop, passed-on, each-known}
 use Rattle.rules.proofs.load.load_records.Statement.{statement}
 use Rattle.rules.proofs.load.load_records.Tie as tie
 
 abbrev Inv-loop : tie.InvT-loop
-Inv-loop table slots₀ ranges₀ blocks₀ constants₀ reader₀ at₀ slots ranges blocks constants reader at =
-    Passed table (record { slots = slots₀; ranges = ranges₀; blocks = blocks₀; constants = constants₀ })
-    (record { slots = slots; ranges = ranges; blocks = blocks; constants = constants }) reader at
+Inv-loop table loaded₀ reader₀ at₀ loaded reader at = Passed table loaded₀ loaded reader at
 
 abbrev μ-loop : tie.MeasureT-loop
-μ-loop table slots₀ ranges₀ blocks₀ constants₀ reader₀ at₀ slots ranges blocks constants reader at = length table - at
+μ-loop table loaded₀ reader₀ at₀ loaded reader at = length table - at
 
 start-requires : tie.Need-start-requires Inv-loop μ-loop
 start-requires c κs = search needs
 
 loop-holds : tie.Need-loop-holds Inv-loop μ-loop
 loop-holds c =
-    let s = c .before .before .before .before .before .before in
-    let sizes = s .pre .1 in
-    rw (c .start .ensures) (passed-start (s .args .table .now) _ (s .pre .0) (record { slots = sizes .0; ranges = sizes .1; blocks = sizes .2; constants = sizes .3 }))
+    let s = c .before .before .before in
+    rw (c .start .ensures) (passed-start (s .args .table .now) _ (s .pre .0) (s .pre .1))
 
 record-at-requires : tie.Need-record-at-requires Inv-loop μ-loop
 record-at-requires c κs = passed-room (c .before .loop .inv) (c .loop-test .taken)
 
 take-record-requires : tie.Need-take-record-requires Inv-loop μ-loop
 take-record-requires c κs =
-    let inv = c .before .before .before .before .before .before .loop .inv in
-    (inv .fitting, (inv .sized .slots, (inv .sized .ranges, (inv .sized .blocks, inv .sized .constants))))
+    let inv = c .before .before .before .loop .inv in
+    (inv .fitting, inv .sized)
 
 enum-known-step : tie.Need-enum-known-step Inv-loop μ-loop
 enum-known-step c = search needs
@@ -42,56 +38,41 @@ enum-known-step c = search needs
 same-length : tie.Need-same-length Inv-loop μ-loop
 same-length c = search needs
 
-same-length-2 : tie.Need-same-length-2 Inv-loop μ-loop
-same-length-2 c = search needs
-
-same-length-3 : tie.Need-same-length-3 Inv-loop μ-loop
-same-length-3 c = search needs
-
-same-length-4 : tie.Need-same-length-4 Inv-loop μ-loop
-same-length-4 c = search needs
-
 returns : tie.Need-returns Inv-loop μ-loop
 returns c =
-    let turn = c .before .before .before .before .before .before .before .before .before .before .before in
-    let in-loop = turn .before .before .before .before .before .before in
+    let turn = c .before .before .before .before .before in
+    let read = turn .before .before in
+    let in-loop = read .before in
     let done = turn .take-record .ensures in
-    passed-stop (in-loop .before .loop .inv) (in-loop .loop-test .taken) (recordOf (turn .before .before .before .before .before .record-at .result)) (turn .before .before .before .before .before .record-at .ensures)
-    (arrays-same (done .1 .0) (done .1 .1 .0) (done .1 .1 .1 .0) (done .1 .1 .1 .1)) (c .before .step .given .0 .0) (sym (ap stepOf (c .before .step .given .1)) ∙ done .0)
+    passed-stop (in-loop .before .loop .inv) (in-loop .loop-test .taken) (recordOf (read .record-at .result)) (read .record-at .ensures)
+    (done .1) (c .before .step .given .0 .0) (sym (ap stepOf (c .before .step .given .1)) ∙ done .0)
 
 enum-known-step-2 : tie.Need-enum-known-step-2 Inv-loop μ-loop
 enum-known-step-2 c = search needs
 
 add-at : tie.Need-add-at Inv-loop μ-loop
 add-at c =
-    let at-loop = c .before .before .before .before .before .before .before .before .before .before .before .before .before .before .before .before .before .before in
-    omega (arith, passed-room (at-loop .loop .inv) (c .before .before .before .before .before .before .before .before .before .before .before .before .before .before .before .before .before .loop-test .taken), at-loop .before .before .before .before .before .before .before .good .0)
+    let in-loop = c .before .before .before .before .before .before .before .before in
+    let at-loop = in-loop .before in
+    omega (arith, passed-room (at-loop .loop .inv) (in-loop .loop-test .taken), at-loop .before .before .before .before .good .0)
 
 loop-less : tie.Need-loop-less Inv-loop μ-loop
 loop-less c = omega arith
 
 loop-again : tie.Need-loop-again Inv-loop μ-loop
 loop-again c =
-    let turn = c .before .before .before .before .before .before .before .before .before .before .before in
-    let in-loop = turn .before .before .before .before .before .before in
-    let entered = in-loop .before .before .before .before .before .before .before in
+    let turn = c .before .before .before .before .before in
+    let read = turn .before .before in
+    let in-loop = read .before in
+    let entered = in-loop .before .before .before .before in
     let done = turn .take-record .ensures in
-    passed-on (in-loop .before .loop .inv) (in-loop .loop-test .taken) (recordOf (turn .before .before .before .before .before .record-at .result)) (turn .before .before .before .before .before .record-at .ensures)
-    (arrays-same (done .1 .0) (done .1 .1 .0) (done .1 .1 .1 .0) (done .1 .1 .1 .1)) (c .before .step2 .given .0 .0)
+    passed-on (in-loop .before .loop .inv) (in-loop .loop-test .taken) (recordOf (read .record-at .result)) (read .record-at .ensures)
+    (done .1) (c .before .step2 .given .0 .0)
     (each-known 256 (entered .before .args .table .now) (λ i. omega (arith, entered .shared-slice-known .given i)))
     (sym (ap stepOf (c .before .step2 .given .1)) ∙ done .0)
 
-same-length-5 : tie.Need-same-length-5 Inv-loop μ-loop
-same-length-5 c = search needs
-
-same-length-6 : tie.Need-same-length-6 Inv-loop μ-loop
-same-length-6 c = search needs
-
-same-length-7 : tie.Need-same-length-7 Inv-loop μ-loop
-same-length-7 c = search needs
-
-same-length-8 : tie.Need-same-length-8 Inv-loop μ-loop
-same-length-8 c = search needs
+same-length-2 : tie.Need-same-length-2 Inv-loop μ-loop
+same-length-2 c = search needs
 
 returns-2 : tie.Need-returns-2 Inv-loop μ-loop
 returns-2 c = passed-end (c .before .loop .inv) (c .loop-test .left)
@@ -108,16 +89,10 @@ load-records-spec =
     take-record-requires
     enum-known-step
     same-length
-    same-length-2
-    same-length-3
-    same-length-4
     returns
     enum-known-step-2
     add-at
     loop-less
     loop-again
-    same-length-5
-    same-length-6
-    same-length-7
-    same-length-8
+    same-length-2
     returns-2)

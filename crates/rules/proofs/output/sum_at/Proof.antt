@@ -4,17 +4,18 @@ use mathlib.Core.Path.{_≡_, refl, sym, ap, _∙_}
 use Prim.Native.Nat.{_+_, _-_, _*_, _%_, _≤_}
 use native.Mathlib.Nat.{add-mod-mod}
 use borrow.Author.Needs.{needs}
+use lib.ListN.{length}
 use Rattle.meaning.specs.Block.{at}
 use Rattle.meaning.proofs.Laws.Writing.{sumLeft, sum-starts, sum-goes-on, sum-ends}
 use Rattle.rules.proofs.output.sum_at.Statement.{statement}
 use Rattle.rules.proofs.output.sum_at.Tie as tie
 
 abbrev Inv-loop : tie.InvT-loop
-Inv-loop blocks entry size input place sum₀ i₀ sum i =
-    (i ≤ size) × (sumLeft blocks entry size input place 0 (at blocks entry) ≡ sumLeft blocks entry size input place i sum)
+Inv-loop blocks from word sum₀ i₀ sum i =
+    (i ≤ length word) × (sumLeft blocks from word 0 (at blocks from) ≡ sumLeft blocks from word i sum)
 
 abbrev μ-loop : tie.MeasureT-loop
-μ-loop blocks entry size input place sum₀ i₀ sum i = size - i
+μ-loop blocks from word sum₀ i₀ sum i = length word - i
 
 mul-sum : tie.Need-mul-sum Inv-loop μ-loop
 mul-sum c = search needs
@@ -36,9 +37,6 @@ mul-wrapping-product c = search needs
 
 shared-slice-read-wrapping-product : tie.Need-shared-slice-read-wrapping-product Inv-loop μ-loop
 shared-slice-read-wrapping-product c = search needs
-
-add-wrapping-product-3 : tie.Need-add-wrapping-product-3 Inv-loop μ-loop
-add-wrapping-product-3 c = search needs
 
 mul-wrapping-product-2 : tie.Need-mul-wrapping-product-2 Inv-loop μ-loop
 mul-wrapping-product-2 c = search needs
@@ -65,32 +63,28 @@ loop-again c =
     let start = head .before .before .before .before in
     let a = start .args in
     let b = a .blocks .now in
-    let w = a .input .now in
+    let w = a .word .now in
     let i = head .loop .i in
     let sum = head .loop .sum in
-    let x = at b (a .entry + 1 + i) in
-    let y = at w (a .place + i) in
-    let e : c .wrapping-add-u16 .result ≡ (sum + x * y) % 65536 =
-    c .wrapping-add-u16 .ensures ∙ ap (λ z. (sum + z) % 65536) (c .before .wrapping-product .ensures) ∙ add-mod-mod sum (x * y) 65536 in (
+    let x = at b (a .from + 1 + i) in
+    let e : c .wrapping-add-u16 .result ≡ (sum + x * at w i) % 65536 =
+    c .wrapping-add-u16 .ensures ∙ ap (λ z. (sum + z) % 65536) (c .before .wrapping-product .ensures) ∙ add-mod-mod sum (x * at w i) 65536 in (
       search needs,
-      head .loop .inv .1
-          ∙ sum-goes-on b (a .entry) (a .size) w (a .place) i sum (start .pre .0) (start .pre .1) (search needs)
-          ∙ ap (sumLeft b (a .entry) (a .size) w (a .place) (i + 1)) (sym e),
+      head .loop .inv .1 ∙ sum-goes-on b (a .from) w i sum (start .pre) (search needs) ∙ ap (sumLeft b (a .from) w (i + 1)) (sym e),
     )
 
 returns : tie.Need-returns Inv-loop μ-loop
 returns c =
-    let start = c .before .before .before .before .before in
-    let a = start .args in
+    let a = c .before .before .before .before .before .args in
     let b = a .blocks .now in
-    let w = a .input .now in
+    let w = a .word .now in
     let i = c .before .loop .i in
-    let e : i ≡ a .size = search needs in
+    let e : i ≡ length w = search needs in
     sym
-    (sum-starts b (a .entry) (a .size) w (a .place) (at b (a .entry))
+    (sum-starts b (a .from) w (at b (a .from))
     ∙ c .before .loop .inv .1
-    ∙ ap (λ n. sumLeft b (a .entry) (a .size) w (a .place) n (c .before .loop .sum)) e
-    ∙ sum-ends b (a .entry) (a .size) w (a .place) (c .before .loop .sum))
+    ∙ ap (λ n. sumLeft b (a .from) w n (c .before .loop .sum)) e
+    ∙ sum-ends b (a .from) w (c .before .loop .sum))
 
 pub sum-at-spec : {M : Type 1} → statement M
 sum-at-spec =
@@ -105,7 +99,6 @@ sum-at-spec =
     add-wrapping-product-2
     mul-wrapping-product
     shared-slice-read-wrapping-product
-    add-wrapping-product-3
     mul-wrapping-product-2
     shared-slice-read-wrapping-product-2
     wrapping-product-requires

@@ -18,15 +18,15 @@ use Rattle.rules.proofs.pattern.choose_at.Statement.{statement}
 use Rattle.rules.proofs.pattern.choose_at.Tie as tie
 
 abbrev Inv-loop : tie.InvT-loop
-Inv-loop slots ranges blocks rules defaulted input from best₀ least₀ r₀ b l r = (r ≤ rules) × KeptOf slots ranges blocks rules defaulted (drop from input) r b l
+Inv-loop loaded rules defaulted input from best₀ least₀ r₀ b l r = (r ≤ rules) × KeptOf loaded rules defaulted (drop from input) r b l
 
 abbrev μ-loop : tie.MeasureT-loop
-μ-loop slots ranges blocks rules defaulted input from best₀ least₀ r₀ b l r = rules - r
+μ-loop loaded rules defaulted input from best₀ least₀ r₀ b l r = rules - r
 
 loop-holds : tie.Need-loop-holds Inv-loop μ-loop
 loop-holds c =
-    let a = c .before .before .before .before .args in
-    (omega arith, kept-none (a .slots .now) (a .ranges .now) (a .blocks .now) (a .rules) (a .defaulted) (drop (a .at) (a .input .now)))
+    let a = c .before .before .args in
+    (omega arith, kept-none (a .loaded .now) (a .rules) (a .defaulted) (drop (a .at) (a .input .now)))
 
 mul-size : tie.Need-mul-size Inv-loop μ-loop
 mul-size c = omega arith
@@ -38,12 +38,12 @@ shared-slice-read-size : tie.Need-shared-slice-read-size Inv-loop μ-loop
 shared-slice-read-size c = omega arith
 
 cast-size : tie.Need-cast-size Inv-loop μ-loop
-cast-size c = omega (arith, c .shared-slice-known5 .given (blockSize * c .before .before .loop .r))
+cast-size c = omega (arith, c .shared-slice-known3 .given (blockSize * c .before .before .loop .r))
 
 fits-at-requires : tie.Need-fits-at-requires Inv-loop μ-loop
 fits-at-requires c κs =
     let l = c .before .before .before in
-    (l .before .before .before .before .before .pre .0, (omega arith, omega arith))
+    (l .before .before .before .pre .0, (omega arith, omega arith))
 
 add-r : tie.Need-add-r Inv-loop μ-loop
 add-r c = omega arith
@@ -54,15 +54,15 @@ loop-less c = omega arith
 loop-again : tie.Need-loop-again Inv-loop μ-loop
 loop-again c =
     let l = c .before .before .before in
-    let s = l .before .before .before .before .before in
+    let s = l .before .before .before in
     let a = s .args in
     let u = drop (a .at) (a .input .now) in
     let r = l .loop .r in
     let i : r < a .rules = omega arith in
-    let z : at (a .blocks .now) (blockSize * r) ≤ 8 = s .pre .0 .size r (omega arith) in
-    let shorter = kept-shorter (a .slots .now) (a .ranges .now) (a .blocks .now) (a .rules) (a .defaulted) u r (l .loop .best) (l .loop .least) i in
-    let skip = kept-skip (a .slots .now) (a .ranges .now) (a .blocks .now) (a .rules) (a .defaulted) u r (l .loop .best) (l .loop .least) i in
-    let longer = kept-longer (a .slots .now) (a .ranges .now) (a .blocks .now) (a .rules) (a .defaulted) u r (l .loop .best) (l .loop .least) i in (
+    let z : at (a .loaded .now) (blockSize * r) ≤ 8 = s .pre .0 .size r (omega arith) in
+    let shorter = kept-shorter (a .loaded .now) (a .rules) (a .defaulted) u r (l .loop .best) (l .loop .least) i in
+    let skip = kept-skip (a .loaded .now) (a .rules) (a .defaulted) u r (l .loop .best) (l .loop .least) i in
+    let longer = kept-longer (a .loaded .now) (a .rules) (a .defaulted) u r (l .loop .best) (l .loop .least) i in (
       omega arith,
       ⊎-elim
           (λ w. rw (w .3, w .4) (shorter (w .1 .result) (w .0 .taken) (w .1 .ensures) (w .2 .taken) (l .loop .inv .1)))
@@ -75,14 +75,14 @@ loop-again c =
 -- what the two numbers choose
 chosen : (c : tie.After-loop Inv-loop μ-loop) →
     let l = c .before in
-    let a = l .before .before .before .before .before .args in
-    choose (tableAt (a .slots .now) (a .ranges .now) (a .blocks .now) (a .rules) (a .defaulted)) (drop (a .at) (a .input .now))
+    let a = l .before .before .before .args in
+    choose (tableAt (a .loaded .now) (a .rules) (a .defaulted)) (drop (a .at) (a .input .now))
     ≡ cond (ltb (l .loop .best) (a .rules)) (some (l .loop .best)) (cond (a .defaulted) (some defaultNumber) none)
 chosen c =
     let l = c .before in
-    let a = l .before .before .before .before .before .args in
+    let a = l .before .before .before .args in
     let e : l .loop .r ≡ a .rules = omega arith in
-    kept-choose (a .slots .now) (a .ranges .now) (a .blocks .now) (a .rules) (a .defaulted) (drop (a .at) (a .input .now)) (l .loop .best) (l .loop .least) (rw e at (l .loop .inv .1))
+    kept-choose (a .loaded .now) (a .rules) (a .defaulted) (drop (a .at) (a .input .now)) (l .loop .best) (l .loop .least) (rw e at (l .loop .inv .1))
 
 returns : tie.Need-returns Inv-loop μ-loop
 returns c = sym (chosen (c .before) ∙ rw (lt-ltb _ _ (c .if3 .taken)))

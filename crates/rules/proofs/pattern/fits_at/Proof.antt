@@ -20,15 +20,15 @@ shared-slice-read-size : tie.Need-shared-slice-read-size
 shared-slice-read-size c = search needs
 
 cast-size : tie.Need-cast-size
-cast-size c = omega (arith, c .shared-slice-known5 .given (blockSize * c .before .before .before .before .before .args .group))
+cast-size c = omega (arith, c .shared-slice-known3 .given (blockSize * c .before .before .before .args .group))
 
 sub-left : tie.Need-sub-left
 sub-left c = search needs
 
 returns : tie.Need-returns
 returns c =
-    let a = c .before .before .before .before .before .before .args in
-    sym (flat-short (a .slots .now) (a .ranges .now) (a .blocks .now) (a .group) (a .input .now) (a .at) (omega arith))
+    let a = c .before .before .before .before .args in
+    sym (flat-short (a .loaded .now) (a .group) (a .input .now) (a .at) (omega arith))
 
 mul-if2 : tie.Need-mul-if2
 mul-if2 c = search needs
@@ -44,24 +44,24 @@ shared-slice-read-if2 c = search needs
 
 returns-2 : tie.Need-returns-2
 returns-2 c =
-    let a = c .before .before .before .before .before .before .before .before .before .args in
-    sym (flat-early (a .slots .now) (a .ranges .now) (a .blocks .now) (a .group) (a .input .now) (a .at) (c .before .if2 .taken) (omega arith))
+    let a = c .before .before .before .before .before .before .before .args in
+    sym (flat-early (a .loaded .now) (a .group) (a .input .now) (a .at) (c .before .if2 .taken) (omega arith))
 
 mul-positions-fit : tie.Need-mul-positions-fit
 mul-positions-fit c = search needs
 
 positions-fit-requires : tie.Need-positions-fit-requires
 positions-fit-requires c κs =
-    let s = c .before .before .before .before .before .before .before .before in
+    let s = c .before .before .before .before .before .before in
     let f = s .pre .0 in
-    let z : at (s .args .blocks .now) (blockSize * s .args .group) ≤ 8 = f .size (s .args .group) (omega arith) in
-    ((omega arith, omega arith, omega arith), λ p h. f .few p (omega arith))
+    let z : at (s .args .loaded .now) (blockSize * s .args .group) ≤ 8 = f .size (s .args .group) (omega arith) in
+    (f, (omega arith, omega arith))
 
 returns-3 : tie.Need-returns-3
 returns-3 c =
     let j = c .before in
-    let a = j .before .before .before .before .before .before .before .before .args in
-    flat-word (a .slots .now) (a .ranges .now) (a .blocks .now) (a .group) (a .input .now) (a .at) (c .positions-fit .result)
+    let a = j .before .before .before .before .before .before .args in
+    flat-word (a .loaded .now) (a .group) (a .input .now) (a .at) (c .positions-fit .result)
     (λ e. ⊎-elim (λ w. omega arith) (λ w. absurd (w .left e)) (j .if2 .came)) (c .positions-fit .ensures)
 
 pub fits-at-spec : {M : Type 1} → statement M

@@ -6,17 +6,20 @@ use Prim.Native.Nat.{_≤_, _+_, _-_}
 use native.Mathlib.Omega.{arith}
 use Rattle.meaning.specs.Table.{inRanges}
 use Rattle.meaning.specs.Block.{at}
-use Rattle.meaning.specs.bridge.Flat.{rangesAt}
+use Rattle.meaning.specs.bridge.Flat.{slotsFrom, rangesAt}
 use Rattle.meaning.proofs.Laws.Choosing.{inFrom, inFrom-start, inFrom-next, inFrom-end}
 use Rattle.rules.proofs.pattern.in_ranges.Statement.{statement}
 use Rattle.rules.proofs.pattern.in_ranges.Tie as tie
 
 abbrev Inv-loop : tie.InvT-loop
-Inv-loop slots ranges place c count k₀ k =
-    (k ≤ at slots place) × (inRanges (rangesAt slots ranges place) c ≡ inFrom slots ranges place c k)
+Inv-loop loaded place c count k₀ k =
+    (k ≤ at loaded (slotsFrom + place)) × (inRanges (rangesAt loaded place) c ≡ inFrom loaded place c k)
 
 abbrev μ-loop : tie.MeasureT-loop
-μ-loop slots ranges place c count k₀ k = at slots place - k
+μ-loop loaded place c count k₀ k = at loaded (slotsFrom + place) - k
+
+add-count : tie.Need-add-count Inv-loop μ-loop
+add-count c = omega arith
 
 mul-count : tie.Need-mul-count Inv-loop μ-loop
 mul-count c = omega arith
@@ -28,16 +31,19 @@ cast-count : tie.Need-cast-count Inv-loop μ-loop
 cast-count c = omega arith
 
 loop-holds : tie.Need-loop-holds Inv-loop μ-loop
-loop-holds c = (omega arith, inFrom-start _ _ _ _)
+loop-holds c = (omega arith, inFrom-start _ _ _)
 
 mul-in-range : tie.Need-mul-in-range Inv-loop μ-loop
 mul-in-range c = omega arith
 
+add-in-range : tie.Need-add-in-range Inv-loop μ-loop
+add-in-range c = omega arith
+
 mul-in-range-2 : tie.Need-mul-in-range-2 Inv-loop μ-loop
 mul-in-range-2 c = omega arith
 
-add-in-range : tie.Need-add-in-range Inv-loop μ-loop
-add-in-range c = omega arith
+add-in-range-2 : tie.Need-add-in-range-2 Inv-loop μ-loop
+add-in-range-2 c = omega arith
 
 in-range-requires : tie.Need-in-range-requires Inv-loop μ-loop
 in-range-requires c κs = omega arith
@@ -45,13 +51,13 @@ in-range-requires c κs = omega arith
 -- the range that the turn looks at, and those after it
 turn : (c : tie.After-in-range Inv-loop μ-loop) →
     let l = c .before .before in
-    let a = l .before .before .before .before .args in
-    inRanges (rangesAt (a .slots .now) (a .ranges .now) (a .place)) (a .c)
-    ≡ c .in-range .result || inFrom (a .slots .now) (a .ranges .now) (a .place) (a .c) (l .loop .k + 1)
+    let a = l .before .before .before .args in
+    inRanges (rangesAt (a .loaded .now) (a .place)) (a .c)
+    ≡ c .in-range .result || inFrom (a .loaded .now) (a .place) (a .c) (l .loop .k + 1)
 turn c =
     let l = c .before .before in
-    let a = l .before .before .before .before .args in
-    l .loop .inv .1 ∙ inFrom-next (a .slots .now) (a .ranges .now) (a .place) (a .c) (l .loop .k) (c .in-range .result) (omega arith) (c .in-range .ensures)
+    let a = l .before .before .before .args in
+    l .loop .inv .1 ∙ inFrom-next (a .loaded .now) (a .place) (a .c) (l .loop .k) (c .in-range .result) (omega arith) (c .in-range .ensures)
 
 returns : tie.Need-returns Inv-loop μ-loop
 returns c = sym (turn (c .before) ∙ rw (c .if1 .taken))
@@ -68,8 +74,8 @@ loop-again c = (omega arith, turn (c .before) ∙ rw (c .if1 .left))
 returns-2 : tie.Need-returns-2 Inv-loop μ-loop
 returns-2 c =
     let l = c .before in
-    let a = l .before .before .before .before .args in
-    sym (l .loop .inv .1 ∙ inFrom-end (a .slots .now) (a .ranges .now) (a .place) (a .c) (l .loop .k) (omega arith))
+    let a = l .before .before .before .args in
+    sym (l .loop .inv .1 ∙ inFrom-end (a .loaded .now) (a .place) (a .c) (l .loop .k) (omega arith))
 
 pub in-ranges-spec : {M : Type 1} → statement M
 in-ranges-spec =
@@ -77,13 +83,15 @@ in-ranges-spec =
     (tie.spec
     Inv-loop
     μ-loop
+    add-count
     mul-count
     shared-slice-read-count
     cast-count
     loop-holds
     mul-in-range
-    mul-in-range-2
     add-in-range
+    mul-in-range-2
+    add-in-range-2
     in-range-requires
     returns
     add-k

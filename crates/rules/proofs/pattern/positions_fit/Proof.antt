@@ -14,16 +14,16 @@ use Rattle.rules.proofs.pattern.positions_fit.Statement.{statement}
 use Rattle.rules.proofs.pattern.positions_fit.Tie as tie
 
 abbrev Inv-loop : tie.InvT-loop
-Inv-loop slots ranges place size input from p₀ p =
-    (p ≤ size) × (fitsWord (tabFrom 0 size (λ q. rangesAt slots ranges (place + q))) (take size (drop from input)) ≡ fitsFrom slots ranges place size input from p)
+Inv-loop loaded place size input from p₀ p =
+    (p ≤ size) × (fitsWord (tabFrom 0 size (λ q. rangesAt loaded (place + q))) (take size (drop from input)) ≡ fitsFrom loaded place size input from p)
 
 abbrev μ-loop : tie.MeasureT-loop
-μ-loop slots ranges place size input from p₀ p = size - p
+μ-loop loaded place size input from p₀ p = size - p
 
 loop-holds : tie.Need-loop-holds Inv-loop μ-loop
 loop-holds c =
-    let a = c .before .before .before .args in
-    (omega arith, fitsFrom-start (a .slots .now) (a .ranges .now) (a .place) (a .size) (a .input .now) (a .from))
+    let a = c .before .before .args in
+    (omega arith, fitsFrom-start (a .loaded .now) (a .place) (a .size) (a .input .now) (a .from))
 
 add-in-ranges : tie.Need-add-in-ranges Inv-loop μ-loop
 add-in-ranges c = omega arith
@@ -40,20 +40,20 @@ shared-slice-read-in-ranges c = omega arith
 in-ranges-requires : tie.Need-in-ranges-requires Inv-loop μ-loop
 in-ranges-requires c κs =
     let l = c .before .before in
-    let s = l .before .before .before .before in
-    (omega arith, omega arith, s .pre .1 (s .args .place + l .loop .p) (omega arith))
+    let s = l .before .before .before in
+    (omega arith, s .pre .0 .long, s .pre .0 .few (s .args .place + l .loop .p) (omega arith))
 
 -- the position that the turn looks at, and those after it
 turn : (c : tie.After-in-ranges Inv-loop μ-loop) →
     let l = c .before .before .before in
-    let a = l .before .before .before .before .args in
-    fitsWord (tabFrom 0 (a .size) (λ q. rangesAt (a .slots .now) (a .ranges .now) (a .place + q))) (take (a .size) (drop (a .from) (a .input .now)))
-    ≡ c .in-ranges .result && fitsFrom (a .slots .now) (a .ranges .now) (a .place) (a .size) (a .input .now) (a .from) (l .loop .p + 1)
+    let a = l .before .before .before .args in
+    fitsWord (tabFrom 0 (a .size) (λ q. rangesAt (a .loaded .now) (a .place + q))) (take (a .size) (drop (a .from) (a .input .now)))
+    ≡ c .in-ranges .result && fitsFrom (a .loaded .now) (a .place) (a .size) (a .input .now) (a .from) (l .loop .p + 1)
 turn c =
     let l = c .before .before .before in
-    let a = l .before .before .before .before .args in
+    let a = l .before .before .before .args in
     l .loop .inv .1
-    ∙ fitsFrom-next (a .slots .now) (a .ranges .now) (a .place) (a .size) (a .input .now) (a .from) (l .loop .p) (c .in-ranges .result) (omega arith) (omega arith) (c .in-ranges .ensures)
+    ∙ fitsFrom-next (a .loaded .now) (a .place) (a .size) (a .input .now) (a .from) (l .loop .p) (c .in-ranges .result) (omega arith) (omega arith) (c .in-ranges .ensures)
 
 returns : tie.Need-returns Inv-loop μ-loop
 returns c = sym (turn (c .before) ∙ rw (not-true (c .before .in-ranges .result) (c .if1 .taken)))
@@ -70,8 +70,8 @@ loop-again c = (omega arith, turn (c .before) ∙ rw (not-false (c .before .in-r
 returns-2 : tie.Need-returns-2 Inv-loop μ-loop
 returns-2 c =
     let l = c .before in
-    let a = l .before .before .before .before .args in
-    sym (l .loop .inv .1 ∙ fitsFrom-end (a .slots .now) (a .ranges .now) (a .place) (a .size) (a .input .now) (a .from) (l .loop .p) (omega arith))
+    let a = l .before .before .before .args in
+    sym (l .loop .inv .1 ∙ fitsFrom-end (a .loaded .now) (a .place) (a .size) (a .input .now) (a .from) (l .loop .p) (omega arith))
 
 pub positions-fit-spec : {M : Type 1} → statement M
 positions-fit-spec =

@@ -1,5 +1,5 @@
 -- `rules::reader::on_default` meets its contract: at each `return` the tests that led there say what `admit` answers.
--- The default's row is the last one, which the arrays' lengths hold.
+-- The default's row is the last one of each part, which the array's length holds.
 use mathlib.Core.Path.{_≡_, sym, _∙_}
 use borrow.Author.Needs.{needs}
 use Rattle.lists.proofs.Laws.Tests.{select-here, select-next, select-last}
@@ -18,8 +18,8 @@ asked s = admit (s .args .reader) default
 returns : tie.Need-returns
 unfolding admit
 returns c =
-    let e : asked (c .before .before .before .before) ≡ refused 3 = select-here _ _ _ (c .if1 .taken) in
-    (sym e, (kept _ _ e, (kept _ _ e, kept _ _ e)))
+    let e : asked (c .before .before) ≡ refused 3 = select-here _ _ _ (c .if1 .taken) in
+    (sym e, kept _ _ e)
 
 has-gap-requires : tie.Need-has-gap-requires
 has-gap-requires c κs = search needs
@@ -28,35 +28,33 @@ returns-2 : tie.Need-returns-2
 unfolding admit
 returns-2 c =
     let d = c .before .before in
-    let e : asked (d .before .before .before .before) ≡ refused 4 =
+    let e : asked (d .before .before) ≡ refused 4 =
     select-next _ _ _ (d .if1 .left) ∙ select-here _ _ _ (sym (c .before .has-gap .ensures) ∙ c .if2 .taken) in
-    (sym e, (kept _ _ e, (kept _ _ e, kept _ _ e)))
+    (sym e, kept _ _ e)
 
-slice-write-slots : tie.Need-slice-write-slots
-slice-write-slots c = search needs
+slice-write-loaded : tie.Need-slice-write-loaded
+slice-write-loaded c = search needs
 
-slice-write-ranges : tie.Need-slice-write-ranges
-slice-write-ranges c = search needs
+slice-write-loaded-2 : tie.Need-slice-write-loaded-2
+slice-write-loaded-2 c = search needs
 
-slice-write-blocks : tie.Need-slice-write-blocks
-slice-write-blocks c = search needs
+slice-write-loaded-3 : tie.Need-slice-write-loaded-3
+slice-write-loaded-3 c = search needs
+
+every-character-requires : tie.Need-every-character-requires
+every-character-requires c κs = search needs
 
 same-length : tie.Need-same-length
 same-length c = search needs
 
-same-length-2 : tie.Need-same-length-2
-same-length-2 c = search needs
-
-same-length-3 : tie.Need-same-length-3
-same-length-3 c = search needs
-
 returns-3 : tie.Need-returns-3
 unfolding admit
 returns-3 c =
-    let d = c .before .before in
-    let e : asked (d .before .before .before .before) ≡ accepted _ =
-    select-next _ _ _ (d .if1 .left) ∙ select-next _ _ _ (sym (c .before .has-gap .ensures) ∙ c .if2 .left) ∙ select-last _ in
-    (sym e, (changed _ _ e, (changed _ _ e, changed _ _ e)))
+    let b = c .before in
+    let d = b .before .before in
+    let e : asked (d .before .before) ≡ accepted _ =
+    select-next _ _ _ (d .if1 .left) ∙ select-next _ _ _ (sym (b .before .has-gap .ensures) ∙ b .if2 .left) ∙ select-last _ in
+    (rw (c .every-character .ensures) (sym e), changed _ _ e)
 
 pub on-default-spec : {M : Type 1} → statement M
 on-default-spec =
@@ -65,10 +63,9 @@ on-default-spec =
     returns
     has-gap-requires
     returns-2
-    slice-write-slots
-    slice-write-ranges
-    slice-write-blocks
+    slice-write-loaded
+    slice-write-loaded-2
+    slice-write-loaded-3
+    every-character-requires
     same-length
-    same-length-2
-    same-length-3
     returns-3)

@@ -2,7 +2,7 @@
 -- A record has been read, so there is a group to write to, and its output characters are fewer than eight.
 use mathlib.Core.Bool.{false}
 use mathlib.Core.Logic.{_≢_}
-use mathlib.Core.Path.{_≡_, sym, _∙_, subst}
+use mathlib.Core.Path.{_≡_, sym, _∙_, subst, ap}
 use Prim.Native.Nat.{_≤_, _<_}
 use borrow.Author.Needs.{needs}
 use borrow.Author.Tests.{eq-eqb, ne-eqb}
@@ -10,7 +10,7 @@ use native.Mathlib.Omega.{arith}
 use Rattle.lists.proofs.Laws.Tests.{select-here, select-next, select-last}
 use Rattle.meaning.specs.Refusal.{Outcome, refused, accepted}
 use Rattle.meaning.specs.Record.{output}
-use Rattle.rules.specs.bridge.Summary.{admit, gap}
+use Rattle.rules.specs.bridge.Summary.{outputPut, admit, gap}
 use Rattle.rules.specs.declared.reader.Reader.{Reader}
 use Rattle.rules.proofs.Laws.Stepping.{fails, kept, changed, group-below}
 use Rattle.rules.proofs.reader.on_output.Statement.{statement}
@@ -18,7 +18,7 @@ use Rattle.rules.proofs.reader.on_output.Tie as tie
 
 -- the function's entry
 abbrev entered : tie.Else2 → tie.Start
-entered c = c .before .before .before .before .before .before
+entered c = c .before .before .before .before .before
 
 -- what `admit` answers
 abbrev asked : tie.Start → Outcome Reader
@@ -30,8 +30,8 @@ no-gap c = sym (c .before .has-gap .ensures) ∙ c .if2 .left
 returns : tie.Need-returns
 unfolding admit
 returns c =
-    let e : asked (c .before .before .before .before) ≡ refused 3 = select-here _ _ _ (eq-eqb _ _ (c .if1 .taken)) in
-    (sym e, (kept _ _ e, kept _ _ e))
+    let e : asked (c .before .before .before) ≡ refused 3 = select-here _ _ _ (eq-eqb _ _ (c .if1 .taken)) in
+    (sym e, kept _ _ e)
 
 has-gap-requires : tie.Need-has-gap-requires
 has-gap-requires c κs = search needs
@@ -40,9 +40,9 @@ returns-2 : tie.Need-returns-2
 unfolding admit
 returns-2 c =
     let d = c .before .before in
-    let e : asked (d .before .before .before .before) ≡ refused 4 =
+    let e : asked (d .before .before .before) ≡ refused 4 =
     select-next _ _ _ (ne-eqb _ _ (d .if1 .left)) ∙ select-here _ _ _ (sym (c .before .has-gap .ensures) ∙ c .if2 .taken) in
-    (sym e, (kept _ _ e, kept _ _ e))
+    (sym e, kept _ _ e)
 
 returns-3 : tie.Need-returns-3
 unfolding admit
@@ -50,43 +50,42 @@ returns-3 c =
     let d = c .before in
     let e : asked (entered d) ≡ refused 6 =
     select-next _ _ _ (ne-eqb _ _ (d .before .before .if1 .left)) ∙ select-next _ _ _ (no-gap d) ∙ select-here _ _ _ (eq-eqb _ _ (c .if3 .taken)) in
-    (sym e, (kept _ _ e, kept _ _ e))
+    (sym e, kept _ _ e)
 
 group-number-requires : tie.Need-group-number-requires
 group-number-requires c κs = entered (c .before) .pre .0 .grouped (fails _ (ne-eqb _ _ (c .before .before .before .if1 .left)))
 
 put-output-requires : tie.Need-put-output-requires
 put-output-requires c κs =
-    let d = c .before .before .before in
+    let d = c .before .before in
     let s = entered (d .before) in
-    let few : s .args .reader .outputs ≤ 8 = s .pre .0 .outputs in
-    let other : s .args .reader .outputs ≢ 8 = d .if3 .left in
-    let below = subst (λ k. k < 33) (sym (c .before .before .group-number .ensures)) (group-below (s .args .reader) (s .pre .0 .rules)) in
-    ((below, omega arith), (search needs, search needs))
+    let few : s .args .reader .last .outputs ≤ 8 = s .pre .0 .last .outputs in
+    let other : s .args .reader .last .outputs ≢ 8 = d .if3 .left in
+    let below = subst (λ k. k < 33) (sym (c .before .group-number .ensures)) (group-below (s .args .reader) (s .pre .0 .rules)) in
+    ((below, omega arith), search needs)
 
-add-t9 : tie.Need-add-t9
-add-t9 c = search needs
+add-summed : tie.Need-add-summed
+add-summed c = search needs
+
+summed-requires : tie.Need-summed-requires
+summed-requires c κs = search needs
 
 same-length : tie.Need-same-length
 same-length c = search needs
 
-same-length-2 : tie.Need-same-length-2
-same-length-2 c = search needs
-
 returns-4 : tie.Need-returns-4
 unfolding admit
 returns-4 c =
-    let written = c .before .before .before .before in
-    let numbered = written .before .before .before in
-    let done = written .put-output .ensures in
-    let number = numbered .group-number .ensures in
+    let written = c .before .before .before in
+    let numbered = written .before .before in
     let d = numbered .before .before in
     let e : asked (entered d) ≡ accepted _ =
     select-next _ _ _ (ne-eqb _ _ (d .before .before .if1 .left))
     ∙ select-next _ _ _ (no-gap d)
     ∙ select-next _ _ _ (ne-eqb _ _ (numbered .before .if3 .left))
     ∙ select-last _ in
-    (sym e, (done .0 ∙ rw number (changed _ _ e), done .1 ∙ rw number (changed _ _ e)))
+    let x = entered d .args in
+    (rw (c .summed .ensures) (sym e), written .put-output .ensures ∙ ap (λ n. outputPut n (x .reader .last .outputs) (x .constant) (x .loaded .now)) (numbered .group-number .ensures) ∙ changed _ _ e)
 
 pub on-output-spec : {M : Type 1} → statement M
 on-output-spec =
@@ -98,7 +97,7 @@ on-output-spec =
     returns-3
     group-number-requires
     put-output-requires
-    add-t9
+    add-summed
+    summed-requires
     same-length
-    same-length-2
     returns-4)

@@ -1,24 +1,23 @@
 -- `rules::reader::on_range` meets its contract: at each `return` the tests that led there say what `admit` answers.
--- The tests that a range has passed give its place in the arrays.
+-- The tests that a range has passed give its place in the array.
 use mathlib.Core.Bool.{false}
 use mathlib.Core.Path.{_≡_, sym, ap₂, _∙_, subst}
-use Prim.Native.Nat.{ℕ, _+_, _*_, _≤_, _<_}
+use Prim.Native.Nat.{_≤_, _<_}
 use borrow.Author.Needs.{needs}
 use borrow.Author.Tests.{lt-ltb, le-ltb}
 use native.Mathlib.Omega.{arith}
-use lib.ListN.{set}
 use Rattle.lists.proofs.Laws.Tests.{select-here, select-next, select-last}
 use Rattle.meaning.specs.Refusal.{Outcome, refused, accepted}
 use Rattle.meaning.specs.Record.{range}
-use Rattle.rules.specs.bridge.Summary.{admit}
+use Rattle.rules.specs.bridge.Summary.{rangePut, admit}
 use Rattle.rules.specs.declared.reader.Reader.{Reader}
-use Rattle.rules.proofs.Laws.Stepping.{fails, kept, changed, rangeMisplaced, positionFull, RangeComes, range-comes, slot-free, slot-next, group-below}
+use Rattle.rules.proofs.Laws.Stepping.{fails, kept, changed, rangeMisplaced, positionFull, RangeComes, range-comes, slot-free, group-below}
 use Rattle.rules.proofs.reader.on_range.Statement.{statement}
 use Rattle.rules.proofs.reader.on_range.Tie as tie
 
 -- the function's entry, and the way past the first test
 abbrev entered : tie.Else1 → tie.Start
-entered c = c .before .before .before .before
+entered c = c .before .before .before
 
 abbrev first : tie.Else3 → tie.Else1
 first c = c .before .before .before .before
@@ -41,7 +40,7 @@ free c =
     let d = c .before in
     let s = entered (first d) in
     subst (λ k. k < 4) (sym (c .slot-number .ensures))
-    (slot-free (s .args .reader) (s .args .position) (s .pre .0 .slots) (comes (first d) .next) (d .before .before .if2 .left) (room d))
+    (slot-free (s .args .reader) (s .args .position) (s .pre .0 .last .slots) (comes (first d) .next) (d .before .before .if2 .left) (room d))
 
 range-misplaced-requires : tie.Need-range-misplaced-requires
 range-misplaced-requires c κs = search needs
@@ -49,15 +48,15 @@ range-misplaced-requires c κs = search needs
 returns : tie.Need-returns
 unfolding admit
 returns c =
-    let e : asked (c .before .before .before .before) ≡ refused 3 = select-here _ _ _ (sym (c .before .range-misplaced .ensures) ∙ c .if1 .taken) in
-    (sym e, (kept _ _ e, kept _ _ e))
+    let e : asked (c .before .before .before) ≡ refused 3 = select-here _ _ _ (sym (c .before .range-misplaced .ensures) ∙ c .if1 .taken) in
+    (sym e, kept _ _ e)
 
 returns-2 : tie.Need-returns-2
 unfolding admit
 returns-2 c =
     let d = c .before .before in
     let e : asked (entered d) ≡ refused 4 = select-next _ _ _ (placed d) ∙ select-here _ _ _ (lt-ltb _ _ (c .if2 .taken)) in
-    (sym e, (kept _ _ e, kept _ _ e))
+    (sym e, kept _ _ e)
 
 position-full-requires : tie.Need-position-full-requires
 position-full-requires c κs = search needs
@@ -70,7 +69,7 @@ returns-3 c =
     select-next _ _ _ (placed d)
     ∙ select-next _ _ _ (le-ltb _ _ (c .before .before .if2 .left))
     ∙ select-here _ _ _ (sym (c .before .position-full .ensures) ∙ c .if3 .taken) in
-    (sym e, (kept _ _ e, kept _ _ e))
+    (sym e, kept _ _ e)
 
 slot-number-requires : tie.Need-slot-number-requires
 slot-number-requires c κs = search needs
@@ -82,35 +81,34 @@ group-number-requires c κs =
 
 put-range-requires : tie.Need-put-range-requires
 put-range-requires c κs =
-    let d = first (c .before .before .before .before) in
+    let d = first (c .before .before .before) in
     let s = entered d in
-    let inside : s .args .position < s .args .reader .size = comes d .inside in
-    let small : s .args .reader .size ≤ 8 = s .pre .0 .size in
-    let below = subst (λ k. k < 33) (sym (c .before .before .group-number .ensures)) (group-below (s .args .reader) (s .pre .0 .rules)) in
-    ((below, omega arith, free (c .before .before .before)), (search needs, search needs))
+    let inside : s .args .position < s .args .reader .last .size = comes d .inside in
+    let small : s .args .reader .last .size ≤ 8 = s .pre .0 .last .size in
+    let below = subst (λ k. k < 33) (sym (c .before .group-number .ensures)) (group-below (s .args .reader) (s .pre .0 .rules)) in
+    ((below, omega arith, free (c .before .before)), search needs)
 
-add-t13 : tie.Need-add-t13
-add-t13 c = search needs
+add-ranged : tie.Need-add-ranged
+add-ranged c = search needs
 
-add-t18 : tie.Need-add-t18
-add-t18 c =
-    let d = c .before .before .before .before .before .before .before .before in
+add-ranged-2 : tie.Need-add-ranged-2
+add-ranged-2 c =
+    let d = c .before .before .before .before .before in
     let few : d .slot-number .result < 4 = free d in
     omega arith
+
+ranged-requires : tie.Need-ranged-requires
+ranged-requires c κs = search needs
 
 same-length : tie.Need-same-length
 same-length c = search needs
 
-same-length-2 : tie.Need-same-length-2
-same-length-2 c = search needs
-
 returns-4 : tie.Need-returns-4
 unfolding admit
 returns-4 c =
-    let written = c .before .before .before .before in
-    let numbered = written .before .before .before in
+    let written = c .before .before .before in
+    let numbered = written .before .before in
     let slotted = numbered .before in
-    let done = written .put-range .ensures in
     let number = numbered .group-number .ensures in
     let slot = slotted .slot-number .ensures in
     let d = first (slotted .before) in
@@ -120,13 +118,7 @@ returns-4 c =
     ∙ select-next _ _ _ (room (slotted .before))
     ∙ select-last _ in
     let x = entered d .args in
-    let place : ℕ → ℕ → ℕ = λ n k. 64 * n + 8 * x .position + 2 * k in (
-      rw (slot, ← slot-next) (sym e),
-      (
-        done .0 ∙ ap₂ (λ n k. set (x .slots .now) (8 * n + x .position) (k + 1)) number slot ∙ changed _ _ e,
-        done .1 ∙ ap₂ (λ n k. set (set (x .ranges .now) (place n k) (x .lowest)) (place n k + 1) (x .highest)) number slot ∙ changed _ _ e,
-      ),
-    )
+    (rw (c .ranged .ensures, slot) (sym e), written .put-range .ensures ∙ ap₂ (λ n k. rangePut n (x .position) k (x .lowest) (x .highest) (x .loaded .now)) number slot ∙ changed _ _ e)
 
 pub on-range-spec : {M : Type 1} → statement M
 on-range-spec =
@@ -140,8 +132,8 @@ on-range-spec =
     slot-number-requires
     group-number-requires
     put-range-requires
-    add-t13
-    add-t18
+    add-ranged
+    add-ranged-2
+    ranged-requires
     same-length
-    same-length-2
     returns-4)

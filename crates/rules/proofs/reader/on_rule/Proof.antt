@@ -52,23 +52,23 @@ returns-3 c =
 mul-at : tie.Need-mul-at
 mul-at c = search needs
 
-mul-blocks : tie.Need-mul-blocks
-mul-blocks c = search needs
+mul-loaded : tie.Need-mul-loaded
+mul-loaded c = search needs
 
-slice-write-blocks : tie.Need-slice-write-blocks
-slice-write-blocks c = search needs
+slice-write-loaded : tie.Need-slice-write-loaded
+slice-write-loaded c = search needs
 
 bit-of-requires : tie.Need-bit-of-requires
 bit-of-requires c κs = search needs
 
-add-blocks : tie.Need-add-blocks
-add-blocks c = search needs
+add-loaded : tie.Need-add-loaded
+add-loaded c = search needs
 
-mul-blocks-2 : tie.Need-mul-blocks-2
-mul-blocks-2 c = search needs
+mul-loaded-2 : tie.Need-mul-loaded-2
+mul-loaded-2 c = search needs
 
-slice-write-blocks-2 : tie.Need-slice-write-blocks-2
-slice-write-blocks-2 c = simp length-set (omega arith)
+slice-write-loaded-2 : tie.Need-slice-write-loaded-2
+slice-write-loaded-2 c = simp length-set (omega arith)
 
 add-t10 : tie.Need-add-t10
 add-t10 c = search needs
@@ -93,12 +93,12 @@ on-rule-spec =
     returns-2
     returns-3
     mul-at
-    mul-blocks
-    slice-write-blocks
+    mul-loaded
+    slice-write-loaded
     bit-of-requires
-    add-blocks
-    mul-blocks-2
-    slice-write-blocks-2
+    add-loaded
+    mul-loaded-2
+    slice-write-loaded-2
     add-t10
     same-length
     returns-4)

@@ -29,7 +29,7 @@ placed c = sym (c .before .term-misplaced .ensures) ∙ c .if1 .left
 comes : (c : tie.Else1) → let x = entered c .args in TermComes (x .reader) (x .position)
 comes c = term-comes _ _ (fails _ (placed c))
 
-some-output : (c : tie.Else1) → 1 ≤ entered c .args .reader .outputs
+some-output : (c : tie.Else1) → 1 ≤ entered c .args .reader .last .outputs
 some-output c = entered c .pre .0 .writing (comes c .writing)
 
 term-misplaced-requires : tie.Need-term-misplaced-requires
@@ -51,15 +51,18 @@ put-term-requires : tie.Need-put-term-requires
 put-term-requires c κs =
     let d = c .before .before in
     let s = entered d in
-    let inside : s .args .position < s .args .reader .size = comes d .inside in
-    let small : s .args .reader .size ≤ 8 = s .pre .0 .size in
-    let few : s .args .reader .outputs ≤ 8 = s .pre .0 .outputs in
-    let one : 1 ≤ s .args .reader .outputs = some-output d in
+    let inside : s .args .position < s .args .reader .last .size = comes d .inside in
+    let small : s .args .reader .last .size ≤ 8 = s .pre .0 .last .size in
+    let few : s .args .reader .last .outputs ≤ 8 = s .pre .0 .last .outputs in
+    let one : 1 ≤ s .args .reader .last .outputs = some-output d in
     let below = subst (λ k. k < 33) (sym (c .before .group-number .ensures)) (group-below (s .args .reader) (s .pre .0 .rules)) in
     ((below, omega arith, omega arith), search needs)
 
-add-t9 : tie.Need-add-t9
-add-t9 c = search needs
+add-summed : tie.Need-add-summed
+add-summed c = search needs
+
+summed-requires : tie.Need-summed-requires
+summed-requires c κs = search needs
 
 same-length : tie.Need-same-length
 same-length c = search needs
@@ -67,10 +70,10 @@ same-length c = search needs
 returns-2 : tie.Need-returns-2
 unfolding admit
 returns-2 c =
-    let written = c .before .before in
+    let written = c .before .before .before in
     let numbered = written .before .before in
     let e : asked (entered (numbered .before)) ≡ accepted _ = select-next _ _ _ (placed (numbered .before)) ∙ select-last _ in
-    (sym e, written .put-term .ensures ∙ rw (numbered .group-number .ensures, sub-one) (changed _ _ e))
+    (rw (c .summed .ensures) (sym e), written .put-term .ensures ∙ rw (numbered .group-number .ensures, sub-one) (changed _ _ e))
 
 pub on-term-spec : {M : Type 1} → statement M
 on-term-spec =
@@ -81,6 +84,7 @@ on-term-spec =
     group-number-requires
     sub-put-term
     put-term-requires
-    add-t9
+    add-summed
+    summed-requires
     same-length
     returns-2)

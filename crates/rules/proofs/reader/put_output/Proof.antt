@@ -1,67 +1,70 @@
 -- `rules::reader::put_output` meets its contract.
--- The places are within the rows by the bounds on the two numbers, and a store keeps the length.
+-- The places are within the array by the bounds on the two numbers, and a store keeps the length.
 use borrow.Author.Needs.{needs}
 use native.Mathlib.Omega.{arith}
 use lib.ListN.{length-set}
 use Rattle.rules.proofs.reader.put_output.Statement.{statement}
 use Rattle.rules.proofs.reader.put_output.Tie as tie
 
-add-blocks : tie.Need-add-blocks
-add-blocks c = search needs
+add-loaded : tie.Need-add-loaded
+add-loaded c = search needs
 
-cast-blocks : tie.Need-cast-blocks
-cast-blocks c = search needs
+cast-loaded : tie.Need-cast-loaded
+cast-loaded c = search needs
 
-mul-blocks : tie.Need-mul-blocks
-mul-blocks c = search needs
+mul-loaded : tie.Need-mul-loaded
+mul-loaded c = search needs
 
-add-blocks-2 : tie.Need-add-blocks-2
-add-blocks-2 c = search needs
+add-loaded-2 : tie.Need-add-loaded-2
+add-loaded-2 c = search needs
 
-mul-blocks-2 : tie.Need-mul-blocks-2
-mul-blocks-2 c = search needs
+mul-loaded-2 : tie.Need-mul-loaded-2
+mul-loaded-2 c = search needs
 
-slice-write-blocks : tie.Need-slice-write-blocks
-slice-write-blocks c = search needs
+slice-write-loaded : tie.Need-slice-write-loaded
+slice-write-loaded c = search needs
 
-cast-blocks-2 : tie.Need-cast-blocks-2
-cast-blocks-2 c = search needs
+cast-loaded-2 : tie.Need-cast-loaded-2
+cast-loaded-2 c = search needs
 
-mul-blocks-3 : tie.Need-mul-blocks-3
-mul-blocks-3 c = search needs
+mul-loaded-3 : tie.Need-mul-loaded-3
+mul-loaded-3 c = search needs
 
-add-blocks-3 : tie.Need-add-blocks-3
-add-blocks-3 c = search needs
+add-loaded-3 : tie.Need-add-loaded-3
+add-loaded-3 c = search needs
 
-mul-blocks-4 : tie.Need-mul-blocks-4
-mul-blocks-4 c = search needs
+mul-loaded-4 : tie.Need-mul-loaded-4
+mul-loaded-4 c = search needs
 
-add-blocks-4 : tie.Need-add-blocks-4
-add-blocks-4 c = search needs
+add-loaded-4 : tie.Need-add-loaded-4
+add-loaded-4 c = search needs
 
-mul-blocks-5 : tie.Need-mul-blocks-5
-mul-blocks-5 c = search needs
+mul-loaded-5 : tie.Need-mul-loaded-5
+mul-loaded-5 c = search needs
 
-slice-write-blocks-2 : tie.Need-slice-write-blocks-2
-slice-write-blocks-2 c = simp length-set (omega arith)
+slice-write-loaded-2 : tie.Need-slice-write-loaded-2
+slice-write-loaded-2 c = simp length-set (omega arith)
 
-mul-constants : tie.Need-mul-constants
-mul-constants c = search needs
+cast-loaded-3 : tie.Need-cast-loaded-3
+cast-loaded-3 c = search needs
 
-add-constants : tie.Need-add-constants
-add-constants c = search needs
+mul-loaded-6 : tie.Need-mul-loaded-6
+mul-loaded-6 c = search needs
 
-mul-constants-2 : tie.Need-mul-constants-2
-mul-constants-2 c = search needs
+add-loaded-5 : tie.Need-add-loaded-5
+add-loaded-5 c = search needs
 
-slice-write-constants : tie.Need-slice-write-constants
-slice-write-constants c = search needs
+add-loaded-6 : tie.Need-add-loaded-6
+add-loaded-6 c = search needs
+
+mul-loaded-7 : tie.Need-mul-loaded-7
+mul-loaded-7 c = search needs
+
+slice-write-loaded-3 : tie.Need-slice-write-loaded-3
+slice-write-loaded-3 c = simp length-set (omega arith)
 
 same-length : tie.Need-same-length
 same-length c = search needs
-
-same-length-2 : tie.Need-same-length-2
-same-length-2 c = search needs
 
 returns : tie.Need-returns
 returns c = search needs
@@ -70,23 +73,24 @@ pub put-output-spec : {M : Type 1} → statement M
 put-output-spec =
     tie.close
     (tie.spec
-    add-blocks
-    cast-blocks
-    mul-blocks
-    add-blocks-2
-    mul-blocks-2
-    slice-write-blocks
-    cast-blocks-2
-    mul-blocks-3
-    add-blocks-3
-    mul-blocks-4
-    add-blocks-4
-    mul-blocks-5
-    slice-write-blocks-2
-    mul-constants
-    add-constants
-    mul-constants-2
-    slice-write-constants
+    add-loaded
+    cast-loaded
+    mul-loaded
+    add-loaded-2
+    mul-loaded-2
+    slice-write-loaded
+    cast-loaded-2
+    mul-loaded-3
+    add-loaded-3
+    mul-loaded-4
+    add-loaded-4
+    mul-loaded-5
+    slice-write-loaded-2
+    cast-loaded-3
+    mul-loaded-6
+    add-loaded-5
+    add-loaded-6
+    mul-loaded-7
+    slice-write-loaded-3
     same-length
-    same-length-2
     returns)

@@ -1,64 +1,67 @@
 -- `rules::reader::put_range` meets its contract.
--- The places are within the rows by the bounds on the three numbers, and a store keeps the length.
+-- The places are within the array by the bounds on the three numbers, and a store keeps the length.
 use borrow.Author.Needs.{needs}
 use native.Mathlib.Omega.{arith}
 use lib.ListN.{length-set}
 use Rattle.rules.proofs.reader.put_range.Statement.{statement}
 use Rattle.rules.proofs.reader.put_range.Tie as tie
 
-add-slots : tie.Need-add-slots
-add-slots c = search needs
+add-loaded : tie.Need-add-loaded
+add-loaded c = search needs
 
-cast-slots : tie.Need-cast-slots
-cast-slots c = search needs
+cast-loaded : tie.Need-cast-loaded
+cast-loaded c = search needs
 
-mul-slots : tie.Need-mul-slots
-mul-slots c = search needs
+mul-loaded : tie.Need-mul-loaded
+mul-loaded c = search needs
 
-add-slots-2 : tie.Need-add-slots-2
-add-slots-2 c = search needs
+add-loaded-2 : tie.Need-add-loaded-2
+add-loaded-2 c = search needs
 
-mul-slots-2 : tie.Need-mul-slots-2
-mul-slots-2 c = search needs
+add-loaded-3 : tie.Need-add-loaded-3
+add-loaded-3 c = search needs
 
-slice-write-slots : tie.Need-slice-write-slots
-slice-write-slots c = search needs
+mul-loaded-2 : tie.Need-mul-loaded-2
+mul-loaded-2 c = search needs
+
+slice-write-loaded : tie.Need-slice-write-loaded
+slice-write-loaded c = search needs
 
 mul-at : tie.Need-mul-at
 mul-at c = search needs
 
-mul-at-2 : tie.Need-mul-at-2
-mul-at-2 c = search needs
-
 add-at : tie.Need-add-at
 add-at c = search needs
 
-mul-at-3 : tie.Need-mul-at-3
-mul-at-3 c = search needs
+mul-at-2 : tie.Need-mul-at-2
+mul-at-2 c = search needs
 
 add-at-2 : tie.Need-add-at-2
 add-at-2 c = search needs
 
-mul-ranges : tie.Need-mul-ranges
-mul-ranges c = search needs
+mul-at-3 : tie.Need-mul-at-3
+mul-at-3 c = search needs
 
-slice-write-ranges : tie.Need-slice-write-ranges
-slice-write-ranges c = search needs
+add-at-3 : tie.Need-add-at-3
+add-at-3 c = search needs
 
-add-ranges : tie.Need-add-ranges
-add-ranges c = search needs
+mul-loaded-3 : tie.Need-mul-loaded-3
+mul-loaded-3 c = search needs
 
-mul-ranges-2 : tie.Need-mul-ranges-2
-mul-ranges-2 c = search needs
+slice-write-loaded-2 : tie.Need-slice-write-loaded-2
+slice-write-loaded-2 c = simp length-set (omega arith)
 
-slice-write-ranges-2 : tie.Need-slice-write-ranges-2
-slice-write-ranges-2 c = simp length-set (omega arith)
+add-loaded-4 : tie.Need-add-loaded-4
+add-loaded-4 c = search needs
+
+mul-loaded-4 : tie.Need-mul-loaded-4
+mul-loaded-4 c = search needs
+
+slice-write-loaded-3 : tie.Need-slice-write-loaded-3
+slice-write-loaded-3 c = simp length-set (omega arith)
 
 same-length : tie.Need-same-length
 same-length c = search needs
-
-same-length-2 : tie.Need-same-length-2
-same-length-2 c = search needs
 
 returns : tie.Need-returns
 returns c = search needs
@@ -67,22 +70,23 @@ pub put-range-spec : {M : Type 1} → statement M
 put-range-spec =
     tie.close
     (tie.spec
-    add-slots
-    cast-slots
-    mul-slots
-    add-slots-2
-    mul-slots-2
-    slice-write-slots
+    add-loaded
+    cast-loaded
+    mul-loaded
+    add-loaded-2
+    add-loaded-3
+    mul-loaded-2
+    slice-write-loaded
     mul-at
-    mul-at-2
     add-at
-    mul-at-3
+    mul-at-2
     add-at-2
-    mul-ranges
-    slice-write-ranges
-    add-ranges
-    mul-ranges-2
-    slice-write-ranges-2
+    mul-at-3
+    add-at-3
+    mul-loaded-3
+    slice-write-loaded-2
+    add-loaded-4
+    mul-loaded-4
+    slice-write-loaded-3
     same-length
-    same-length-2
     returns)

@@ -12,25 +12,25 @@ use Rattle.rules.proofs.safe.all_safe.Statement.{statement}
 use Rattle.rules.proofs.safe.all_safe.Tie as tie
 
 abbrev Inv-loop : tie.InvT-loop
-Inv-loop slots ranges blocks constants rules defaulted group₀ group = (group ≤ rules) × (forBelow group (safeGroupAt slots ranges blocks constants) ≡ true)
+Inv-loop loaded rules defaulted group₀ group = (group ≤ rules) × (forBelow group (safeGroupAt loaded) ≡ true)
 
 abbrev μ-loop : tie.MeasureT-loop
-μ-loop slots ranges blocks constants rules defaulted group₀ group = rules - group
+μ-loop loaded rules defaulted group₀ group = rules - group
 
 -- the test of one group, by the arguments
 abbrev tested : tie.Start Inv-loop μ-loop → ℕ → Bool
-tested s = let a = s .args in safeGroupAt (now (a .slots)) (now (a .ranges)) (now (a .blocks)) (now (a .constants))
+tested s = let a = s .args in safeGroupAt (now (a .loaded))
 
 loop-holds : tie.Need-loop-holds Inv-loop μ-loop
-loop-holds c = (omega arith, none-below (tested (c .before .before .before .before)))
+loop-holds c = (omega arith, none-below (tested (c .before)))
 
 group-safe-requires : tie.Need-group-safe-requires Inv-loop μ-loop
-group-safe-requires c κs = let s = c .before .before .before .before .before .before in (s .pre .0, s .pre .1, omega arith)
+group-safe-requires c κs = let s = c .before .before .before in (s .pre .0, omega arith)
 
 returns : tie.Need-returns Inv-loop μ-loop
 unfolding safeAt
 returns c =
-    let s = c .before .before .before .before .before .before .before .before in
+    let s = c .before .before .before .before .before in
     rw (below-fails (tested s) (s .args .rules) (c .before .before .before .loop .group) (omega arith) (c .before .group-safe .ensures) (c .if1 .taken)) refl
 
 add-group : tie.Need-add-group Inv-loop μ-loop
@@ -41,17 +41,17 @@ loop-less c = omega arith
 
 loop-again : tie.Need-loop-again Inv-loop μ-loop
 loop-again c =
-    let s = c .before .before .before .before .before .before .before .before in
+    let s = c .before .before .before .before .before in
     let here = c .before .before .before .loop in
     (omega arith, below-again (tested s) (here .group) (here .inv .1) (c .before .group-safe .ensures) (c .if1 .left))
 
 group-safe-requires-2 : tie.Need-group-safe-requires-2 Inv-loop μ-loop
-group-safe-requires-2 c κs = let s = c .before .before .before .before .before .before .before in (s .pre .0, s .pre .1, omega arith)
+group-safe-requires-2 c κs = let s = c .before .before .before .before in (s .pre .0, omega arith)
 
 returns-2 : tie.Need-returns-2 Inv-loop μ-loop
 unfolding safeAt
 returns-2 c =
-    let s = c .before .before .before .before .before .before .before .before in
+    let s = c .before .before .before .before .before in
     let here = c .before .before .before .loop in
     let rules : here .group ≡ s .args .rules = omega arith in
     rw (← rules, here .inv .1, c .before .if2 .taken) (c .group-safe2 .ensures)
@@ -59,7 +59,7 @@ returns-2 c =
 returns-3 : tie.Need-returns-3 Inv-loop μ-loop
 unfolding safeAt
 returns-3 c =
-    let s = c .before .before .before .before .before .before .before in
+    let s = c .before .before .before .before in
     let here = c .before .before .loop in
     let rules : here .group ≡ s .args .rules = omega arith in
     rw (← rules, here .inv .1, c .if2 .left) refl

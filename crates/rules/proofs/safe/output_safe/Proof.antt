@@ -1,43 +1,33 @@
 -- `output_safe` meets its contract: refusal 7's test compares the two sides of the least and of the greatest value.
 -- By the laws of differences.
 use mathlib.Core.List.{List, map}
-use mathlib.Core.Path.{sym}
+use mathlib.Core.Bool.{Bool}
+use mathlib.Core.Path.{_≡_, sym, subst}
 use Prim.Native.Nat.{_+_, _*_}
 use native.Mathlib.Omega.{arith}
 use borrow.Author.Needs.{needs}
 use denote.Ref.{now}
 use lib.IntN.{ℤ}
 use lib.ListN.{take, drop}
-use Rattle.meaning.specs.Table.{Range}
+use Rattle.meaning.specs.Table.{Range, sum}
 use Rattle.meaning.specs.Block.{at, blockSize, entrySize}
 use Rattle.meaning.specs.Reader.{signed}
+use Rattle.meaning.specs.Value.{safeOutput}
 use Rattle.meaning.specs.bridge.Flat.{patternAt, outputAt}
 use Rattle.meaning.proofs.Laws.Extremes.{unsafe-low, safe-high}
 use Rattle.rules.proofs.safe.output_safe.Statement.{statement}
 use Rattle.rules.proofs.safe.output_safe.Tie as tie
 
--- the group's pattern, the output character's constant and its coefficients
+-- the group's pattern and the output character's coefficients
 abbrev pattern : tie.Start → List (List Range)
-pattern s = let a = s .args in patternAt (now (a .slots)) (now (a .ranges)) (a .group) (at (now (a .blocks)) (blockSize * a .group))
-
-abbrev constantOf : tie.Start → ℤ
-constantOf s = let a = s .args in signed 32 (at (now (a .constants)) (8 * a .group + a .number))
+pattern s = let a = s .args in patternAt (now (a .loaded)) (a .group) (at (now (a .loaded)) (blockSize * a .group))
 
 abbrev coefficients : tie.Start → List ℤ
 coefficients s =
-    let a = s .args in map (signed 16) (take (at (now (a .blocks)) (blockSize * a .group)) (drop (blockSize * a .group + 4 + entrySize * a .number) (now (a .blocks))))
+    let a = s .args in map (signed 16) (take (at (now (a .loaded)) (blockSize * a .group)) (drop (blockSize * a .group + 4 + entrySize * a .number) (now (a .loaded))))
 
-mul-constant : tie.Need-mul-constant
-mul-constant c = search needs
-
-add-constant : tie.Need-add-constant
-add-constant c = search needs
-
-mul-constant-2 : tie.Need-mul-constant-2
-mul-constant-2 c = search needs
-
-shared-slice-read-constant : tie.Need-shared-slice-read-constant
-shared-slice-read-constant c = search needs
+constant-of-requires : tie.Need-constant-of-requires
+constant-of-requires c κs = let p = c .before .pre in (p .1, p .2, p .0 .long)
 
 extreme-sum-requires : tie.Need-extreme-sum-requires
 extreme-sum-requires c κs = search needs
@@ -45,14 +35,24 @@ extreme-sum-requires c κs = search needs
 with-constant-requires : tie.Need-with-constant-requires
 with-constant-requires c κs = search needs
 
-returns : tie.Need-returns
+-- the answer by the constant that was read, and by the one in the array
+by-constant : {b : Bool} (c : tie.After-constant-of) → let s = c .before .before in
+    b ≡ safeOutput (pattern s) (sum (signed 32 (c .constant-of .result)) (coefficients s)) →
+    b ≡ safeOutput (pattern s) (outputAt (now (s .args .loaded)) (s .args .group) (s .args .number))
 unfolding outputAt
+by-constant {b} c e =
+    let s = c .before .before in
+    subst (λ k. b ≡ safeOutput (pattern s) (sum (signed 32 k) (coefficients s))) (c .constant-of .ensures) e
+
+returns : tie.Need-returns
 returns c =
-    let s = c .before .before .before .before .before .before .before .before .before in
     let d = c .before .before .with-constant in
-    sym
-    (unsafe-low (pattern s) (constantOf s) (coefficients s) (c .before .before .before .extreme-sum .ensures .0)
-    (d .result .plus) (d .result .minus) (d .ensures .0) (omega arith))
+    let k = c .before .before .before .before in
+    let s = k .before .before in
+    by-constant k
+    (sym
+    (unsafe-low (pattern s) (signed 32 (k .constant-of .result)) (coefficients s) (c .before .before .before .extreme-sum .ensures .0)
+    (d .result .plus) (d .result .minus) (d .ensures .0) (omega arith)))
 
 extreme-sum-requires-2 : tie.Need-extreme-sum-requires-2
 extreme-sum-requires-2 c κs = search needs
@@ -64,24 +64,22 @@ add-result : tie.Need-add-result
 add-result c = search needs
 
 returns-2 : tie.Need-returns-2
-unfolding outputAt
 returns-2 c =
-    let s = c .before .before .before .before .before .before .before .before .before .before .before .before .before in
     let d = c .before .before .before .before .before .before .with-constant in
     let e = c .before .before .with-constant2 in
-    sym
-    (safe-high (pattern s) (constantOf s) (coefficients s) (c .before .before .before .before .before .before .before .extreme-sum .ensures .0)
+    let k = c .before .before .before .before .before .before .before .before in
+    let s = k .before .before in
+    by-constant k
+    (sym
+    (safe-high (pattern s) (signed 32 (k .constant-of .result)) (coefficients s) (c .before .before .before .before .before .before .before .extreme-sum .ensures .0)
     (d .result .plus) (d .result .minus) (d .ensures .0) (c .before .before .before .extreme-sum2 .ensures .0)
-    (e .result .plus) (e .result .minus) (e .ensures .0) (omega arith))
+    (e .result .plus) (e .result .minus) (e .ensures .0) (omega arith)))
 
 pub output-safe-spec : {M : Type 1} → statement M
 output-safe-spec =
     tie.close
     (tie.spec
-    mul-constant
-    add-constant
-    mul-constant-2
-    shared-slice-read-constant
+    constant-of-requires
     extreme-sum-requires
     with-constant-requires
     returns

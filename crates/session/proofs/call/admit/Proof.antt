@@ -13,7 +13,7 @@ use Rattle.lists.proofs.Laws.Tests.{to-T, passed, failed}
 use Rattle.automaton.specs.Sound.{sound}
 use Rattle.automaton.proofs.Laws.Words.{sound-header}
 use Rattle.reckoning.specs.Session.{Session, isOpen, soundSession}
-use Rattle.session.specs.Keeping.{statusOf, sessionOf}
+use Rattle.session.specs.Keeping.{meantStatus, sessionOf}
 use Rattle.session.specs.declared.kept.Status.{Status}
 use Rattle.session.specs.declared.kept.Status.the-variants.{Open, Closed, Stopped}
 use Rattle.session.proofs.kept.Status.{the-type}
@@ -39,7 +39,7 @@ words-sound c = passed (c .before .is-sound .ensures) (c .if1 .left)
 session-sound : (c : tie.Else2) → soundSession (words c) (session c) ≡ true
 session-sound c = passed (c .before .is-sound-session .ensures) (c .if2 .left)
 
-ended : (x : Status) → OneOf (1 ∷ 2 ∷ []) (tagOf the-type x) → isOpen (statusOf x) ≡ false
+ended : (x : Status) → OneOf (1 ∷ 2 ∷ []) (tagOf the-type x) → isOpen (meantStatus x) ≡ false
 ended Open k = elim k [ inl e ↦ absurd (omega arith) | inr e ↦ absurd (omega arith) ]
 ended Closed k = refl
 ended Stopped k = refl
@@ -93,7 +93,7 @@ returns-4 c =
     c .admit-open .ensures
     ∙ ap (λ most. roomTests most (s .received) (s .count) (a .size) (a .room)) (x .expansion .ensures)
     ∙ session-open (words e) s (a .size) (a .room) (words-sound (e .before .before)) (session-sound e)
-    (ap (λ y. isOpen (statusOf y)) (told .enum-told .given .1))
+    (ap (λ y. isOpen (meantStatus y)) (told .enum-told .given .1))
 
 pub admit-spec : {M : Type 1} → statement M
 admit-spec =

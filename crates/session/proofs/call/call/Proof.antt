@@ -36,7 +36,7 @@ returns c =
     let n = c .before in
     let d = n .before .before in
     let a = start d .args in (
-      λ e. refl,
+      record { accepted = refl; unchanged = λ e. refl },
       sym
           (ap (λ o. callBy o (fromWords (a .words .now)) (sessionOf (a .session)) (a .piece .now) (a .ended) (a .output .now))
           (sym (d .admit .ensures) ∙ ap checkOf (n .number .given .1))),

@@ -2,7 +2,7 @@
 -- The session was admitted, so it is sound and the call leaves a sound one: no number overflows.
 use mathlib.Core.Bool.{true≢false}
 use mathlib.Core.List.{List}
-use mathlib.Core.Path.{_≡_}
+use mathlib.Core.Path.{_≡_, refl}
 use Prim.Native.Nat.{ℕ}
 use borrow.Author.Needs.{needs}
 use lib.ListN.{length}
@@ -88,7 +88,7 @@ returns c =
     let d = c .before .before .before .before .before .before .before in
     let s = start d in
     let ran = d .run-words in (
-      λ e. absurd (true≢false e),
+      record { accepted = refl; unchanged = λ e. absurd (true≢false e) },
       same-outcome (words s) (session s) (piece s) (s .args .ended) (room s) (known s) (eight s) (ran .result) _ (ran .ensures .0)
           (s .args .output .now) _ (c .later .result) (ran .ensures .1) (c .before .before .gather .ensures) (c .later .ensures),
     )

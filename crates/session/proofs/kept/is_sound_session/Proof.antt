@@ -13,7 +13,7 @@ use Rattle.automaton.proofs.Laws.Words.{sound-header}
 use Rattle.reckoning.specs.Session.{Session, isOpen, soundSession}
 use Rattle.session.specs.declared.kept.Status.{Status}
 use Rattle.session.specs.declared.kept.Status.the-variants.{Open, Closed, Stopped}
-use Rattle.session.specs.Keeping.{statusOf, sessionOf}
+use Rattle.session.specs.Keeping.{meantStatus, sessionOf}
 use Rattle.reckoning.proofs.Laws.Keeping.{countsTest, openTest, endedTest, session-parts, counts-known}
 use Rattle.session.proofs.kept.is_sound_session.Statement.{statement}
 use Rattle.session.proofs.kept.is_sound_session.Tie as tie
@@ -38,7 +38,7 @@ small c = counts-known (words (c .before)) (session (c .before)) _ (past-counts 
 -- what is left of the test past the places not in use, by the status
 past-others : (c : tie.Else2) (x : Status) → let k = c .before .before .before .before .before in
     k .before .before .before .args .t2 .status ≡ x →
-    soundSession (words k) (session k) ≡ cond (isOpen (statusOf x)) (openTest (words k) (session k)) (endedTest (words k) (session k))
+    soundSession (words k) (session k) ≡ cond (isOpen (meantStatus x)) (openTest (words k) (session k)) (endedTest (words k) (session k))
 past-others c x known =
     let e = c .before .before .before .before in
     let k = e .before in
@@ -46,7 +46,7 @@ past-others c x known =
     ∙ all-next _ (past-counts e)
     ∙ all-next _ (passed (c .before .others-clear .ensures) (c .if2 .left))
     ∙ all-last _
-    ∙ ap (λ y. cond (isOpen (statusOf y)) (openTest (words k) (session k)) (endedTest (words k) (session k))) known
+    ∙ ap (λ y. cond (isOpen (meantStatus y)) (openTest (words k) (session k)) (endedTest (words k) (session k))) known
 
 few : (c : tie.Else2) → let s = session (c .before .before .before .before .before) in s .received - s .count ≤ limit
 few c =

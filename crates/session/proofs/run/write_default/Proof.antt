@@ -1,119 +1,119 @@
 -- `run::write_default` meets its contract. The invariant: the output has the first j characters that the default writes, from the count on.
 -- The measure is the characters left. Assumes nothing.
 use mathlib.Core.Path.{_≡_, refl, sym, ap, _∙_}
-use mathlib.Core.List.{List}
-use Prim.Native.Nat.{ℕ, _+_, _-_, _≤_, _<_, _*_}
+use mathlib.Core.List.{List, _++_}
+use Prim.Native.Nat.{ℕ, _+_, _-_, _≤_, _<_}
 use native.Mathlib.Omega.{arith}
 use borrow.Author.Needs.{needs}
-use lib.ListN.{length, take, drop, set, length-set}
-use lib.Seq.{paste, paste-zero}
-use Rattle.meaning.specs.Block.{at, blockSize}
-use Rattle.session.proofs.Laws.Reading.{default-count, defaultText, default-sum, default-more, default-all}
+use lib.ListN.{length, take, drop, set, length-set, length-drop}
+use lib.Seq.{length-take-le, paste, paste-zero}
+use Rattle.meaning.specs.Block.{at, entryValue, blockOutput}
+use Rattle.meaning.proofs.Laws.Writing.{written-more, written-all}
+use Rattle.automaton.specs.Sound.{blockAt}
 use Rattle.session.proofs.run.write_default.Statement.{statement}
 use Rattle.session.proofs.run.write_default.Tie as tie
-use Rattle.automaton.specs.Layout.{blocksFrom}
 
 -- what the default writes for the character at the place
-abbrev one : List ℕ → List ℕ → ℕ → List ℕ
-one words text place = defaultText words (take 1 (drop place text))
+abbrev defaultText : List ℕ → List ℕ → ℕ → List ℕ
+defaultText words text place = blockOutput (blockAt words 32) (take 1 (drop place text))
 
 abbrev Inv-loop : tie.InvT-loop
-Inv-loop words text place output₀ count number j₀ output j =
-    (j ≤ number) × (length output ≡ length output₀) × (output ≡ paste output₀ count (one words text place) j)
+Inv-loop words text place output₀ count number word j₀ output j =
+    (number ≡ at (blockAt words 32) 2) × (j ≤ number) × (length output ≡ length output₀) × (output ≡ paste output₀ count (defaultText words text place) j)
 
 abbrev μ-loop : tie.MeasureT-loop
-μ-loop words text place output₀ count number j₀ output j = number - j
+μ-loop words text place output₀ count number word j₀ output j = number - j
 
--- the default writes at most eight characters, and there is room for each
-outputs : (s : tie.Start Inv-loop μ-loop) → at (s .args .words .now) (blocksFrom + 32 * blockSize + 2) ≤ 8
-outputs s = omega (arith, s .pre .1 .0, default-count (s .args .words .now))
+-- the part of the text that is taken is one character
+part-word : (s : tie.Start Inv-loop μ-loop) →
+    let a = s .args in
+    take (a .place + 1 - a .place) (drop (a .place) (a .text .now)) ≡ take 1 (drop (a .place) (a .text .now))
+part-word s =
+    let e : s .args .place + 1 - s .args .place ≡ 1 = omega arith in
+    ap (λ n. take n (drop (s .args .place) (s .args .text .now))) e
 
-room : (s : tie.Start Inv-loop μ-loop) (j : ℕ) → j < at (s .args .words .now) (blocksFrom + 32 * blockSize + 2) → s .args .count + j < length (s .args .output .now)
-room s j h = omega (arith, h, s .pre .1 .1, default-count (s .args .words .now))
+word-long : (s : tie.Start Inv-loop μ-loop) → length (take (s .args .place + 1 - s .args .place) (drop (s .args .place) (s .args .text .now))) ≡ 1
+word-long s =
+    ap length (part-word s)
+    ∙ length-take-le 1 (drop (s .args .place) (s .args .text .now)) (omega (arith, s .pre .0 .1, length-drop (s .args .place) (s .args .text .now)))
 
-shared-slice-read-number : tie.Need-shared-slice-read-number Inv-loop μ-loop
-shared-slice-read-number c = search needs
+group-outputs-requires : tie.Need-group-outputs-requires Inv-loop μ-loop
+group-outputs-requires c κs = search needs
 
-cast-number : tie.Need-cast-number Inv-loop μ-loop
-cast-number c = let few = outputs (c .before .before .before .before) in omega arith
+add-word : tie.Need-add-word Inv-loop μ-loop
+add-word c = search needs
+
+mul-word : tie.Need-mul-word Inv-loop μ-loop
+mul-word c = search needs
+
+sub-word : tie.Need-sub-word Inv-loop μ-loop
+sub-word c = search needs
+
+part-word-start : tie.Need-part-word-start Inv-loop μ-loop
+part-word-start c = search needs
+
+part-word-end : tie.Need-part-word-end Inv-loop μ-loop
+part-word-end c = search needs
 
 loop-holds : tie.Need-loop-holds Inv-loop μ-loop
 loop-holds c =
-    let a = c .before .before .before .before .args in
-    (omega arith, refl, paste-zero (a .output .now) (a .count) (one (a .words .now) (a .text .now) (a .place)))
+    let a = c .before .before .before .before .before .args in
+    (c .before .group-outputs .ensures, omega arith, refl, paste-zero (a .output .now) (a .count) (defaultText (a .words .now) (a .text .now) (a .place)))
 
-mul-sum-at : tie.Need-mul-sum-at Inv-loop μ-loop
-mul-sum-at c =
-    let few = outputs (c .before .before .before .before .before .before) in
-    omega (arith, c .loop-test .taken)
-
-add-sum-at : tie.Need-add-sum-at Inv-loop μ-loop
-add-sum-at c =
-    let few = outputs (c .before .before .before .before .before .before) in
-    omega (arith, c .loop-test .taken)
-
-sum-at-requires : tie.Need-sum-at-requires Inv-loop μ-loop
-sum-at-requires c κs =
-    let s = c .before .before .before .before .before .before in
-    (omega (arith, outputs s, s .pre .0 .0, c .loop-test .taken), omega (arith, s .pre .0 .1))
+entry-value-requires : tie.Need-entry-value-requires Inv-loop μ-loop
+entry-value-requires c κs =
+    let s = c .before .before .before .before .before .before .before in
+    let long = word-long s in
+    ((s .pre .0 .0, omega arith, omega (arith, c .loop-test .taken, c .before .loop .inv .0, s .pre .1 .0)), (long ∙ sym (s .pre .0 .2), omega (arith, long)))
 
 add-output : tie.Need-add-output Inv-loop μ-loop
-add-output c =
-    let s = c .before .before .before .before .before .before .before in
-    let h = room s (c .before .before .loop .j) (c .before .loop-test .taken) in
-    search needs
+add-output c = search needs
 
 mul-output : tie.Need-mul-output Inv-loop μ-loop
-mul-output c =
-    let s = c .before .before .before .before .before .before .before in
-    let h = room s (c .before .before .loop .j) (c .before .loop-test .taken) in
-    search needs
+mul-output c = search needs
 
 slice-write-output : tie.Need-slice-write-output Inv-loop μ-loop
-slice-write-output c =
-    let s = c .before .before .before .before .before .before .before in
-    omega (arith, room s (c .before .before .loop .j) (c .before .loop-test .taken), c .before .before .loop .inv .1)
+slice-write-output c = search needs
 
 add-j : tie.Need-add-j Inv-loop μ-loop
-add-j c =
-    let few = outputs (c .before .before .before .before .before .before .before) in
-    omega (arith, c .before .loop-test .taken)
+add-j c = search needs
 
 loop-less : tie.Need-loop-less Inv-loop μ-loop
 loop-less c = search needs
 
 loop-again : tie.Need-loop-again Inv-loop μ-loop
 loop-again c =
-    let s = c .before .before .before .before .before .before .before in
+    let s = c .before .before .before .before .before .before .before .before in
     let a = s .args in
     let l = c .before .before .loop in
-    let t = c .before .loop-test .taken in
-    let w = a .words .now in
+    let b = blockAt (a .words .now) 32 in
     let word = take 1 (drop (a .place) (a .text .now)) in
-    let sum = c .sum-at .result in (
-      omega (arith, t),
-      length-set (l .output) (a .count + l .j) sum ∙ l .inv .1,
-      ap (λ o. set o (a .count + l .j) sum) (l .inv .2)
-          ∙ default-more w word (a .output .now) (a .count) (l .j) sum t (room s (l .j) t) (c .sum-at .ensures ∙ default-sum w word (l .j) (s .pre .0 .2)),
+    let value = c .entry-value .result in
+    let front = paste (a .output .now) (a .count) (blockOutput b word) (l .j) in
+    let turn = c .before .loop-test .taken in (
+      l .inv .0,
+      omega (arith, turn),
+      length-set (l .output) (a .count + l .j) value ∙ l .inv .2,
+      ap (λ o. set o (a .count + l .j) value) (l .inv .3)
+          ∙ ap (set front (a .count + l .j)) (c .entry-value .ensures ∙ ap (entryValue b (l .j)) (part-word s))
+          ∙ written-more b word (a .output .now) (a .count) (l .j) (omega (arith, turn, l .inv .0)) (omega (arith, turn, l .inv .0, s .pre .1 .1)),
     )
 
 add-result : tie.Need-add-result Inv-loop μ-loop
-add-result c =
-    let s = c .before .before .before .before .before .before in
-    let h : s .args .count + at (s .args .words .now) (blocksFrom + 32 * blockSize + 2) ≤ length (s .args .output .now) = omega (arith, s .pre .1 .1, default-count (s .args .words .now)) in
-    search needs
+add-result c = search needs
 
 same-length : tie.Need-same-length Inv-loop μ-loop
 same-length c = search needs
 
 returns : tie.Need-returns Inv-loop μ-loop
 returns c =
-    let a = c .before .before .before .before .before .before .args in
+    let a = c .before .before .before .before .before .before .before .args in
     let l = c .before .loop in
-    let w = a .words .now in
-    let e : l .j ≡ at w (blocksFrom + 32 * blockSize + 2) = omega (arith, l .inv .0, c .loop-test .left) in (
-      ap (λ k. a .count + k) (sym (default-count w)),
-      l .inv .2 ∙ default-all w (take 1 (drop (a .place) (a .text .now))) (a .output .now) (a .count) (l .j) e,
+    let b = blockAt (a .words .now) 32 in
+    let word = take 1 (drop (a .place) (a .text .now)) in
+    let e : l .j ≡ at b 2 = omega (arith, l .inv .0, l .inv .1, c .loop-test .left) in (
+      ap (λ n. a .count + n) (l .inv .0),
+      l .inv .3 ∙ ap (paste (a .output .now) (a .count) (blockOutput b word)) e ∙ written-all b word (a .output .now) (a .count),
     )
 
 pub write-default-spec : {M : Type 1} → statement M
@@ -122,12 +122,14 @@ write-default-spec =
     (tie.spec
     Inv-loop
     μ-loop
-    shared-slice-read-number
-    cast-number
+    group-outputs-requires
+    add-word
+    mul-word
+    sub-word
+    part-word-start
+    part-word-end
     loop-holds
-    mul-sum-at
-    add-sum-at
-    sum-at-requires
+    entry-value-requires
     add-output
     mul-output
     slice-write-output

@@ -1,0 +1,107 @@
+-- Demand 3 on two lists of calls, with the values that document 01 gives, so that none of its conditions is empty.
+use mathlib.Core.Bool.{Bool, true, false, _||_}
+use mathlib.Core.List.{List, [], _∷_, _++_}
+use mathlib.Core.Path.{_≡_}
+use Prim.Native.Nat.{ℕ, _≤_}
+use Prim.Native.String.{String}
+use lib.Dec.{T}
+use lib.ListN.{length}
+use Rattle.lists.specs.Lists.{pad}
+use Rattle.meaning.specs.Refusal.{Outcome, refused, accepted}
+use Rattle.meaning.specs.Table.{Characters, Table}
+use Rattle.meaning.specs.Meaning.{convert, meaningText, meaningPlace}
+use Rattle.meaning.specs.Samples.{characters, t1, t2}
+use Rattle.automaton.specs.Layout.{wordCount}
+use Rattle.automaton.specs.Compile.{compile}
+use Rattle.automaton.specs.Claims.{KeepsCompiling}
+use Rattle.reckoning.specs.Machine.{Status, Open, Closed, Stopped}
+use Rattle.reckoning.specs.Session.{Session, consumed}
+use Rattle.reckoning.specs.Calls.{Answer}
+use Rattle.reckoning.specs.Reckoning.{Call, ofFeed, ofFinish, Served, unserved, serve, Input, noInput, ran, reckon}
+use Rattle.reckoning.specs.Claims.{isStopped, Agrees}
+
+-- calls of a table's machine, and what becomes of them; the input that they make, and whether Definition 7 reaches its end
+pub record Case : Type 0 where
+  pub table : List ℕ
+  pub calls : List Call
+  pub answers : List (Outcome Answer)
+  pub output : String
+  pub session : Session
+  pub input : String
+  pub ended : Bool
+  pub closed : Bool
+
+abbrev pub servedAs : Case → Served
+servedAs x = record { answers = x .answers; output = characters (x .output); session = x .session }
+
+abbrev pub inputAs : Case → Input
+inputAs x = record { answers = x .answers; characters = characters (x .input); ended = x .ended }
+
+-- the case is as the definitions say, whatever buffer the table is compiled into
+pub record Holds (x : Case) : Type 0 where
+  pub read : Table
+  pub keeps : KeepsCompiling (x .table) read
+  pub serves : (buffer : List ℕ) → wordCount ≤ length buffer → serve (compile (x .table) buffer .words) (x .calls) unserved ≡ servedAs x
+  pub reckons : reckon read (x .calls) noInput ≡ inputAs x
+  -- demand 3, of these values
+  pub agrees : Agrees read (x .calls) (servedAs x) (inputAs x) (ran read (characters (x .input)) (x .ended))
+  -- a finish was accepted, or a feed has stopped the session, as the fields `text`, `closed` and `stopped` of the demand ask
+  pub over : T (x .ended || isStopped (x .session .status))
+  pub text : meaningText read (characters (x .input)) ≡ characters (x .output)
+  pub closes : convert read (characters (x .input)) .closed ≡ x .closed
+  pub place : meaningPlace read (characters (x .input)) ≡ consumed (x .session)
+
+abbrev answer : ℕ → Status → Outcome Answer
+answer count status = accepted (record { count = count; status = status })
+
+-- a feed and a finish with so much room
+abbrev feedOf : String → ℕ → Call
+feedOf text room = ofFeed (characters text) (pad room [])
+
+abbrev finishOf : ℕ → Call
+finishOf room = ofFinish (pad room [])
+
+-- a session with nothing held: status, received, produced, steps
+abbrev idle : Status → ℕ → ℕ → ℕ → Session
+idle status received produced steps =
+    record { status = status; state = 0; held = pad 8 []; count = 0; received = received; produced = produced; steps = steps }
+
+-- "With T1 below and input `A&#38;` ... it prints 0041 0026 end 6 10", in two pieces that part a pattern: E is 5, and two characters are
+-- held between them.
+unfoldable pub closing : Case
+closing =
+    record {
+      table = t1;
+      calls = feedOf "A&#" 15 ∷ feedOf "38;" 25 ∷ finishOf 0 ∷ [];
+      answers = answer 1 Open ∷ answer 1 Open ∷ answer 0 Closed ∷ [];
+      output = "A&";
+      session = idle Closed 6 2 10;
+      input = "A&#38;";
+      ended = true;
+      closed = true;
+    }
+
+-- T2's line "ab", with "Y", stopped, 1 and 4: one character is held, so the second piece asks for room 2, and what comes after the stop is
+-- refused.
+unfoldable pub stopping : Case
+stopping =
+    record {
+      table = t2;
+      calls = feedOf "a" 1 ∷ feedOf "b" 1 ∷ feedOf "b" 2 ∷ finishOf 0 ∷ [];
+      answers = answer 0 Open ∷ refused 15 ∷ answer 1 Stopped ∷ refused 13 ∷ [];
+      output = "Y";
+      session = idle Stopped 1 1 4;
+      input = "ab";
+      ended = false;
+      closed = false;
+    }
+
+-- "the same for every input that begins with this one", of T2
+unfoldable pub Firm : Table → Type 0
+Firm t =
+    (more : List ℕ) → Characters more → (ended : Bool) →
+    let input = characters "ab" ++ more in
+    (meaningText t input ≡ characters "Y") × (meaningPlace t input ≡ 1) × (ran t input ended .final .steps ≡ 4)
+
+unfoldable pub Instances : Type 0
+Instances = Holds closing × ((h : Holds stopping) × Firm (h .read))

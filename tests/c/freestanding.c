@@ -1,0 +1,57 @@
+/*
+ * The library without a C library: linked with `-nostdlib -ffreestanding`, and
+ * with memcpy and memset alone beside it. Ends with 0 if T2 (anchored `a` writes
+ * X, `a` writes Y) makes YX of `aa`, in 5 steps.
+ */
+#include "cobbletwill.h"
+
+void *memcpy(void *restrict to, const void *restrict from, size_t length) {
+    unsigned char *at = to;
+    const unsigned char *of = from;
+    while (length-- > 0) {
+        *at++ = *of++;
+    }
+    return to;
+}
+
+void *memset(void *to, int byte, size_t length) {
+    unsigned char *at = to;
+    while (length-- > 0) {
+        *at++ = (unsigned char)byte;
+    }
+    return to;
+}
+
+static const uint8_t table[] = {
+    1, 1, 1, 0, 0, 0, 0, 0, 2, 0, 0, 0, 'a', 0, 'a', 0, 3, 0, 0, 0, 'X', 0, 0, 0,
+    1, 1, 0, 0, 0, 0, 0, 0, 2, 0, 0, 0, 'a', 0, 'a', 0, 3, 0, 0, 0, 'Y', 0, 0, 0,
+};
+static uint16_t words[COBBLETWILL_WORDS];
+
+static int run(void) {
+    static const uint16_t text[] = {'a', 'a'};
+    uint16_t output[4];
+    uint64_t first = 0, rest = 0;
+    cobbletwill_session session = COBBLETWILL_FRESH;
+    if (cobbletwill_compile(table, sizeof table, words, COBBLETWILL_WORDS) != COBBLETWILL_OK) {
+        return 1;
+    }
+    if (cobbletwill_feed(words, COBBLETWILL_WORDS, &session, text, 2, output, 4, &first) != COBBLETWILL_OPEN) {
+        return 2;
+    }
+    if (cobbletwill_finish(words, COBBLETWILL_WORDS, &session, output + first, 4 - first, &rest) != COBBLETWILL_OK) {
+        return 3;
+    }
+    if (first != 1 || rest != 1 || output[0] != 'Y' || output[1] != 'X') {
+        return 4;
+    }
+    return session.tally.steps == 5 ? 0 : 5;
+}
+
+/* Linux's exit; the stack is aligned as at a call. */
+__attribute__((noreturn, force_align_arg_pointer)) void _start(void) {
+    long number = 60, status = run();
+    for (;;) {
+        __asm__ volatile("syscall" : : "a"(number), "D"(status) : "rcx", "r11", "memory");
+    }
+}

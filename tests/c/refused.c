@@ -1,0 +1,238 @@
+/*
+ * A refused call changes nothing. Each is made twice: on writable memory, of which
+ * every byte is compared afterwards, and on memory that can only be read, where a
+ * write of the same value would be a fault.
+ */
+#define _GNU_SOURCE
+#include <signal.h>
+#include <stdbool.h>
+#include <sys/mman.h>
+#include <unistd.h>
+
+#include "cobbletwill.h"
+#include "expect.h"
+#include "tables.h"
+
+enum { ROOM = 32, BEYOND = 3 };
+
+/* All that a call may write, and the words, which compile writes. */
+struct lent {
+    uint8_t before[8];
+    cobbletwill_session session;
+    uint64_t place, written;
+    uint16_t output[ROOM];
+    uint16_t words[COBBLETWILL_WORDS + BEYOND];
+    uint8_t after[8];
+};
+
+static struct lent *lent;
+static int made;
+
+/* `ab` writes two characters, `acc` at the input's end none; the default writes what it took. */
+static const uint8_t table[] = {
+    RULE(2, 0), RANGE(0, 'a', 'a'), RANGE(1, 'b', 'b'), OUTPUT('X'), OUTPUT('Y'),
+    RULE(3, 1), RANGE(0, 'a', 'a'), RANGE(1, 'c', 'c'), RANGE(2, 'c', 'c'),
+    DEFAULT,    OUTPUT(0),          TERM(0, 1),
+};
+
+/* The call that is tried, with its arguments beside those lent. */
+struct call {
+    enum { CHECK, CONVERT, COMPILE, FEED, FINISH } of;
+    const uint8_t *table;
+    size_t table_length;
+    const uint16_t *input;
+    size_t input_length, output_length, words_length;
+};
+
+static uint32_t make(const struct call *call) {
+    made++;
+    switch (call->of) {
+    case CHECK:
+        return cobbletwill_check(call->table, call->table_length);
+    case CONVERT:
+        return cobbletwill_convert(call->table, call->table_length, call->input, call->input_length,
+                                   lent->output, call->output_length, &lent->place, &lent->written);
+    case COMPILE:
+        return cobbletwill_compile(call->table, call->table_length, lent->words, call->words_length);
+    case FEED:
+        return cobbletwill_feed(lent->words, call->words_length, &lent->session, call->input,
+                                call->input_length, lent->output, call->output_length, &lent->written);
+    default:
+        return cobbletwill_finish(lent->words, call->words_length, &lent->session, lent->output,
+                                  call->output_length, &lent->written);
+    }
+}
+
+/* A call is refused by a number, and changes nothing. */
+static void refused(const struct call *call, uint32_t number) {
+    static struct lent found;
+    memcpy(&found, lent, sizeof found);
+    EXPECT(make(call) == number);
+    EXPECT(memcmp(&found, lent, sizeof found) == 0);
+    EXPECT(mprotect(lent, sizeof *lent, PROT_READ) == 0);
+    EXPECT(make(call) == number);
+    EXPECT(mprotect(lent, sizeof *lent, PROT_READ | PROT_WRITE) == 0);
+}
+
+static void on_fault(int signal) {
+    static const char text[] = "refused.c: a refused call wrote memory that can only be read\n";
+    (void)signal;
+    (void)!write(STDERR_FILENO, text, sizeof text - 1);
+    _exit(1);
+}
+
+/* All of it 0x5a, but for the words of the table and a session. */
+static void lend(cobbletwill_session session) {
+    memset(lent, 0x5a, sizeof *lent);
+    EXPECT(cobbletwill_compile(table, sizeof table, lent->words, COBBLETWILL_WORDS) == COBBLETWILL_OK);
+    lent->session = session;
+}
+
+static const cobbletwill_session fresh = COBBLETWILL_FRESH;
+static const uint16_t text[] = {'z', 'z', 'a'};
+static const struct call feed = {FEED, NULL, 0, text, 3, ROOM, COBBLETWILL_WORDS};
+static const struct call finish = {FINISH, NULL, 0, NULL, 0, ROOM, COBBLETWILL_WORDS};
+
+/* The session after a feed of `zza`: two characters written, one held. */
+static cobbletwill_session fed(void) {
+    lend(fresh);
+    EXPECT(make(&feed) == COBBLETWILL_OPEN);
+    EXPECT(lent->written == 2 && lent->session.received == 3 && lent->session.held_count == 1);
+    return lent->session;
+}
+
+/* A feed and a finish of a session are refused by a number. */
+static void both_refused(cobbletwill_session session, uint32_t number) {
+    lend(session);
+    refused(&feed, number);
+    refused(&finish, number);
+}
+
+/* Each refusal by 12 has the session after `zza` with one thing changed. L is 3
+ * and E is 2; two characters are consumed. */
+static void test_unsound_sessions(void) {
+    const cobbletwill_session sound = fed();
+    cobbletwill_session session;
+#define UNSOUND(change) (session = sound, change, both_refused(session, COBBLETWILL_UNSOUND_SESSION))
+    UNSOUND(session.received = UINT64_C(1099511627777));
+    UNSOUND(session.received = 0);
+    UNSOUND(session.tally.produced = 2 * 2 + 1);
+    UNSOUND(session.tally.steps = (3 + 3) * 2 + 1 + 1);
+    UNSOUND(session.status = 1);
+    UNSOUND(session.status = 2);
+    UNSOUND(session.status = 3);
+    UNSOUND(session.status = 65536);
+    UNSOUND(session.status = UINT32_MAX);
+    UNSOUND(session.state = 0);
+    UNSOUND(session.state = UINT16_MAX);
+    UNSOUND(session.held_count = 0);
+    UNSOUND(session.held_count = 9);
+    UNSOUND(session.held[0] = 'z');
+    UNSOUND(session.held[1] = 1);
+    UNSOUND(session.held[7] = 1);
+#undef UNSOUND
+}
+
+static void test_sessions(void) {
+    const cobbletwill_session open = fed();
+
+    struct call short_words = feed, short_output = feed;
+    lend(open);
+    short_words.words_length = COBBLETWILL_WORDS - 1;
+    refused(&short_words, COBBLETWILL_UNSOUND_WORDS);
+    short_words.of = FINISH;
+    refused(&short_words, COBBLETWILL_UNSOUND_WORDS);
+    lent->words[0] = 0;
+    refused(&feed, COBBLETWILL_UNSOUND_WORDS);
+    refused(&finish, COBBLETWILL_UNSOUND_WORDS);
+
+    cobbletwill_session ended = {3, {2, 7}, 1, 0, 0, {0, 0, 0, 0, 0, 0, 0, 0}};
+    both_refused(ended, COBBLETWILL_ENDED);
+    ended.status = 2;
+    both_refused(ended, COBBLETWILL_ENDED);
+
+    cobbletwill_session full = COBBLETWILL_FRESH;
+    full.received = UINT64_C(1099511627776) - 2;
+    lend(full);
+    refused(&feed, COBBLETWILL_TOO_LONG);
+
+    lend(open);
+    short_output.output_length = 2 * (1 + 3) - 1;
+    refused(&short_output, COBBLETWILL_SHORT_OUTPUT);
+    short_output.of = FINISH;
+    short_output.output_length = 2 * 1 - 1;
+    refused(&short_output, COBBLETWILL_SHORT_OUTPUT);
+}
+
+/* A table that check and convert refuse by a number, and compile too, leaving its words 0. */
+static void table_refused(const uint8_t *bytes, size_t length, uint32_t number) {
+    lend(fresh);
+    const struct call check = {CHECK, bytes, length, NULL, 0, 0, 0};
+    const struct call convert = {CONVERT, bytes, length, text, 3, ROOM, 0};
+    struct call compile = {COMPILE, bytes, length, NULL, 0, 0, COBBLETWILL_WORDS - 1};
+    if (number < COBBLETWILL_CLASSES) {
+        refused(&check, number);
+        refused(&convert, number);
+    }
+    refused(&compile, COBBLETWILL_SHORT_WORDS);
+
+    static struct lent found;
+    memcpy(&found, lent, sizeof found);
+    memset(found.words, 0, COBBLETWILL_WORDS * sizeof found.words[0]);
+    compile.words_length = COBBLETWILL_WORDS + BEYOND;
+    EXPECT(make(&compile) == number);
+    EXPECT(memcmp(&found, lent, sizeof found) == 0);
+}
+
+static void test_tables(void) {
+    static const uint8_t field[] = {0, 0, 0, 0, 0, 0, 0, 0};
+    static const uint8_t place[] = {OUTPUT(1)};
+    static const uint8_t unfilled[] = {RULE(2, 0), RANGE(0, 'a', 'a'), OUTPUT(1)};
+    static const uint8_t no_rule[] = {DEFAULT};
+    static const uint8_t too_many[] = {
+        RULE(1, 0), RANGE(0, 'a', 'a'), OUTPUT(1), OUTPUT(2), OUTPUT(3), OUTPUT(4),
+        OUTPUT(5),  OUTPUT(6),          OUTPUT(7), OUTPUT(8), OUTPUT(9),
+    };
+    static const uint8_t value[] = {RULE(1, 0), RANGE(0, 'a', 'a'), OUTPUT(65536)};
+    table_refused(table, sizeof table - 1, COBBLETWILL_TABLE_LENGTH);
+    table_refused(field, sizeof field, COBBLETWILL_FIELD);
+    table_refused(place, sizeof place, COBBLETWILL_PLACE);
+    table_refused(unfilled, sizeof unfilled, COBBLETWILL_UNFILLED);
+    table_refused(no_rule, sizeof no_rule, COBBLETWILL_NO_RULE);
+    table_refused(too_many, sizeof too_many, COBBLETWILL_TOO_MANY);
+    table_refused(value, sizeof value, COBBLETWILL_VALUE);
+
+    uint8_t large[LARGE_MOST];
+    table_refused(large, put_large(large, 1, 7), COBBLETWILL_CLASSES);
+    table_refused(large, put_large(large, 0, 8), COBBLETWILL_STATES);
+}
+
+/* Refusal 14 takes an input of 2 TiB: addresses without memory, which are not read. */
+static void test_inputs(void) {
+    const struct call short_output = {CONVERT, table, sizeof table, text, 3, 2 * 3 - 1, 0};
+    lend(fresh);
+    refused(&short_output, COBBLETWILL_SHORT_OUTPUT);
+
+    const size_t length = (size_t)UINT64_C(1099511627777);
+    void *addresses = mmap(NULL, 2 * length, PROT_NONE, MAP_PRIVATE | MAP_ANONYMOUS | MAP_NORESERVE, -1, 0);
+    if (addresses == MAP_FAILED) {
+        perror("refused.c: refusal 14 of direct conversion is not tried");
+        return;
+    }
+    const struct call long_input = {CONVERT, table, sizeof table, addresses, length, ROOM, 0};
+    refused(&long_input, COBBLETWILL_TOO_LONG);
+    munmap(addresses, 2 * length);
+}
+
+int main(void) {
+    signal(SIGSEGV, on_fault);
+    signal(SIGBUS, on_fault);
+    lent = mmap(NULL, sizeof *lent, PROT_READ | PROT_WRITE, MAP_PRIVATE | MAP_ANONYMOUS, -1, 0);
+    EXPECT(lent != MAP_FAILED);
+    test_tables();
+    test_inputs();
+    test_sessions();
+    test_unsound_sessions();
+    printf("refused: %d calls\n", made);
+    return 0;
+}

@@ -1,0 +1,162 @@
+/*
+ * The stack of each function, measured on painted stacks under tables at the
+ * limits, is within what the header states. Arguments name functions with the
+ * most stack that their code can take (frames.awk): `NAME BYTES ...`; what is
+ * measured is within that, and that within what the header states.
+ */
+#define _GNU_SOURCE
+#include <stdbool.h>
+#include <ucontext.h>
+
+#include "cobbletwill.h"
+#include "expect.h"
+#include "tables.h"
+
+enum { DEEP = 1 << 13, PIECE = 5001, ROOM = 8 * (8 + PIECE) };
+
+#define PAINT UINT64_C(0xa55aa55aa55aa55a)
+
+/* The stack that calls are made on, in words. */
+static uint64_t stack[DEEP];
+static ucontext_t caller, callee;
+
+static uint8_t table[LARGE_MOST + 9 * RECORD];
+static size_t table_length;
+static uint16_t words[COBBLETWILL_WORDS];
+static uint16_t text[PIECE];
+static uint16_t output[ROOM];
+static uint64_t place, written;
+static cobbletwill_session session;
+static uint32_t answer;
+
+/* The bytes of stack that work takes. */
+static size_t depth(void (*work)(void)) {
+    for (size_t i = 0; i < DEEP; i++) {
+        stack[i] = PAINT;
+    }
+    EXPECT(getcontext(&callee) == 0);
+    callee.uc_stack.ss_sp = stack;
+    callee.uc_stack.ss_size = sizeof stack;
+    callee.uc_link = &caller;
+    makecontext(&callee, work, 0);
+    EXPECT(swapcontext(&caller, &callee) == 0);
+    size_t clean = 0;
+    while (clean < DEEP && stack[clean] == PAINT) {
+        clean++;
+    }
+    EXPECT(clean > 0);
+    return sizeof stack - clean * sizeof stack[0];
+}
+
+/* Each function is called through a pointer, so that a function with the same
+ * parameters that takes no more than its return address can stand in for it. */
+#define SUBJECT(name, parameters, arguments)                                \
+    static uint32_t none_##name parameters { return 0; }                    \
+    static uint32_t (*volatile the_##name) parameters = none_##name;        \
+    static void call_##name(void) { answer = the_##name arguments; }        \
+    static size_t depth_##name(void) {                                      \
+        the_##name = none_##name;                                           \
+        size_t without = depth(call_##name);                                \
+        the_##name = cobbletwill_##name;                                    \
+        return depth(call_##name) - without + 8;                            \
+    }
+
+#pragma GCC diagnostic push
+#pragma GCC diagnostic ignored "-Wunused-parameter"
+SUBJECT(check, (const uint8_t *t, size_t tl), (table, table_length))
+SUBJECT(convert,
+        (const uint8_t *t, size_t tl, const uint16_t *i, size_t il, uint16_t *o, size_t ol, uint64_t *p, uint64_t *w),
+        (table, table_length, text, PIECE, output, ROOM, &place, &written))
+SUBJECT(compile, (const uint8_t *t, size_t tl, uint16_t *w, size_t wl),
+        (table, table_length, words, COBBLETWILL_WORDS))
+SUBJECT(is_sound, (const uint16_t *w, size_t wl), (words, COBBLETWILL_WORDS))
+SUBJECT(feed,
+        (const uint16_t *w, size_t wl, cobbletwill_session *s, const uint16_t *p, size_t pl, uint16_t *o, size_t ol,
+         uint64_t *n),
+        (words, COBBLETWILL_WORDS, &session, text, PIECE, output, ROOM, &written))
+SUBJECT(finish, (const uint16_t *w, size_t wl, cobbletwill_session *s, uint16_t *o, size_t ol, uint64_t *n),
+        (words, COBBLETWILL_WORDS, &session, output, ROOM, &written))
+#pragma GCC diagnostic pop
+
+/* A function's name, the stack that it may take, and the most that was measured. */
+static struct subject {
+    const char *name;
+    size_t limit, measured;
+} subjects[] = {
+    {"cobbletwill_check", COBBLETWILL_STACK_CHECK, 0},
+    {"cobbletwill_convert", COBBLETWILL_STACK_CONVERT, 0},
+    {"cobbletwill_compile", COBBLETWILL_STACK_COMPILE, 0},
+    {"cobbletwill_is_sound", COBBLETWILL_STACK_IS_SOUND, 0},
+    {"cobbletwill_feed", COBBLETWILL_STACK_FEED, 0},
+    {"cobbletwill_finish", COBBLETWILL_STACK_FINISH, 0},
+};
+
+enum { SUBJECTS = sizeof subjects / sizeof subjects[0] };
+
+static void note(int subject, size_t bytes, uint32_t expected) {
+    EXPECT(answer == expected);
+    if (bytes > subjects[subject].measured) {
+        subjects[subject].measured = bytes;
+    }
+}
+
+/* Every function under the table, on a text that ends in the middle of a pattern. */
+static void measure(void) {
+    const cobbletwill_session fresh = COBBLETWILL_FRESH;
+    session = fresh;
+    note(0, depth_check(), COBBLETWILL_OK);
+    note(1, depth_convert(), COBBLETWILL_OK);
+    note(2, depth_compile(), COBBLETWILL_OK);
+    note(3, depth_is_sound(), 1);
+    note(4, depth_feed(), COBBLETWILL_OPEN);
+    EXPECT(session.held_count > 0);
+    note(5, depth_finish(), COBBLETWILL_OK);
+}
+
+/* 64 classes and 256 states, and a default that writes eight characters. */
+static void put_table(void) {
+    table_length = put_large(table, 0, 7);
+    const uint8_t head[] = {DEFAULT};
+    memcpy(table + table_length, head, sizeof head);
+    table_length += sizeof head;
+    for (int i = 0; i < 8; i++) {
+        const uint8_t character[] = {OUTPUT('A')};
+        memcpy(table + table_length, character, sizeof character);
+        table_length += sizeof character;
+    }
+}
+
+/* The subject of a name. */
+static struct subject *find(const char *name) {
+    for (int i = 0; i < SUBJECTS; i++) {
+        if (strcmp(subjects[i].name, name) == 0) {
+            return &subjects[i];
+        }
+    }
+    fprintf(stderr, "stack.c: %s has no limit\n", name);
+    exit(1);
+}
+
+int main(int argc, char **argv) {
+    put_table();
+    /* Patterns of eight 0, and one 0 more; then characters of the default, and a 0. */
+    measure();
+    for (size_t i = 0; i < PIECE - 1; i++) {
+        text[i] = 1;
+    }
+    measure();
+
+    bool held = true;
+    for (int i = 0; i < SUBJECTS; i++) {
+        printf("%s: %zu bytes of stack, at most %zu\n", subjects[i].name, subjects[i].measured, subjects[i].limit);
+        held = held && subjects[i].measured <= subjects[i].limit;
+    }
+    EXPECT(argc == 1 + 2 * SUBJECTS);
+    for (int i = 1; i < argc; i += 2) {
+        size_t most = strtoul(argv[i + 1], NULL, 10);
+        struct subject *subject = find(argv[i]);
+        printf("%s: %zu bytes by its code\n", argv[i], most);
+        held = held && subject->measured <= most && most <= subject->limit;
+    }
+    return held ? 0 : 1;
+}

@@ -1,0 +1,69 @@
+#!/usr/bin/env bash
+# Runs the examples of docs/FORMAT.md: fenced blocks marked `example`. A block has a table in hexadecimal bytes, what stands behind eight of
+# them on a line being a comment, and then any number of
+#   input TEXT, prints, lines        the program prints these lines
+#   words, lines PLACE WORD          these words of the compiled table are not 0, and no others
+#   feeds TEXT, answers N, bytes     a feed to a fresh session answers so and leaves these bytes
+# usage: tests/format/run.sh [PROGRAM]
+set -euo pipefail
+trap 'echo "format: line $LINENO of $0 failed" >&2' ERR
+cd "$(dirname "$0")/../.."
+
+program=$(realpath "${1:-target/bin/convert}")
+page=docs/FORMAT.md
+out=target/format
+rm -rf "$out"
+mkdir -p "$out"
+cc -std=c11 -Wall -Wextra -Werror -O2 -Iinclude -o "$out/show" tests/format/show.c target/staticlib/libcobbletwill.a
+
+# Each block becomes a folder: the table's bytes, and for each thing that it expects a file with the command's words, and one with the lines.
+awk -v out="$out" '
+    function open_file(name) { if (file != "") close(file); file = name; printf "" > file }
+    /^```example$/ { block = sprintf("%s/%02d", out, ++blocks); system("mkdir " block); count = 0; part = ""; next }
+    /^```/ { block = ""; next }
+    block == "" { next }
+    $1 == "table" { part = "table"; open_file(block "/hex"); next }
+    $1 == "input" || $1 == "feeds" || $1 == "words" {
+        command = block "/" ++count ".command"
+        text = $0
+        sub(/^[a-z]+ ?/, "", text)
+        printf "%s\n%s\n", ($1 == "feeds" ? "session" : $1), text > command
+        close(command)
+        open_file(block "/" count ".lines")
+        part = $1
+        next
+    }
+    $1 == "prints" { next }
+    $1 == "answers" { print $2 > file; next }
+    part == "input" { print > file; next }
+    part == "words" { print $1, $2 > file; next }
+    {
+        line = $1
+        for (i = 2; i <= NF && i <= 8 && $i ~ /^[0-9A-F][0-9A-F]$/; i++) line = line " " $i
+        print line > file
+    }
+' "$page"
+
+examples=0
+for block in "$out"/[0-9]*/; do
+    for byte in $(cat "$block/hex"); do printf "\\x$byte"; done > "$block/rules.tab"
+    for command in "$block"/*.command; do
+        { read -r kind; IFS= read -r text; } < "$command"
+        found=${command%.command}.found
+        case $kind in
+            # From a file: the program doesn't read it where it refuses the table, and a pipe would then break.
+            input)
+                printf %s "$text" > "$block/input"
+                (cd "$block" && "$program" < input) > "$found"
+                ;;
+            words) "$out/show" words "$block/rules.tab" > "$found" ;;
+            session) "$out/show" session "$block/rules.tab" "$text" > "$found" ;;
+        esac
+        diff "${command%.command}.lines" "$found" || { echo "format: example $(basename "$block") of $page, $kind $text: expected and found differ" >&2; exit 1; }
+        examples=$((examples + 1))
+    done
+done
+
+# Every marked block was run, with something to expect.
+[ "$(grep -c '^```example$' "$page")" = "$(find "$out" -name 1.lines -size +0 | wc -l)" ] || { echo "format: a block of $page expects nothing" >&2; exit 1; }
+echo "format: $examples examples of $page as stated"
