@@ -49,13 +49,13 @@ module _ {M : Type 1} (𝓤 : URA M) (D : Declared) (L : LL.Laws D) (κ : Lft) (
 -- the store, where the core says so
 stores-accepted : {M : Type 1} {𝓤 : URA M} {H : Heap 𝓤} {A : Atoms 𝓤} {K : Type 0} {W : Given 𝓤 H A} {Γ : List (Item 𝓤)} → K
     → (D : Declared) (L : LL.Laws D) → Plains (fields D) → {κ : Lft} {q : Share} {γ : GName} (b o : ℕ) (h new : D .D) (accepted : Bool)
-    → {C : Calls 𝓤 H} {Λ : Loops 𝓤 H} {E : Env 𝓤 H} {Q : Post 𝓤 H} {test source : Operand} {place : Place} {rest : Body}
+    → {C : Calls 𝓤 H} {Λ : Loops 𝓤 H} {E : Env 𝓤 H} {Q : Post 𝓤 H} {test source : Operand} {target : Place} {rest : Body}
     → (accepted ≡ false → new ≡ h) → Is (row D) new (LL.vals D L new)
     → Opd K W (Opened 𝓤 D L κ q γ b o h Γ) E test (vbool accepted) → Opd K W (Opened 𝓤 D L κ q γ b o h Γ) E source (LL.val D L new)
-    → Finds K W (Opened 𝓤 D L κ q γ b o h Γ) E place (layout (shape D), b, o)
+    → Finds K W (Opened 𝓤 D L κ q γ b o h Γ) E target (layout (shape D), b, o)
     → Step K W (Closed 𝓤 D L κ q γ b o new Γ) (runs C Λ E rest Q)
-    (Opened 𝓤 D L κ q γ b o h Γ) (runs C Λ E (seq (cond test (assign place (rvOpd source)) skip) rest) Q)
-stores-accepted {M} {𝓤} {H} {A} {K} {W} {Γ} t D L plain {κ} {q} {γ} b o h new accepted {C} {Λ} {E} {Q} {test} {source} {place} {rest} kept is tests reads finds = step (λ k.
+    (Opened 𝓤 D L κ q γ b o h Γ) (runs C Λ E (seq (cond test (assign target (rvOpd source)) skip) rest) Q)
+stores-accepted {M} {𝓤} {H} {A} {K} {W} {Γ} t D L plain {κ} {q} {γ} b o h new accepted {C} {Λ} {E} {Q} {test} {source} {target} {rest} kept is tests reads finds = step (λ k.
     first t $ branches t tests
     (λ _. assigns-last t (of-opd t reads) finds (store-raw t 0 refl (LL.lawful D L 𝓤 H A W .typed new _ is .0)) $ exec t C Λ E rest Q $
     move t (1 ∷ []) $ drop t $ owned t (row D) (Is (row D)) (LL.makes D plain 𝓤 H A) new (LL.vals D L new) is $ move t (1 ∷ 0 ∷ []) $

@@ -42,6 +42,7 @@ use denote.Triple.Walked.{says, Stays, stay-ref, stay-dropped, gave-ref, gave-sl
 use denote.Triple.Walked.{AllGo, goes-ref, goes-dropped, goes-gave-ref, goes-gave-slice}
 use denote.Exit.{yes}
 use Rattle.cobbletwill.specs.Sessions as Spec
+use Rattle.cobbletwill.specs.bridge.Lent.{Unchanged}
 use Rattle.cobbletwill.specs.declared.sessions.SessionNumbers.{SessionNumbers}
 use Rattle.cobbletwill.specs.declared.sessions.CalledNumbers.{CalledNumbers}
 use Rattle.session.proofs.Laws.Lending.{hands, copies-out, calls-core}
