@@ -46,7 +46,6 @@ use Rattle.cobbletwill.specs.bridge.Lent.{Unchanged}
 use Rattle.cobbletwill.specs.declared.sessions.SessionNumbers.{SessionNumbers}
 use Rattle.cobbletwill.specs.declared.sessions.CalledNumbers.{CalledNumbers}
 use Rattle.session.proofs.Laws.Lending.{hands, copies-out, calls-core}
-use Rattle.cobbletwill.specs.bridge.Lent.{Unchanged}
 use Rattle.cobbletwill.proofs.Laws.Lent.{returned}
 use Rattle.cobbletwill.proofs.sessions.SessionNumbers as T
 use Rattle.cobbletwill.proofs.sessions.SessionNumbers.Laws as T′
