@@ -63,14 +63,13 @@ fn next_state(words: &[u16], state: StateNo, c: u16) -> Path
     ensures { λ r. ⌜ pathOf r ≡ path (fromWords (now (words .entry))) (state .0) (c ∷ []) ⌝ }
 {
     let next = target(words, state, class_of(words, c));
-    let number = next.0;
-    if number == 0 {
+    if next.0 == 0 {
         return Path::Nowhere;
     }
-    if settled(words, StateNo(number)) {
+    if settled(words, next) {
         return Path::Nowhere;
     }
-    Path::To(StateNo(number))
+    Path::To(next)
 }
 
 // Where the first `count` held characters lead.

@@ -1,6 +1,7 @@
 // The rollback machine's run over machine words: the unread characters are those given back and then the piece, seen as one text.
 use crate::kept::Status;
 use words::numbers::ClassNo;
+use words::numbers::DEFAULT_RULE;
 use words::numbers::RuleNo;
 use words::numbers::StateNo;
 use words::read::Accept;
@@ -30,7 +31,6 @@ ghost use Rattle.session.specs.Keeping.{meantStatus};
 ghost use Rattle.automaton.specs.Classes.{classOf};
 ghost use Rattle.words.specs.bridge.Readings.{wordOf};
 ghost use Rattle.session.specs.bridge.Running.{firstOf, Classed, SomewherePlaced, ReadsOn, Passes, Moves, Emit, Back, Between, Halted, Waits, Stands, acceptNow, Fits, Placed, EndsAs, Advances, Beyond};
-use rules::layout::DEFAULT_GROUP;
 
 // A run: the store is the text from `from` on and below `at`; whether it is done, and how.
 pub struct Ran {
@@ -173,11 +173,11 @@ fn write_default(
         ++ blockOutput (blockAt (now (words .entry)) 32) (take 1 (drop place (now (text .entry))))
         ++ drop (count + at (blockAt (now (words .entry)) 32) 2) (now (output .entry)) ⌝ }
 {
-    let number = group_outputs(words, DEFAULT_GROUP);
+    let number = group_outputs(words, DEFAULT_RULE);
     let word = &text[place..place + 1];
     let mut j: usize = 0;
     while j < number {
-        output[count + j] = entry_value(words, DEFAULT_GROUP, j, word);
+        output[count + j] = entry_value(words, DEFAULT_RULE, j, word);
         j += 1;
     }
     count + number
@@ -214,32 +214,32 @@ fn write_defaults<'a>(
     between(from + read, count, steps + 3 * read as u64)
 }
 
-// A group's output for the text from `from` on and below `to` goes to `output` from `count` on; the count after it.
+// A rule's output for the text from `from` on and below `to` goes to `output` from `count` on; the count after it.
 fn emit<'a>(
     words: &[u16],
     given: &'a [u16],
     piece: &'a [u16],
-    group: usize,
+    rule: RuleNo,
     from: usize,
     to: usize,
     output: &mut [u16],
     count: usize,
 ) -> usize
-    requires { ⌜ (wordCount ≤ length (now words)) × (group < 33) × (at (blockAt (now words) group) 2 ≤ 8) ⌝ }
-    requires { ⌜ (from ≤ to) × (to ≤ length (now given ++ now piece)) × (to - from ≤ 8) × (at (blockAt (now words) group) 0 ≡ to - from) ⌝ }
-    requires { ⌜ count + at (blockAt (now words) group) 2 ≤ length (now output) ⌝ }
-    ensures { λ r. ⌜ r ≡ count + at (blockAt (now (words .entry)) group) 2 ⌝ }
+    requires { ⌜ (wordCount ≤ length (now words)) × (rule .0 < 33) × (at (blockAt (now words) (rule .0)) 2 ≤ 8) ⌝ }
+    requires { ⌜ (from ≤ to) × (to ≤ length (now given ++ now piece)) × (to - from ≤ 8) × (at (blockAt (now words) (rule .0)) 0 ≡ to - from) ⌝ }
+    requires { ⌜ count + at (blockAt (now words) (rule .0)) 2 ≤ length (now output) ⌝ }
+    ensures { λ r. ⌜ r ≡ count + at (blockAt (now (words .entry)) (rule .0)) 2 ⌝ }
     ensures { λ _. ⌜ now (output .exit)
         ≡ take count (now (output .entry))
-        ++ blockOutput (blockAt (now (words .entry)) group) (take (to - from) (drop from (now (given .entry) ++ now (piece .entry))))
-        ++ drop (count + at (blockAt (now (words .entry)) group) 2) (now (output .entry)) ⌝ }
+        ++ blockOutput (blockAt (now (words .entry)) (rule .0)) (take (to - from) (drop from (now (given .entry) ++ now (piece .entry))))
+        ++ drop (count + at (blockAt (now (words .entry)) (rule .0)) 2) (now (output .entry)) ⌝ }
 {
     if from >= given.len() {
-        return write_rule(words, group, &piece[from - given.len()..], output, count);
+        return write_rule(words, rule, &piece[from - given.len()..], output, count);
     }
     let mut store = [0u16; 8];
     gather(given, piece, from, to, &mut store);
-    write_rule(words, group, &store, output, count)
+    write_rule(words, rule, &store, output, count)
 }
 
 // The rule that the machine emits where it has read on: before a character without a target, at the input's end, or waiting.
@@ -275,16 +275,7 @@ fn emit_rule<'a>(
     ensures { λ r. ⌜ Beyond run (now (output .entry)) r (now (output .exit)) ⌝ }
 {
     let to = run.at;
-    let written = emit(
-        words,
-        given,
-        piece,
-        rule.0 as usize,
-        run.from,
-        to,
-        output,
-        run.count,
-    );
+    let written = emit(words, given, piece, rule, run.from, to, output, run.count);
     between(to, written, run.steps + 1)
 }
 

@@ -4,3 +4,6 @@ pub struct StateNo(pub u16);
 pub struct ClassNo(pub u16);
 
 pub struct RuleNo(pub u16);
+
+// The default, as "block 32 is the default's".
+pub const DEFAULT_RULE: RuleNo = RuleNo(32);

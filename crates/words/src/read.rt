@@ -97,11 +97,12 @@ pub fn has_default(words: &[u16]) -> bool
 }
 
 // The first character of a class.
-pub fn class_start(words: &[u16], class: usize) -> u16
-    requires { ⌜ (wordCount ≤ length (now words)) × (class < 64) ⌝ }
-    ensures { λ r. ⌜ r ≡ at (now (words .entry)) (classesFrom + class) ⌝ }
+pub fn class_start(words: &[u16], class: ClassNo) -> u16
+    requires { ⌜ (wordCount ≤ length (now words)) × (class .0 < 64) ⌝ }
+    ensures { λ r. ⌜ r ≡ at (now (words .entry)) (classesFrom + class .0) ⌝ }
 {
-    words[CLASSES_FROM + class]
+    let k = class.0 as usize;
+    words[CLASSES_FROM + k]
 }
 
 // The class of a character, by halving: the last start not above it is that of a class from `low` on and below `high`.
@@ -113,7 +114,7 @@ pub fn class_of(words: &[u16], c: u16) -> ClassNo
     let mut high = class_count(words);
     while low + 1 < high {
         let middle = (low + high) / 2;
-        if class_start(words, middle) <= c {
+        if class_start(words, ClassNo(middle as u16)) <= c {
             low = middle;
         } else {
             high = middle;
@@ -198,64 +199,72 @@ pub fn settled(words: &[u16], state: StateNo) -> bool
     go == accept_at_end_word(words, state)
 }
 
-// Word `i` of a group's block.
-fn block_word(words: &[u16], group: usize, i: usize) -> u16
-    requires { ⌜ (wordCount ≤ length (now words)) × (group < 33) × (i < blockSize) ⌝ }
-    ensures { λ r. ⌜ r ≡ at (blockAt (now (words .entry)) group) i ⌝ }
+// Word `i` of a rule's block.
+fn block_word(words: &[u16], rule: RuleNo, i: usize) -> u16
+    requires { ⌜ (wordCount ≤ length (now words)) × (rule .0 < 33) × (i < blockSize) ⌝ }
+    ensures { λ r. ⌜ r ≡ at (blockAt (now (words .entry)) (rule .0)) i ⌝ }
 {
-    words[BLOCKS_FROM + BLOCK * group + i]
+    let block = rule.0 as usize;
+    words[BLOCKS_FROM + BLOCK * block + i]
 }
 
-// K of a group.
-pub fn group_size(words: &[u16], group: usize) -> usize
-    requires { ⌜ (wordCount ≤ length (now words)) × (group < 33) ⌝ }
-    ensures { λ r. ⌜ r ≡ at (blockAt (now (words .entry)) group) 0 ⌝ }
+// K of a rule.
+pub fn group_size(words: &[u16], rule: RuleNo) -> usize
+    requires { ⌜ (wordCount ≤ length (now words)) × (rule .0 < 33) ⌝ }
+    ensures { λ r. ⌜ r ≡ at (blockAt (now (words .entry)) (rule .0)) 0 ⌝ }
 {
-    size(block_word(words, group, 0))
+    size(block_word(words, rule, 0))
 }
 
-// Whether a group is anchored: 1 or 0.
-pub fn group_anchored(words: &[u16], group: usize) -> usize
-    requires { ⌜ (wordCount ≤ length (now words)) × (group < 33) ⌝ }
-    ensures { λ r. ⌜ r ≡ at (blockAt (now (words .entry)) group) 1 ⌝ }
+// Whether a rule is anchored: 1 or 0.
+pub fn group_anchored(words: &[u16], rule: RuleNo) -> usize
+    requires { ⌜ (wordCount ≤ length (now words)) × (rule .0 < 33) ⌝ }
+    ensures { λ r. ⌜ r ≡ at (blockAt (now (words .entry)) (rule .0)) 1 ⌝ }
 {
-    size(block_word(words, group, 1))
+    size(block_word(words, rule, 1))
 }
 
-// How many characters a group writes.
-pub fn group_outputs(words: &[u16], group: usize) -> usize
-    requires { ⌜ (wordCount ≤ length (now words)) × (group < 33) ⌝ }
-    ensures { λ r. ⌜ r ≡ at (blockAt (now (words .entry)) group) 2 ⌝ }
+// How many characters a rule writes.
+pub fn group_outputs(words: &[u16], rule: RuleNo) -> usize
+    requires { ⌜ (wordCount ≤ length (now words)) × (rule .0 < 33) ⌝ }
+    ensures { λ r. ⌜ r ≡ at (blockAt (now (words .entry)) (rule .0)) 2 ⌝ }
 {
-    size(block_word(words, group, 2))
+    size(block_word(words, rule, 2))
 }
 
-// What an entry of a group writes for the group's characters.
-pub fn entry_value(words: &[u16], group: usize, entry: usize, word: &[u16]) -> u16
-    requires { ⌜ (wordCount ≤ length (now words)) × (group < 33) × (entry < 8) ⌝ }
-    requires { ⌜ (length (now word) ≡ at (blockAt (now words) group) 0) × (length (now word) ≤ 8) ⌝ }
-    ensures { λ r. ⌜ r ≡ entryValue (blockAt (now (words .entry)) group) entry (now (word .entry)) ⌝ }
+// What an entry of a rule writes for the rule's characters.
+pub fn entry_value(words: &[u16], rule: RuleNo, entry: usize, word: &[u16]) -> u16
+    requires { ⌜ (wordCount ≤ length (now words)) × (rule .0 < 33) × (entry < 8) ⌝ }
+    requires { ⌜ (length (now word) ≡ at (blockAt (now words) (rule .0)) 0) × (length (now word) ≤ 8) ⌝ }
+    ensures { λ r. ⌜ r ≡ entryValue (blockAt (now (words .entry)) (rule .0)) entry (now (word .entry)) ⌝ }
 {
-    rules::output::entry_value(&words[BLOCKS_FROM..], group, entry, word)
+    rules::output::entry_value(&words[BLOCKS_FROM..], rule.0 as usize, entry, word)
 }
 
-// What a group writes for the first K characters of the store goes to `output` from `count` on; the count after it.
+// What a rule writes for the first K characters of the store goes to `output` from `count` on; the count after it.
 pub fn write_rule(
     words: &[u16],
-    group: usize,
+    rule: RuleNo,
     store: &[u16],
     output: &mut [u16],
     count: usize,
 ) -> usize
-    requires { ⌜ (wordCount ≤ length (now words)) × (group < 33) ⌝ }
-    requires { ⌜ (at (blockAt (now words) group) 0 ≤ 8) × (at (blockAt (now words) group) 2 ≤ 8) ⌝ }
-    requires { ⌜ at (blockAt (now words) group) 0 ≤ length (now store) ⌝ }
-    requires { ⌜ count + at (blockAt (now words) group) 2 ≤ length (now output) ⌝ }
-    ensures { λ r. ⌜ r ≡ count + at (blockAt (now (words .entry)) group) 2 ⌝ }
+    requires { ⌜ (wordCount ≤ length (now words)) × (rule .0 < 33) ⌝ }
+    requires { ⌜ (at (blockAt (now words) (rule .0)) 0 ≤ 8) × (at (blockAt (now words) (rule .0)) 2 ≤ 8) ⌝ }
+    requires { ⌜ at (blockAt (now words) (rule .0)) 0 ≤ length (now store) ⌝ }
+    requires { ⌜ count + at (blockAt (now words) (rule .0)) 2 ≤ length (now output) ⌝ }
+    ensures { λ r. ⌜ r ≡ count + at (blockAt (now (words .entry)) (rule .0)) 2 ⌝ }
     ensures { λ _. ⌜ now (output .exit)
         ≡ take count (now (output .entry))
-        ++ blockOutput (blockAt (now (words .entry)) group) (take (at (blockAt (now (words .entry)) group) 0) (now (store .entry)))
-        ++ drop (count + at (blockAt (now (words .entry)) group) 2) (now (output .entry)) ⌝ }
+        ++ blockOutput (blockAt (now (words .entry)) (rule .0)) (take (at (blockAt (now (words .entry)) (rule .0)) 0) (now (store .entry)))
+        ++ drop (count + at (blockAt (now (words .entry)) (rule .0)) 2) (now (output .entry)) ⌝ }
 {
-    rules::output::write_group(&words[BLOCKS_FROM..], group, store, 0, output, count)
+    rules::output::write_group(
+        &words[BLOCKS_FROM..],
+        rule.0 as usize,
+        store,
+        0,
+        output,
+        count,
+    )
 }

@@ -11,6 +11,7 @@ ghost use Rattle.automaton.specs.Sound.{stateCount, classCount, ruleCount, long
 ghost use Rattle.automaton.specs.Layout.{wordCount};
 use crate::layout::WORDS;
 use crate::numbers::ClassNo;
+use crate::numbers::DEFAULT_RULE;
 use crate::numbers::RuleNo;
 use crate::numbers::StateNo;
 use crate::read::accept_at_end_word;
@@ -28,7 +29,6 @@ use crate::read::longest;
 use crate::read::rule_count;
 use crate::read::state_count;
 use crate::read::target;
-use rules::layout::DEFAULT_GROUP;
 
 fn within(low: usize, high: usize, x: usize) -> bool
     ensures { λ r. ⌜ r ≡ between low high x ⌝ }
@@ -67,13 +67,13 @@ fn starts_sound(words: &[u16]) -> bool
     requires { ⌜ (wordCount ≤ length (now words)) × (classCount (now words) ≤ 64) ⌝ }
     ensures { λ r. ⌜ r ≡ soundStarts (now (words .entry)) ⌝ }
 {
-    if class_start(words, 0) != 0 {
+    if class_start(words, ClassNo(0)) != 0 {
         return false;
     }
     let classes = class_count(words);
     let mut k: usize = 0;
     while k + 1 < classes {
-        if class_start(words, k) >= class_start(words, k + 1) {
+        if class_start(words, ClassNo(k as u16)) >= class_start(words, ClassNo((k + 1) as u16)) {
             return false;
         }
         k += 1;
@@ -82,17 +82,17 @@ fn starts_sound(words: &[u16]) -> bool
 }
 
 // K is at least 1 and at most `most`, anchored at most `anchored`, the output count at most E. Block 32 is the default's.
-fn block_sound(words: &[u16], block: usize, most: usize, anchored: usize) -> bool
-    requires { ⌜ (wordCount ≤ length (now words)) × (block ≤ 32) ⌝ }
-    ensures { λ r. ⌜ r ≡ soundBlock (now (words .entry)) block most anchored ⌝ }
+fn block_sound(words: &[u16], rule: RuleNo, most: usize, anchored: usize) -> bool
+    requires { ⌜ (wordCount ≤ length (now words)) × (rule .0 ≤ 32) ⌝ }
+    ensures { λ r. ⌜ r ≡ soundBlock (now (words .entry)) (rule .0) most anchored ⌝ }
 {
-    if !within(1, most, group_size(words, block)) {
+    if !within(1, most, group_size(words, rule)) {
         return false;
     }
-    if group_anchored(words, block) > anchored {
+    if group_anchored(words, rule) > anchored {
         return false;
     }
-    group_outputs(words, block) <= expansion(words)
+    group_outputs(words, rule) <= expansion(words)
 }
 
 fn rule_blocks_sound(words: &[u16]) -> bool
@@ -103,7 +103,7 @@ fn rule_blocks_sound(words: &[u16]) -> bool
     let most = longest(words);
     let mut rule: usize = 0;
     while rule < rules {
-        if !block_sound(words, rule, most, 1) {
+        if !block_sound(words, RuleNo(rule as u16), most, 1) {
             return false;
         }
         rule += 1;
@@ -119,7 +119,7 @@ fn blocks_sound(words: &[u16]) -> bool
         return false;
     }
     if has_default(words) {
-        return block_sound(words, DEFAULT_GROUP, 1, 0);
+        return block_sound(words, DEFAULT_RULE, 1, 0);
     }
     true
 }
@@ -129,11 +129,10 @@ fn names_rule(words: &[u16], depth: u16, rule: RuleNo) -> bool
     requires { ⌜ (wordCount ≤ length (now words)) × (ruleCount (now words) ≤ 32) ⌝ }
     ensures { λ r. ⌜ r ≡ namesRule (now (words .entry)) depth (suc (rule .0)) ⌝ }
 {
-    let block = rule.0 as usize;
-    if block >= rule_count(words) {
+    if rule.0 as usize >= rule_count(words) {
         return false;
     }
-    group_size(words, block) == depth as usize
+    group_size(words, rule) == depth as usize
 }
 
 fn one_deeper(deeper: u16, depth: u16) -> bool
@@ -198,11 +197,11 @@ fn accept_sound(words: &[u16], state: StateNo) -> bool
     if accept == 0 {
         return true;
     }
-    let rule = accept - 1;
-    if !names_rule(words, depth_word(words, state), RuleNo(rule)) {
+    let rule = RuleNo(accept - 1);
+    if !names_rule(words, depth_word(words, state), rule) {
         return false;
     }
-    if group_anchored(words, rule as usize) != 0 {
+    if group_anchored(words, rule) != 0 {
         return false;
     }
     accept_at_end_word(words, state) != 0

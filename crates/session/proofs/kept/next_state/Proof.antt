@@ -20,12 +20,12 @@ reached c =
     c .target .ensures ∙ ap (targetWord (s .words .now) (s .state .0)) (c .before .class-of .ensures)
 
 -- whether it is settled, as the definition has it
-asked : (c : tie.After-settled) → let s = c .before .before .before .before .before .args in
+asked : (c : tie.After-settled) → let s = c .before .before .before .before .before .before .args in
     c .settled .result ≡ settled (fromWords (s .words .now)) (fromWords (s .words .now) .target (s .state .0) (s .c))
 unfolding fromWords
 asked c =
-    let s = c .before .before .before .before .before .args in
-    c .settled .ensures ∙ ap (settled (fromWords (s .words .now))) (reached (c .before .before))
+    let s = c .before .before .before .before .before .before .args in
+    c .settled .ensures ∙ ap (settled (fromWords (s .words .now))) (reached (c .before .before .before))
 
 class-of-requires : tie.Need-class-of-requires
 class-of-requires c κs = search needs
@@ -41,28 +41,28 @@ target-requires c κs =
 
 returns : tie.Need-returns
 returns c =
-    let a = c .before .before .before .before .args in
-    sym (path-unused (fromWords (a .words .now)) (a .state .0) (a .c) (sym (reached (c .before)) ∙ c .if1 .taken))
+    let a = c .before .before .before .before .before .args in
+    sym (path-unused (fromWords (a .words .now)) (a .state .0) (a .c) (sym (reached (c .before .before)) ∙ c .if1 .taken))
 
 settled-requires : tie.Need-settled-requires
 settled-requires c κs =
-    let s = c .before .before .before .before in
+    let s = c .before .before .before .before .before in
     let w = s .args .words .now in
     let h = sound-header w (s .pre .0) in
     let b = sound-good w (s .pre .0) .inside (s .args .state .0) (s .args .c) (s .pre .1) in
-    let e = reached (c .before) in
+    let e = reached (c .before .before) in
     (h .long, omega (arith, h .few-states, b, e))
 
 returns-2 : tie.Need-returns-2
 returns-2 c =
-    let t = c .before .before .before in
+    let t = c .before .before .before .before in
     let a = t .before .before .before .args in
     let m = fromWords (a .words .now) in
     sym (path-settled m (a .state .0) (a .c) (sym (asked (c .before)) ∙ c .if2 .taken))
 
 returns-3 : tie.Need-returns-3
 returns-3 c =
-    let t = c .before .before .before in
+    let t = c .before .before .before .before in
     let a = t .before .before .before .args in
     let m = fromWords (a .words .now) in
     let e = reached t in

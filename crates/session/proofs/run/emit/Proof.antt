@@ -1,4 +1,4 @@
--- `run::emit` meets its contract: the group takes as many characters as there are, from the piece or from a store that holds the text's.
+-- `run::emit` meets its contract: the rule takes as many characters as there are, from the piece or from a store that holds the text's.
 -- Assumes nothing.
 use mathlib.Core.Path.{_≡_, ap, _∙_}
 use mathlib.Core.List.{_++_}
@@ -57,7 +57,7 @@ returns : tie.Need-returns
 returns c =
     let s = c .before .before .before .before .before .before .before .before .before .before in
     let a = s .args in
-    let b = blockAt (a .words .now) (a .group) in
+    let b = blockAt (a .words .now) (a .rule .0) in
     let n = a .from - length (a .given .now) in
     let known = c .before .before .write-rule .ensures in
     let t = c .before .before .before .before .before .if1 .taken in (
@@ -89,7 +89,7 @@ returns-2 : tie.Need-returns-2
 returns-2 c =
     let s = c .before .before .before .before .before .before .before .before .before .before .before .before .before in
     let a = s .args in
-    let b = blockAt (a .words .now) (a .group) in
+    let b = blockAt (a .words .now) (a .rule .0) in
     let g = c .before .before .before .before .before .before in
     let known = c .before .before .write-rule2 .ensures in
     let e = s .pre .1 .0 .3 in (

@@ -19,12 +19,9 @@ use Rattle.session.proofs.run.emit_rule.Tie as tie
 abbrev text : tie.Start → List ℕ
 text s = s .args .given .now ++ s .args .piece .now
 
-cast-emit : tie.Need-cast-emit
-cast-emit c = search needs
-
 emit-requires : tie.Need-emit-requires
 emit-requires c κs =
-    let s = c .before .before .before .before .before .before in
+    let s = c .before .before .before .before .before in
     let w = s .args .words .now in
     let P = s .pre .0 .1 in
     let k = s .pre .1 in
@@ -47,7 +44,7 @@ same-length c = search needs
 returns : tie.Need-returns
 returns c =
     let wrote = c .before .before .before .before .emit .ensures in
-    let s = c .before .before .before .before .before .before .before .before .before .before .before in
+    let s = c .before .before .before .before .before .before .before .before .before .before in
     let a = s .args in
     let between = subst (λ n. Between (a .run .at) n (a .run .steps + 1) (c .between .result)) (wrote .0) (c .between .ensures) in
     emit-moves (a .words .now) (text s) (s .pre .0 .0) (a .run) (a .output .now) (s .pre .0 .1) (c .between .result) (a .rule) _ (s .pre .1) between (wrote .1)
@@ -56,7 +53,6 @@ pub emit-rule-spec : {M : Type 1} → statement M
 emit-rule-spec =
     tie.close
     (tie.spec
-    cast-emit
     emit-requires
     add-between
     between-requires

@@ -9,6 +9,9 @@ use Rattle.words.proofs.read.block_word.Tie as tie
 use Rattle.meaning.specs.Block.{blockSize}
 use Rattle.automaton.specs.Layout.{blocksFrom}
 
+cast-block : tie.Need-cast-block
+cast-block c = search needs
+
 mul-result : tie.Need-mul-result
 mul-result c = search needs
 
@@ -26,10 +29,10 @@ shared-slice-read-result c = search needs
 
 returns : tie.Need-returns
 returns c =
-    let a = c .before .args in
-    sym (getD-drop (blocksFrom + blockSize * a .group) (a .words .now) (a .i) 0)
+    let a = c .before .before .args in
+    sym (getD-drop (blocksFrom + blockSize * a .rule .0) (a .words .now) (a .i) 0)
 
 pub block-word-spec : {M : Type 1} → statement M
 block-word-spec =
     tie.close
-    (tie.spec mul-result add-result add-result-2 mul-result-2 shared-slice-read-result returns)
+    (tie.spec cast-block mul-result add-result add-result-2 mul-result-2 shared-slice-read-result returns)

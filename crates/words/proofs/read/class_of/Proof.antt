@@ -37,6 +37,9 @@ add-loop c = omega arith
 add-middle : tie.Need-add-middle Inv-loop μ-loop
 add-middle c = omega arith
 
+cast-t9 : tie.Need-cast-t9 Inv-loop μ-loop
+cast-t9 c = omega arith
+
 class-start-requires : tie.Need-class-start-requires Inv-loop μ-loop
 class-start-requires c κs = omega arith
 
@@ -56,8 +59,8 @@ loop-again-2 c =
     let i = c .before .before .before .loop .inv in
     (i .0, i .1, omega arith, omega arith, i .4, λ _. omega (arith, c .if1 .left, c .before .class-start .ensures))
 
-cast-t9 : tie.Need-cast-t9 Inv-loop μ-loop
-cast-t9 c = omega arith
+cast-t11 : tie.Need-cast-t11 Inv-loop μ-loop
+cast-t11 c = omega arith
 
 returns : tie.Need-returns Inv-loop μ-loop
 returns c =
@@ -76,10 +79,11 @@ class-of-spec =
     loop-holds
     add-loop
     add-middle
+    cast-t9
     class-start-requires
     loop-less
     loop-again
     loop-less-2
     loop-again-2
-    cast-t9
+    cast-t11
     returns)

@@ -19,12 +19,15 @@ part-write-group-start c = search needs
 part-write-group-end : tie.Need-part-write-group-end
 part-write-group-end c = search needs
 
+cast-write-group : tie.Need-cast-write-group
+cast-write-group c = search needs
+
 write-group-requires : tie.Need-write-group-requires
 write-group-requires c κs =
-    let s = c .before .before .before .before .before in
+    let s = c .before .before .before .before .before .before in
     let a = s .args in
     let w = a .words .now in
-    let g = a .group in
+    let g = a .rule .0 in
     let h = s .pre .0 .1 in
     let small = s .pre .1 .0 in
     let size = sym (blocks-size w g) in
@@ -44,12 +47,12 @@ same-length c = search needs
 
 returns : tie.Need-returns
 returns c =
-    let s = c .before .before .before .before .before .before .before .before in
+    let s = c .before .before .before .before .before .before .before .before .before in
     let a = s .args in
     let w = a .words .now in
     let known = c .before .before .write-group .ensures in (
-      known .0 ∙ ap (λ n. a .count + n) (blocks-count w (a .group)),
-      blocks-written w (a .group) (a .store .now) (a .output .now) _ (a .count) (known .1),
+      known .0 ∙ ap (λ n. a .count + n) (blocks-count w (a .rule .0)),
+      blocks-written w (a .rule .0) (a .store .now) (a .output .now) _ (a .count) (known .1),
     )
 
 pub write-rule-spec : {M : Type 1} → statement M
@@ -59,6 +62,7 @@ write-rule-spec =
     sub-write-group
     part-write-group-start
     part-write-group-end
+    cast-write-group
     write-group-requires
     same-length
     returns)

@@ -29,8 +29,8 @@ accept-word-requires c κs = search needs
 returns : tie.Need-returns
 returns c = sym (unused _ (sym (c .before .accept-word .ensures) ∙ c .if1 .taken))
 
-sub-rule : tie.Need-sub-rule
-sub-rule c = search needs
+sub-names-rule : tie.Need-sub-names-rule
+sub-names-rule c = search needs
 
 depth-word-requires : tie.Need-depth-word-requires
 depth-word-requires c κs = search needs
@@ -40,9 +40,6 @@ names-rule-requires c κs = search needs
 
 returns-2 : tie.Need-returns-2
 returns-2 c = sym (in-use _ (accept-used (c .before .before .before)) ∙ all-stops _ (failed (named (c .before)) (c .if2 .taken)))
-
-cast-group-anchored : tie.Need-cast-group-anchored
-cast-group-anchored c = search needs
 
 group-anchored-requires : tie.Need-group-anchored-requires
 group-anchored-requires c κs =
@@ -81,11 +78,10 @@ accept-sound-spec =
     (tie.spec
     accept-word-requires
     returns
-    sub-rule
+    sub-names-rule
     depth-word-requires
     names-rule-requires
     returns-2
-    cast-group-anchored
     group-anchored-requires
     returns-3
     accept-at-end-word-requires

@@ -14,12 +14,12 @@ use Rattle.words.proofs.sound_words.block_sound.Tie as tie
 -- the first two tests, of the words that were read for them
 sizes : (c : tie.After-within) →
     let a = c .before .before .before .args in
-    c .within .result ≡ between 1 (a .most) (at (blockAt (now (a .words)) (a .block)) 0)
+    c .within .result ≡ between 1 (a .most) (at (blockAt (now (a .words)) (a .rule .0)) 0)
 sizes c = c .within .ensures ∙ ap (between 1 (c .before .before .before .args .most)) (c .before .group-size .ensures)
 
 anchors : (c : tie.After-group-anchored) →
     let a = c .before .before .before .before .before .args in
-    leb (at (blockAt (now (a .words)) (a .block)) 1) (a .anchored) ≡ leb (c .group-anchored .result) (a .anchored)
+    leb (at (blockAt (now (a .words)) (a .rule .0)) 1) (a .anchored) ≡ leb (c .group-anchored .result) (a .anchored)
 anchors c = ap (λ n. leb n (c .before .before .before .before .before .args .anchored)) (sym (c .group-anchored .ensures))
 
 group-size-requires : tie.Need-group-size-requires

@@ -9,8 +9,8 @@ use Rattle.automaton.proofs.Laws.Checking.{names-none, names-one}
 use Rattle.words.proofs.sound_words.names_rule.Statement.{statement}
 use Rattle.words.proofs.sound_words.names_rule.Tie as tie
 
-cast-block : tie.Need-cast-block
-cast-block c = search needs
+cast-if1 : tie.Need-cast-if1
+cast-if1 c = search needs
 
 rule-count-requires : tie.Need-rule-count-requires
 rule-count-requires c κs = search needs
@@ -32,4 +32,4 @@ returns-2 c =
 
 pub names-rule-spec : {M : Type 1} → statement M
 names-rule-spec =
-    tie.close (tie.spec cast-block rule-count-requires returns group-size-requires returns-2)
+    tie.close (tie.spec cast-if1 rule-count-requires returns group-size-requires returns-2)

@@ -39,6 +39,9 @@ longest-requires c κs = omega arith
 loop-holds : tie.Need-loop-holds Inv-loop μ-loop
 loop-holds c = (omega arith, none-below (test (now (c .before .before .before .args .words))))
 
+cast-t6 : tie.Need-cast-t6 Inv-loop μ-loop
+cast-t6 c = omega arith
+
 block-sound-requires : tie.Need-block-sound-requires Inv-loop μ-loop
 block-sound-requires c κs = omega arith
 
@@ -76,6 +79,7 @@ rule-blocks-sound-spec =
     rule-count-requires
     longest-requires
     loop-holds
+    cast-t6
     block-sound-requires
     returns
     add-rule

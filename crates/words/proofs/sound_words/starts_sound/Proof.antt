@@ -42,11 +42,17 @@ loop-holds c = (omega arith, none-below (rises (now (c .before .before .before .
 add-loop : tie.Need-add-loop Inv-loop μ-loop
 add-loop c = omega arith
 
+cast-t10 : tie.Need-cast-t10 Inv-loop μ-loop
+cast-t10 c = omega arith
+
 class-start-requires-2 : tie.Need-class-start-requires-2 Inv-loop μ-loop
 class-start-requires-2 c κs = omega arith
 
-add-class-start : tie.Need-add-class-start Inv-loop μ-loop
-add-class-start c = omega arith
+add-t7 : tie.Need-add-t7 Inv-loop μ-loop
+add-t7 c = omega arith
+
+cast-t13 : tie.Need-cast-t13 Inv-loop μ-loop
+cast-t13 c = omega arith
 
 class-start-requires-3 : tie.Need-class-start-requires-3 Inv-loop μ-loop
 class-start-requires-3 c κs = omega arith
@@ -104,8 +110,10 @@ starts-sound-spec =
     class-count-requires
     loop-holds
     add-loop
+    cast-t10
     class-start-requires-2
-    add-class-start
+    add-t7
+    cast-t13
     class-start-requires-3
     returns-2
     add-k
