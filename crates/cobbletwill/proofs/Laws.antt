@@ -1,3 +1,4 @@
 pub mod Sessions
 pub mod Claims
+pub mod Demand3
 pub mod Lent

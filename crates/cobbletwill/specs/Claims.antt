@@ -1,8 +1,10 @@
 -- What holds of sessions as C holds them: numbers and sessions are the same, and demand 1 for feed and finish.
 use mathlib.Core.List.{List, [], _∷_}
+use mathlib.Core.Logic.{_≢_}
 use mathlib.Core.Path.{_≡_}
 use Prim.Native.Nat.{ℕ, _≤_}
 use lib.Dec.{T, eqb}
+use lib.ListN.{length, drop}
 use Rattle.lists.specs.Lists.{any, pad}
 use Rattle.reckoning.specs.Session.{Session, fresh}
 use Rattle.cobbletwill.specs.Sessions.{sessionFrom, numbersOf, CalledFace, left, feed, finish}
@@ -19,13 +21,19 @@ pub record Faithful : Type 0 where
   pub numbers : (n : SessionNumbers) → n .status ≤ 2 → numbersOf (sessionFrom n) ≡ n
 
 -- Demand 1 for a call that found the numbers n, the buffer and the number written, and came to o: "an accepted answer or one of the numbered
--- refusals"; "every other refusal changes nothing."
+-- refusals"; "every other refusal changes nothing. Words beyond those written stay as found."
 pub record FaceAnswers (n : SessionNumbers) (buffer : List ℕ) (found : ℕ) (o : CalledFace) : Type 0 where
   pub numbered : T (any (eqb (o .answer)) (0 ∷ 64 ∷ 65 ∷ 11 ∷ 12 ∷ 13 ∷ 14 ∷ 15 ∷ []))
   pub unchanged : 11 ≤ o .answer → o .answer ≤ 15 → o ≡ left (o .answer) n buffer found
+  pub beyond : drop (o .written) (o .output) ≡ drop (o .written) buffer
+  pub whole : length (o .output) ≡ length buffer
 
 unfoldable pub FeedsAnswer : Type 0
 FeedsAnswer = (w : List ℕ) (n : SessionNumbers) (piece buffer : List ℕ) (found : ℕ) → FaceAnswers n buffer found (feed w n piece buffer found)
 
 unfoldable pub FinishesAnswer : Type 0
 FinishesAnswer = (w : List ℕ) (n : SessionNumbers) (buffer : List ℕ) (found : ℕ) → FaceAnswers n buffer found (finish w n buffer found)
+
+-- After a finish no session waits for more: it answers closed or stopped, or a refusal.
+unfoldable pub FinishesEnd : Type 0
+FinishesEnd = (w : List ℕ) (n : SessionNumbers) (buffer : List ℕ) (found : ℕ) → finish w n buffer found .answer ≢ 65

@@ -1,4 +1,5 @@
 pub mod Face
 pub mod Sessions
 pub mod Claims
+pub mod Demand3
 pub mod bridge

@@ -1,26 +1,31 @@
--- Sessions as C holds them: numbers and sessions are the same, and demand 1 for feed and finish.
--- Field by field, the status by cases; of a call by cases on its answer, from what the claim about sessions says of it.
+-- Sessions as C holds them: numbers and sessions are the same, demand 1 for feed and finish, and that a finish never answers open.
+-- Field by field, the status by cases; of a call by cases on its answer, from what the claim about sessions says of it; of a finish by the trace of an ended input.
 use mathlib.Core.Bool.{Bool, true, false}
-use mathlib.Core.List.{List, [], _∷_}
-use mathlib.Core.Path.{_≡_, refl, ap, _∙_}
+use mathlib.Core.List.{List, [], _∷_, _++_}
+use mathlib.Core.Logic.{_≢_}
+use mathlib.Core.Path.{_≡_, refl, sym, ap, subst, _∙_}
 use Prim.Native.Nat.{ℕ, zero, suc, _≤_}
 use native.Mathlib.Omega.{arith}
 use lib.Dec.{T, eqb, ltb}
+use lib.ListN.{length, drop}
 use borrow.Author.Tests.{ltb-false}
 use Rattle.lists.specs.Lists.{any, pad}
 use Rattle.lists.proofs.Laws.Tests.{or-right}
 use Rattle.meaning.specs.Refusal.{Outcome, refused, accepted}
 use Rattle.automaton.specs.Sound.{sound}
+use Rattle.automaton.specs.Automaton.{fromWords}
 use Rattle.reckoning.specs.Machine.{Status, Open, Closed, Stopped}
-use Rattle.reckoning.specs.Session.{Session, fresh}
+use Rattle.reckoning.specs.Session.{Session, fresh, store}
 use Rattle.reckoning.specs.Calls as Call
-use Rattle.reckoning.specs.Calls.{Answer, CallOutcome}
+use Rattle.reckoning.specs.Calls.{Answer, CallOutcome, admits, callBy, resumed}
 use Rattle.reckoning.specs.Reckoning.{ofFeed, ofFinish}
 use Rattle.reckoning.specs.Claims.{CallAnswers, CallsAnswer}
-use Rattle.reckoning.proofs.Laws.Answers.{calls-answer}
+use Rattle.reckoning.proofs.Laws.Rounds.{NotOpen, trace-ended}
+use Rattle.reckoning.proofs.Laws.Kept.{call-tells}
+use Rattle.reckoning.proofs.Laws.Answers.{Admits, admission, calls-answer}
 use Rattle.cobbletwill.specs.Sessions.{statusNumber, statusFrom, statusCode, sessionFrom, numbersOf, answerCode, writtenAfter, left, faceOf}
 use Rattle.cobbletwill.specs.Sessions.{noSession, calledBy, feed, finish}
-use Rattle.cobbletwill.specs.Claims.{Faithful, FaceAnswers, FeedsAnswer, FinishesAnswer}
+use Rattle.cobbletwill.specs.Claims.{Faithful, FaceAnswers, FeedsAnswer, FinishesAnswer, FinishesEnd}
 use Rattle.cobbletwill.specs.declared.sessions.SessionNumbers.{SessionNumbers}
 
 status-same : (s : Status) → statusFrom (statusNumber s) ≡ s
@@ -84,6 +89,12 @@ not-refused Open low high = omega arith
 not-refused Closed low high = omega arith
 not-refused Stopped low high = omega arith
 
+-- what is found beyond the characters written, of an outcome with this answer
+beyond-written : (buffer : List ℕ) (found : ℕ) (o : CallOutcome) (s : Session) → CallAnswers s buffer o → (a : Outcome Answer) → o .answer ≡ a →
+    drop (writtenAfter a found) (o .output) ≡ drop (writtenAfter a found) buffer
+beyond-written buffer found o s h (refused k) e = ap (drop found) (h .unchanged k e .1)
+beyond-written buffer found o s h (accepted a) e = h .beyond a e
+
 module _ (w : List ℕ) (n : SessionNumbers) (buffer : List ℕ) (found : ℕ) where
   handed : (o : CallOutcome) → n .status ≤ 2 → CallAnswers (sessionFrom n) buffer o → (a : Outcome Answer) → o .answer ≡ a → FaceAnswers n buffer found (faceOf o found)
   handed o small h (refused k) e =
@@ -91,16 +102,20 @@ module _ (w : List ℕ) (n : SessionNumbers) (buffer : List ℕ) (found : ℕ) w
       record {
         numbered = rw e (refusal-numbered k (rw e at (h .numbered)));
         unchanged = λ low high i. left (answerCode (o .answer)) ((ap numbersOf (same .0) ∙ numbers-same n small) i) (same .1 i) (writtenAfter (e i) found);
+        beyond = beyond-written buffer found o (sessionFrom n) h (o .answer) refl;
+        whole = h .whole;
       }
   handed o small h (accepted a) e =
       record {
         numbered = rw e (status-numbered (a .status));
         unchanged = λ low high. absurd (not-refused (a .status) (rw e at low) (rw e at high));
+        beyond = beyond-written buffer found o (sessionFrom n) h (o .answer) refl;
+        whole = h .whole;
       }
 
   face-answers : (call : Session → CallOutcome) → ((s : Session) → CallAnswers s buffer (call s)) → (above : Bool) → ltb 2 (n .status) ≡ above
       → FaceAnswers n buffer found (calledBy call w n buffer found)
-  face-answers call h true e = rw e (record { numbered = no-session-numbered (sound w); unchanged = λ low high. refl })
+  face-answers call h true e = rw e (record { numbered = no-session-numbered (sound w); unchanged = λ low high. refl; beyond = refl; whole = refl })
   face-answers call h false e = rw e (handed (call (sessionFrom n)) (ltb-false 2 (n .status) e) (h (sessionFrom n)) _ refl)
 
 -- DEMAND 1, for feed and finish through the C face
@@ -112,3 +127,36 @@ feeds-answer w n piece buffer found = face-answers w n buffer found (λ s. Call.
 pub finishes-answer : FinishesAnswer
 unfolding FinishesAnswer CallsAnswer finish
 finishes-answer w n buffer found = face-answers w n buffer found (λ s. Call.finish w s buffer) (λ s. calls-answer w s (ofFinish buffer)) _ refl
+
+-- A FINISH NEVER ANSWERS OPEN
+
+ended-code : (s : Status) → NotOpen s → statusCode s ≢ 65
+ended-code Open k e = k
+ended-code Closed k e = omega arith
+ended-code Stopped k e = omega arith
+
+low-number : (k : ℕ) → T (any (eqb k) (11 ∷ 12 ∷ 13 ∷ 14 ∷ 15 ∷ [])) → k ≢ 65
+low-number k h e = subst (λ n. T (any (eqb n) (11 ∷ 12 ∷ 13 ∷ 14 ∷ 15 ∷ []))) e h
+
+no-session-code : (soundWords : Bool) → noSession soundWords ≢ 65
+no-session-code true e = omega arith
+no-session-code false e = omega arith
+
+-- the run of an admitted finish is the trace of an ended input, which does not wait
+finish-ends : (w : List ℕ) (s : Session) (buffer : List ℕ) (o : Outcome (Unit {0})) → Admits w s 0 (length buffer) o →
+    answerCode (callBy o (fromWords w) s [] true buffer .answer) ≢ 65
+finish-ends w s buffer (refused k) h = low-number k h
+finish-ends w s buffer (accepted u) h =
+    let tells = call-tells w (h .sound-words) s [] true (h .sound-session) (h .passed .0) in
+    ended-code (resumed (fromWords w) s [] true .status) (subst NotOpen (sym (tells .status)) (trace-ended (fromWords w) 0 (store s ++ [])))
+
+face-ends : (w : List ℕ) (n : SessionNumbers) (buffer : List ℕ) (found : ℕ) (above : Bool) → ltb 2 (n .status) ≡ above →
+    calledBy (λ s. Call.finish w s buffer) w n buffer found .answer ≢ 65
+unfolding Call.finish
+face-ends w n buffer found true e = rw e (no-session-code (sound w))
+face-ends w n buffer found false e =
+    rw e (finish-ends w (sessionFrom n) buffer (admits w (sessionFrom n) 0 (length buffer)) (admission w (sessionFrom n) 0 (length buffer)))
+
+pub finishes-end : FinishesEnd
+unfolding FinishesEnd finish
+finishes-end w n buffer found = face-ends w n buffer found _ refl
