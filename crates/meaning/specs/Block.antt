@@ -16,7 +16,7 @@ abbrev pub bit : Bool → ℕ
 bit true = 1
 bit false = 0
 
--- an entry: "a constant and eight coefficients by position"
+-- the words of an entry: "a constant and eight coefficients by position"
 abbrev pub entrySize : ℕ
 entrySize = 9
 
@@ -28,8 +28,9 @@ blockSize = 3 + 8 * entrySize
 abbrev pub blocksSize : ℕ
 blocksSize = 33 * blockSize
 
+-- an output character's entry
 unfoldable pub entry : Output → List ℕ
-entry (sum c ks) = word c ∷ pad 8 (map word ks)
+entry (sum c ks) = word c ∷ pad (entrySize - 1) (map word ks)
 
 -- "unused words are 0"
 unfoldable pub block : Group → List ℕ

@@ -2,7 +2,7 @@
 -- A sum modulo 65536 differs from the signed sum by a multiple of 65536; below 65536 that leaves one number.
 use mathlib.Core.List.{List, [], _∷_, map}
 use mathlib.Core.Path.{_≡_, refl, sym, ap, ap₂, _∙_}
-use Prim.Native.Nat.{ℕ, zero, suc, _+_, _*_, _/_, _%_, _≤_, _<_}
+use Prim.Native.Nat.{ℕ, zero, suc, _+_, _*_, _/_, _%_, _≤_, _<_, _-_}
 use native.Mathlib.Nat.{mul-zero, mul-suc, zero-mul, zero-add, add-zero, add-comm}
 use native.Mathlib.Omega.{arith}
 use borrow.Author.Tests.{le-ltb}
@@ -120,9 +120,9 @@ sum-reads v xs ys (c ∷ w) h e =
 
 -- the words of a block
 
-pub length-entry : (o : Output) → length (entry o) ≡ 9
+pub length-entry : (o : Output) → length (entry o) ≡ entrySize
 unfolding entry
-length-entry (sum c ks) = ap suc (length-pad 8 (map word ks))
+length-entry (sum c ks) = ap suc (length-pad (entrySize - 1) (map word ks))
 
 pub length-block : (g : Group) → length (block g) ≡ blockSize
 unfolding block
@@ -141,7 +141,7 @@ unfolding block
 block-count g = getD-pad blockSize _ 2 (omega arith)
 
 -- word j of the entry of output i
-pub block-entry : (g : Group) (i j : ℕ) (d : Output) → length (g .outputs) ≤ 8 → i < length (g .outputs) → j < 9 →
+pub block-entry : (g : Group) (i j : ℕ) (d : Output) → length (g .outputs) ≤ 8 → i < length (g .outputs) → j < entrySize →
     at (block g) (3 + entrySize * i + j) ≡ at (entry (getD (g .outputs) i d)) j
 unfolding block
 block-entry g i j d few h k =
@@ -150,11 +150,11 @@ block-entry g i j d few h k =
     ap (at (block g)) place
     ∙ getD-pad blockSize _ (3 + (entrySize * i + j)) (omega arith)
     ∙ getD-append-add head (flatMap entry (g .outputs)) (entrySize * i + j) 0
-    ∙ getD-rows entry 9 length-entry (g .outputs) i j d h k
+    ∙ getD-rows entry entrySize length-entry (g .outputs) i j d h k
 
 -- what is written by words that agree, from place n on, with an entry's
 entry-writes : (o : Output) (b w : List ℕ) (n m : ℕ) → m ≡ suc n → length w ≤ 8 → IsCharacter (value o w) →
-    ((j : ℕ) → j < 9 → at b (n + j) ≡ at (entry o) j) → wordSum (at b n) (take (length w) (drop m b)) w ≡ natAbs (value o w)
+    ((j : ℕ) → j < entrySize → at b (n + j) ≡ at (entry o) j) → wordSum (at b n) (take (length w) (drop m b)) w ≡ natAbs (value o w)
 unfolding entry
 entry-writes (sum c ks) b w n m next few h e =
     let xs = take (length w) (drop m b) in
@@ -166,7 +166,7 @@ entry-writes (sum c ks) b w n m next few h e =
     ∙ getD-drop m b j 0
     ∙ ap (at b) place
     ∙ e (suc j) (omega arith)
-    ∙ getD-pad 8 (map word ks) j (omega arith))
+    ∙ getD-pad (entrySize - 1) (map word ks) j (omega arith))
     ∙ exact c ks w h
 
 pub block-writes : (g : Group) (w b : List ℕ) → g .size ≤ 8 → length (g .outputs) ≤ 8 → length w ≡ g .size →

@@ -4,7 +4,7 @@ use mathlib.Core.Bool.{Bool, true, false, _&&_, cond}
 use mathlib.Core.List.{List, [], _∷_, _++_, map}
 use mathlib.Core.Option.{Option, none, some}
 use mathlib.Core.Path.{_≡_, refl, sym, ap, ap₂, subst, _∙_}
-use Prim.Native.Nat.{ℕ, zero, suc, _+_, _*_, _/_, _≤_, _<_}
+use Prim.Native.Nat.{ℕ, zero, suc, _+_, _*_, _/_, _≤_, _<_, _-_}
 use native.Mathlib.Omega.{arith}
 use lib.Dec.{T, lit<}
 use lib.IntN.{ℤ, pos, _+ℤ_, zero-*ℤ}
@@ -115,7 +115,7 @@ noOutput = sum (pos 0) []
 
 entry-word : (o : Output) (i : ℕ) → i < 8 → at (entry o) (suc i) ≡ at (wordsOf o) i
 unfolding entry
-entry-word (sum c ks) i h = getD-pad 8 (map word ks) i h
+entry-word (sum c ks) i h = getD-pad (entrySize - 1) (map word ks) i (omega arith)
 
 entry-constant : (o : Output) → at (entry o) 0 ≡ lowOf o
 unfolding entry
@@ -150,7 +150,7 @@ module _ (t : Table) (k : ℕ) (in-arrays : k < 33) (g : Group) (row : Row t k g
         ap (at (loadedWords t)) e
         ∙ in-block (3 + (entrySize * j + i)) (omega arith)
         ∙ ap (at head) b
-        ∙ getD-rows entry 9 length-entry (g .outputs) j i noOutput inside h
+        ∙ getD-rows entry entrySize length-entry (g .outputs) j i noOutput inside h
 
     low-same : at (loadedWords t) (blockSize * k + 3 + entrySize * j) ≡ lowOf here
     low-same = in-entry 0 (blockSize * k + 3 + entrySize * j) (omega arith) (lit< tt) ∙ entry-constant here

@@ -137,11 +137,11 @@ module _ (p : ℕ) (r : Range) (g : Group) (low : p ≤ length (g .ranges)) (hig
 abbrev pub entryRow : Output → List ℕ
 entryRow (sum c ks) = word c ∷ map word ks
 
-entry-pad : (o : Output) → entry o ≡ pad 9 (entryRow o)
+entry-pad : (o : Output) → entry o ≡ pad entrySize (entryRow o)
 unfolding entry pad
 entry-pad (sum c ks) = refl
 
-entries-pad : (os : List Output) → flatMap entry os ≡ flatMap (λ o. pad 9 (entryRow o)) os
+entries-pad : (os : List Output) → flatMap entry os ≡ flatMap (λ o. pad entrySize (entryRow o)) os
 entries-pad [] = refl
 entries-pad (o ∷ os) = ap₂ _++_ (entry-pad o) (entries-pad os)
 
@@ -150,9 +150,9 @@ block-parts : (g : Group) → pad blockSize (block g) ≡ g .size ∷ bit (g .an
 unfolding block pad
 block-parts g =
     pad-pad blockSize (g .size ∷ bit (g .anchored) ∷ length (g .outputs) ∷ flatMap entry (g .outputs))
-    ∙ ap (λ l. g .size ∷ bit (g .anchored) ∷ length (g .outputs) ∷ l) (ap (pad 72) (entries-pad (g .outputs)) ∙ pad-rows entryRow entrySize 8 (g .outputs))
+    ∙ ap (λ l. g .size ∷ bit (g .anchored) ∷ length (g .outputs) ∷ l) (ap (pad (8 * entrySize)) (entries-pad (g .outputs)) ∙ pad-rows entryRow entrySize 8 (g .outputs))
 
-entry-single : (z : ℤ) → pad 9 (entryRow (sum z [])) ≡ set (pad 9 []) 0 (word z)
+entry-single : (z : ℤ) → pad entrySize (entryRow (sum z [])) ≡ set (pad entrySize []) 0 (word z)
 unfolding pad
 entry-single z = refl
 
@@ -167,8 +167,8 @@ block-output z g h =
     ∙ ap₂ (λ n l. g .size ∷ bit (g .anchored) ∷ n ∷ l) (length-append os (sum z [] ∷ []))
     (ap (λ l. joined entrySize (fill [] 8 l)) (map-append entryRow os (sum z [] ∷ []))
     ∙ ap (joined entrySize) (fill-snoc [] 8 (map entryRow os) (entryRow (sum z [])) (rw length-map h) ∙ ap (λ k. set (fill [] 8 (map entryRow os)) k (entryRow (sum z []))) (length-map entryRow os))
-    ∙ joined-set 9 (fill [] 8 (map entryRow os)) o (entryRow (sum z [])) ((0, word z) ∷ []) (rw length-fill h) (omega arith, tt)
-    (entry-single z ∙ ap (λ l. set (pad 9 l) 0 (word z)) (sym (ap (λ k. getD (fill [] 8 (map entryRow os)) k []) (sym (length-map entryRow os)) ∙ fill-after [] 8 (map entryRow os))))
+    ∙ joined-set entrySize (fill [] 8 (map entryRow os)) o (entryRow (sum z [])) ((0, word z) ∷ []) (rw length-fill h) (omega arith, tt)
+    (entry-single z ∙ ap (λ l. set (pad entrySize l) 0 (word z)) (sym (ap (λ k. getD (fill [] 8 (map entryRow os)) k []) (sym (length-map entryRow os)) ∙ fill-after [] 8 (map entryRow os))))
     ∙ ap (λ k. set rest k (word z)) (add-zero (entrySize * o)))
     ∙ sym (set-past (g .size ∷ bit (g .anchored) ∷ (o + 1) ∷ []) rest (entrySize * o) (word z))
     ∙ ap (λ l. set (set l 2 (o + 1)) (3 + entrySize * o) (word z)) (sym (block-parts g))
@@ -184,9 +184,9 @@ pad-place (suc n) (c ∷ ks) zero z h k = absurd (omega arith)
 pad-place (suc n) (c ∷ ks) (suc p) z h k =
     ap (λ m. word c ∷ pad n (map word (ks ++ replicate m (pos 0) ++ (z ∷ [])))) (suc-sub-suc p (length ks)) ∙ ap (λ l. word c ∷ l) (pad-place n ks p z (omega arith) (omega arith))
 
-entry-term : (p : ℕ) (z : ℤ) (o : Output) → p < 8 → reach o ≤ p → pad 9 (entryRow (addTerm p z o)) ≡ set (pad 9 (entryRow o)) (suc p) (word z)
+entry-term : (p : ℕ) (z : ℤ) (o : Output) → p < 8 → reach o ≤ p → pad entrySize (entryRow (addTerm p z o)) ≡ set (pad entrySize (entryRow o)) (suc p) (word z)
 unfolding pad
-entry-term p z (sum c ks) h k = ap (λ l. word c ∷ l) (pad-place 8 ks p z k h)
+entry-term p z (sum c ks) h k = ap (λ l. word c ∷ l) (pad-place (entrySize - 1) ks p z k (omega arith))
 
 pub block-term : (p : ℕ) (z : ℤ) (g : Group) → p < 8 → 1 ≤ length (g .outputs) → length (g .outputs) ≤ 8 → reach (lastD (sum (pos 0) []) (g .outputs)) ≤ p →
     pad blockSize (block (changeOutputs (atLast (addTerm p z)) g)) ≡ set (pad blockSize (block g)) (4 + entrySize * pred (length (g .outputs)) + p) (word z)
@@ -198,8 +198,8 @@ block-term p z g h k l m =
     block-parts (changeOutputs (atLast (addTerm p z)) g)
     ∙ ap₂ (λ n l. g .size ∷ bit (g .anchored) ∷ n ∷ l) (atLast-length (addTerm p z) os)
     (ap (joined entrySize) (fill-atLast [] entryRow (addTerm p z) (sum (pos 0) []) 8 os k l)
-    ∙ joined-set 9 (fill [] 8 (map entryRow os)) (pred o) (entryRow (addTerm p z last)) ((suc p, word z) ∷ []) (rw length-fill (omega arith)) (omega arith, tt)
-    (entry-term p z last h m ∙ ap (λ l. set (pad 9 l) (suc p) (word z)) (sym (fill-last [] entryRow (sum (pos 0) []) 8 os k l))))
+    ∙ joined-set entrySize (fill [] 8 (map entryRow os)) (pred o) (entryRow (addTerm p z last)) ((suc p, word z) ∷ []) (rw length-fill (omega arith)) (omega arith, tt)
+    (entry-term p z last h m ∙ ap (λ l. set (pad entrySize l) (suc p) (word z)) (sym (fill-last [] entryRow (sum (pos 0) []) 8 os k l))))
     ∙ sym (set-past (g .size ∷ bit (g .anchored) ∷ o ∷ []) rest (entrySize * pred o + suc p) (word z))
     ∙ ap₂ (λ l i. set l i (word z)) (sym (block-parts g)) same
   where
