@@ -15,6 +15,7 @@ use rules::layout::BLOCK;
 use rules::layout::RANGES_FROM;
 use rules::layout::SLOTS_FROM;
 use words::layout::CLASSES_FROM;
+use words::numbers::RuleNo;
 
 // The place of `start` among the `count` rising words from word 6 on.
 fn place_of(words: &[u16], count: usize, start: u16) -> usize
@@ -109,18 +110,19 @@ fn gather_place(loaded: &[u16], place: usize, words: &mut [u16], count: usize) -
 }
 
 // The edges of a rule's ranges.
-fn gather_rule(loaded: &[u16], rule: usize, words: &mut [u16], count: usize) -> usize
-    requires { ⌜ Flat (now loaded) × (rule < 32) ⌝ }
+fn gather_rule(loaded: &[u16], rule: RuleNo, words: &mut [u16], count: usize) -> usize
+    requires { ⌜ Flat (now loaded) × (rule .0 < 32) ⌝ }
     requires { ⌜ (statesFrom ≤ length (now words)) × (count ≤ 65) ⌝ }
     ensures { λ r.
-        ⌜ Gathers (flatMap (flatMap edges) (patternAt (now (loaded .entry)) rule (at (now (loaded .entry)) (blockSize * rule))))
+        ⌜ Gathers (flatMap (flatMap edges) (patternAt (now (loaded .entry)) (rule .0) (at (now (loaded .entry)) (blockSize * rule .0))))
         (now (words .entry)) count (now (words .exit)) r ⌝ }
 {
-    let size = loaded[BLOCK * rule] as usize;
+    let group = rule.0 as usize;
+    let size = loaded[BLOCK * group] as usize;
     let mut met = count;
     let mut p: usize = 0;
     while p < size {
-        met = gather_place(loaded, 8 * rule + p, words, met);
+        met = gather_place(loaded, 8 * group + p, words, met);
         p += 1;
     }
     met
@@ -135,10 +137,10 @@ pub fn gather_starts(loaded: &[u16], rules: usize, words: &mut [u16]) -> usize
         (now (words .entry)) (now (words .exit)) r ⌝ }
 {
     let mut met: usize = 1;
-    let mut rule: usize = 0;
-    while rule < rules {
+    let mut rule = RuleNo(0);
+    while (rule.0 as usize) < rules {
         met = gather_rule(loaded, rule, words, met);
-        rule += 1;
+        rule.0 += 1;
     }
     met
 }

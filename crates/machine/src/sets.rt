@@ -11,6 +11,7 @@ ghost use Rattle.meaning.specs.bridge.Flat.{Flat, rangesAt, tableAt};
 ghost use Rattle.automaton.specs.States.{firstNumber, longerRules, acceptOf, acceptAtEndOf};
 ghost use Rattle.automaton.specs.bridge.Build.{membersFrom, stateOf};
 use rules::layout::BLOCK;
+use words::numbers::RuleNo;
 
 // The set of all rules.
 pub fn all_rules(rules: usize) -> u32
@@ -18,22 +19,23 @@ pub fn all_rules(rules: usize) -> u32
     ensures { λ r. ⌜ (membersFrom 0 rules r ≡ upTo rules) × (r < 2 ^ rules) ⌝ }
 {
     let mut set: u32 = 0;
-    let mut rule: usize = 0;
-    while rule < rules {
+    let mut count: usize = 0;
+    while count < rules {
         set = 2 * set + 1;
-        rule += 1;
+        count += 1;
     }
     set
 }
 
 // The rule is longer than the depth, and takes the character there.
-fn goes_on(loaded: &[u16], rule: usize, depth: usize, c: u16) -> bool
+fn goes_on(loaded: &[u16], rule: RuleNo, depth: usize, c: u16) -> bool
     requires { ⌜ Flat (now loaded) ⌝ }
-    requires { ⌜ rule < 32 ⌝ }
-    ensures { λ r. ⌜ r ≡ ltb depth (at (now (loaded .entry)) (blockSize * rule)) && inRanges (rangesAt (now (loaded .entry)) (8 * rule + depth)) c ⌝ }
+    requires { ⌜ rule .0 < 32 ⌝ }
+    ensures { λ r. ⌜ r ≡ ltb depth (at (now (loaded .entry)) (blockSize * rule .0)) && inRanges (rangesAt (now (loaded .entry)) (8 * rule .0 + depth)) c ⌝ }
 {
-    if depth < loaded[BLOCK * rule] as usize {
-        return rules::pattern::in_ranges(loaded, 8 * rule + depth, c);
+    let group = rule.0 as usize;
+    if depth < loaded[BLOCK * group] as usize {
+        return rules::pattern::in_ranges(loaded, 8 * group + depth, c);
     }
     false
 }
@@ -49,7 +51,7 @@ pub fn longer_rules(loaded: &[u16], rules: usize, set: u32, depth: usize, c: u16
     let mut longer: u64 = 0;
     let mut weight: u64 = 1;
     let mut rest = set;
-    let mut rule: usize = 0;
+    let mut rule = RuleNo(0);
     while rest > 0 {
         if rest % 2 == 1 {
             if goes_on(loaded, rule, depth, c) {
@@ -58,21 +60,22 @@ pub fn longer_rules(loaded: &[u16], rules: usize, set: u32, depth: usize, c: u16
         }
         weight *= 2;
         rest /= 2;
-        rule += 1;
+        rule.0 += 1;
     }
     longer as u32
 }
 
 // The rule ends at the depth, and where only free rules count it is not anchored.
-fn ends_at(loaded: &[u16], rule: usize, depth: usize, free: bool) -> bool
-    requires { ⌜ (blocksSize ≤ length (now loaded)) × (rule < 32) ⌝ }
-    ensures { λ r. ⌜ r ≡ eqb (at (now (loaded .entry)) (blockSize * rule)) depth && not (free && eqb (at (now (loaded .entry)) (blockSize * rule + 1)) 1) ⌝ }
+fn ends_at(loaded: &[u16], rule: RuleNo, depth: usize, free: bool) -> bool
+    requires { ⌜ (blocksSize ≤ length (now loaded)) × (rule .0 < 32) ⌝ }
+    ensures { λ r. ⌜ r ≡ eqb (at (now (loaded .entry)) (blockSize * rule .0)) depth && not (free && eqb (at (now (loaded .entry)) (blockSize * rule .0 + 1)) 1) ⌝ }
 {
-    if loaded[BLOCK * rule] as usize != depth {
+    let group = rule.0 as usize;
+    if loaded[BLOCK * group] as usize != depth {
         return false;
     }
     if free {
-        return loaded[BLOCK * rule + 1] != 1;
+        return loaded[BLOCK * group + 1] != 1;
     }
     true
 }
@@ -84,15 +87,15 @@ fn lowest_ending(loaded: &[u16], rules: usize, set: u32, depth: usize, free: boo
         ⌜ r ≡ firstNumber (filter (λ k. eqb (at (now (loaded .entry)) (blockSize * k)) depth && not (free && eqb (at (now (loaded .entry)) (blockSize * k + 1)) 1)) (membersFrom 0 rules set)) ⌝ }
 {
     let mut rest = set;
-    let mut rule: usize = 0;
+    let mut rule = RuleNo(0);
     while rest > 0 {
         if rest % 2 == 1 {
             if ends_at(loaded, rule, depth, free) {
-                return (rule + 1) as u16;
+                return rule.0 + 1;
             }
         }
         rest /= 2;
-        rule += 1;
+        rule.0 += 1;
     }
     0
 }

@@ -18,33 +18,35 @@ use words::layout::AT_END_FROM;
 use words::layout::CLASSES_FROM;
 use words::layout::STATES_FROM;
 use words::layout::TARGETS_FROM;
+use words::numbers::ClassNo;
+use words::numbers::StateNo;
 
-// The number of the state with this depth and set, or the count where it is not there yet. The states before `from` have other depths.
+// The number of the state with this depth and set, or the count where it is not there yet. The states up to `after` have other depths.
 fn find_state(
     words: &[u16],
     sets: &[u32],
-    from: usize,
+    after: StateNo,
     count: usize,
     depth: usize,
     set: u32,
-) -> usize
-    requires { ⌜ (from ≤ count) × (count ≤ 256) × (wordCount ≤ length (now words)) × (length (now sets) ≡ 256) ⌝ }
-    requires { ⌜ ((i : ℕ) → i < from → at (now words) (statesFrom + 3 * i) ≡ depth → ⊥) ⌝ }
-    ensures { λ r. ⌜ r ≤ count ⌝ }
+) -> StateNo
+    requires { ⌜ (after .0 < count) × (count ≤ 256) × (wordCount ≤ length (now words)) × (length (now sets) ≡ 256) ⌝ }
+    requires { ⌜ ((i : ℕ) → i < after .0 + 1 → at (now words) (statesFrom + 3 * i) ≡ depth → ⊥) ⌝ }
+    ensures { λ r. ⌜ r .0 ≤ count ⌝ }
     ensures { λ r.
         ⌜ ((n : ℕ) → ((i : ℕ) → i < count → at (now (sets .entry)) i < 2 ^ n) → set < 2 ^ n →
-        r ≡ numberIn (stateOf n depth set) (statesAt (now (words .entry)) (now (sets .entry)) n count)) ⌝ }
+        r .0 ≡ numberIn (stateOf n depth set) (statesAt (now (words .entry)) (now (sets .entry)) n count)) ⌝ }
 {
-    let mut i = from;
+    let mut i = after.0 as usize + 1;
     while i < count {
         if sets[i] == set {
             if words[STATES_FROM + 3 * i] as usize == depth {
-                return i;
+                return StateNo(i as u16);
             }
         }
         i += 1;
     }
-    count
+    StateNo(count as u16)
 }
 
 // Class `class` of a state that accepts nothing: the target is noted, and a state that is met first is added. The new count, or 257.
@@ -54,32 +56,28 @@ fn note_class(
     words: &mut [u16],
     sets: &mut [u32],
     count: usize,
-    state: usize,
-    class: usize,
+    state: StateNo,
+    class: ClassNo,
 ) -> usize
     requires { ⌜ Flat (now loaded) ⌝ }
     requires { ⌜ (let t = tableAt (now loaded) rules false in
-        (rules ≤ 32) × (state < count) × (state < length (states t)) × (class < length (starts t)) × (acceptOf t (getD (states t) state (initial t)) ≡ 0)) ⌝ }
-    requires { ⌜ NotedAt (tableAt (now loaded) rules false) rules (suc state) state class (now words) (now sets) count ⌝ }
+        (rules ≤ 32) × (state .0 < count) × (state .0 < length (states t)) × (class .0 < length (starts t)) × (acceptOf t (getD (states t) (state .0) (initial t)) ≡ 0)) ⌝ }
+    requires { ⌜ NotedAt (tableAt (now loaded) rules false) rules (suc (state .0)) (state .0) (class .0) (now words) (now sets) count ⌝ }
     ensures { λ r.
         ⌜ Onward (tableAt (now (loaded .entry)) rules false)
-        rules (suc state) state (suc class) (now (words .entry)) (now (words .exit)) (now (sets .exit)) r ⌝ }
+        rules (suc (state .0)) (state .0) (suc (class .0)) (now (words .entry)) (now (words .exit)) (now (sets .exit)) r ⌝ }
 {
-    let depth = words[STATES_FROM + 3 * state] as usize;
-    let set = crate::sets::longer_rules(
-        loaded,
-        rules,
-        sets[state],
-        depth,
-        words[CLASSES_FROM + class],
-    );
+    let s = state.0 as usize;
+    let k = class.0 as usize;
+    let depth = words[STATES_FROM + 3 * s] as usize;
+    let set = crate::sets::longer_rules(loaded, rules, sets[s], depth, words[CLASSES_FROM + k]);
     if set == 0 {
         return count;
     }
-    let number = find_state(words, sets, state + 1, count, depth + 1, set);
-    let place = TARGETS_FROM + 64 * state + class;
-    if number != count {
-        words[place] = number as u16;
+    let number = find_state(words, sets, state, count, depth + 1, set);
+    let place = TARGETS_FROM + 64 * s + k;
+    if number.0 as usize != count {
+        words[place] = number.0;
         return count;
     }
     if count == 256 {
@@ -87,7 +85,7 @@ fn note_class(
     }
     words[STATES_FROM + 3 * count] = (depth + 1) as u16;
     sets[count] = set;
-    words[place] = count as u16;
+    words[place] = number.0;
     count + 1
 }
 
@@ -99,24 +97,24 @@ fn note_classes(
     words: &mut [u16],
     sets: &mut [u32],
     count: usize,
-    state: usize,
+    state: StateNo,
 ) -> usize
     requires { ⌜ Flat (now loaded) ⌝ }
     requires { ⌜ (let t = tableAt (now loaded) rules false in
-        (rules ≤ 32) × (classes ≡ length (starts t)) × (state < length (states t)) × (acceptOf t (getD (states t) state (initial t)) ≡ 0)) ⌝ }
-    requires { ⌜ NotedAt (tableAt (now loaded) rules false) rules (suc state) state 0 (now words) (now sets) count ⌝ }
+        (rules ≤ 32) × (classes ≡ length (starts t)) × (state .0 < length (states t)) × (acceptOf t (getD (states t) (state .0) (initial t)) ≡ 0)) ⌝ }
+    requires { ⌜ NotedAt (tableAt (now loaded) rules false) rules (suc (state .0)) (state .0) 0 (now words) (now sets) count ⌝ }
     ensures { λ r.
         ⌜ Onward (tableAt (now (loaded .entry)) rules false)
-        rules (suc state) (suc state) 0 (now (words .entry)) (now (words .exit)) (now (sets .exit)) r ⌝ }
+        rules (suc (state .0)) (suc (state .0)) 0 (now (words .entry)) (now (words .exit)) (now (sets .exit)) r ⌝ }
 {
     let mut total = count;
-    let mut class: usize = 0;
-    while class < classes {
+    let mut class = ClassNo(0);
+    while (class.0 as usize) < classes {
         total = note_class(loaded, rules, words, sets, total, state, class);
         if total > 256 {
             return total;
         }
-        class += 1;
+        class.0 += 1;
     }
     total
 }
@@ -129,22 +127,23 @@ fn note_state(
     words: &mut [u16],
     sets: &mut [u32],
     count: usize,
-    state: usize,
+    state: StateNo,
 ) -> usize
     requires { ⌜ Flat (now loaded) ⌝ }
     requires { ⌜ (let t = tableAt (now loaded) rules false in
-        (rules ≤ 32) × (classes ≡ length (starts t)) × (state < length (states t)) × (state < count)) ⌝ }
-    requires { ⌜ NotedAt (tableAt (now loaded) rules false) rules state state 0 (now words) (now sets) count ⌝ }
+        (rules ≤ 32) × (classes ≡ length (starts t)) × (state .0 < length (states t)) × (state .0 < count)) ⌝ }
+    requires { ⌜ NotedAt (tableAt (now loaded) rules false) rules (state .0) (state .0) 0 (now words) (now sets) count ⌝ }
     ensures { λ r.
         ⌜ Onward (tableAt (now (loaded .entry)) rules false)
-        rules (suc state) (suc state) 0 (now (words .entry)) (now (words .exit)) (now (sets .exit)) r ⌝ }
+        rules (suc (state .0)) (suc (state .0)) 0 (now (words .entry)) (now (words .exit)) (now (sets .exit)) r ⌝ }
 {
-    let depth = words[STATES_FROM + 3 * state] as usize;
-    let set = sets[state];
+    let s = state.0 as usize;
+    let depth = words[STATES_FROM + 3 * s] as usize;
+    let set = sets[s];
     let end = crate::sets::accept_at_end_of(loaded, rules, set, depth);
     let accept = crate::sets::accept_of(loaded, rules, set, depth);
-    words[AT_END_FROM + 3 * state] = end;
-    words[ACCEPT_FROM + 3 * state] = accept;
+    words[AT_END_FROM + 3 * s] = end;
+    words[ACCEPT_FROM + 3 * s] = accept;
     if accept != 0 {
         return count;
     }
@@ -176,13 +175,13 @@ pub fn build_states(
     words[STATES_FROM] = 0;
     sets[0] = crate::sets::all_rules(rules);
     let mut count: usize = 1;
-    let mut state: usize = 0;
-    while state < count {
+    let mut state = StateNo(0);
+    while (state.0 as usize) < count {
         count = note_state(loaded, rules, classes, words, sets, count, state);
         if count > 256 {
             return count;
         }
-        state += 1;
+        state.0 += 1;
     }
     count
 }

@@ -15,15 +15,18 @@ use Rattle.machine.proofs.gather.gather_rule.Statement.{statement}
 use Rattle.machine.proofs.gather.gather_rule.Tie as tie
 
 abbrev Inv-loop : tie.InvT-loop
-Inv-loop loaded rule words₀ count size met₀ p₀ words met p =
-    (p ≤ size) × (length words ≡ length words₀) × Gathers (flatMap (flatMap edges) (tabFrom 0 p (λ j. rangesAt loaded (8 * rule + j)))) words₀ count words met
+Inv-loop loaded words₀ count group size met₀ p₀ words met p =
+    (p ≤ size) × (length words ≡ length words₀) × Gathers (flatMap (flatMap edges) (tabFrom 0 p (λ j. rangesAt loaded (8 * group + j)))) words₀ count words met
 
 abbrev μ-loop : tie.MeasureT-loop
-μ-loop loaded rule words₀ count size met₀ p₀ words met p = size - p
+μ-loop loaded words₀ count group size met₀ p₀ words met p = size - p
 
 -- a rule has at most eight positions
-few : (s : tie.Start Inv-loop μ-loop) → at (s .args .loaded .now) (blockSize * s .args .rule) ≤ 8
-few s = s .pre .0 .0 .size (s .args .rule) (omega arith)
+few : (s : tie.Start Inv-loop μ-loop) → at (s .args .loaded .now) (blockSize * s .args .rule .0) ≤ 8
+few s = s .pre .0 .0 .size (s .args .rule .0) (omega arith)
+
+cast-group : tie.Need-cast-group Inv-loop μ-loop
+cast-group c = search needs
 
 mul-size : tie.Need-mul-size Inv-loop μ-loop
 mul-size c = search needs
@@ -35,7 +38,7 @@ shared-slice-read-size : tie.Need-shared-slice-read-size Inv-loop μ-loop
 shared-slice-read-size c = search needs
 
 cast-size : tie.Need-cast-size Inv-loop μ-loop
-cast-size c = omega (arith, few (c .before .before .before))
+cast-size c = omega (arith, few (c .before .before .before .before))
 
 loop-holds : tie.Need-loop-holds Inv-loop μ-loop
 loop-holds c = search needs
@@ -44,16 +47,16 @@ mul-gather-place : tie.Need-mul-gather-place Inv-loop μ-loop
 mul-gather-place c = search needs
 
 add-gather-place : tie.Need-add-gather-place Inv-loop μ-loop
-add-gather-place c = omega (arith, few (c .before .before .before .before .before))
+add-gather-place c = omega (arith, few (c .before .before .before .before .before .before))
 
 gather-place-requires : tie.Need-gather-place-requires Inv-loop μ-loop
 gather-place-requires c κs =
-    let s = c .before .before .before .before .before .before in
-    let h : 8 * s .args .rule + c .before .before .loop .p < 264 = omega (arith, few s) in
-    ((h, s .pre .0 .0 .long, s .pre .0 .0 .few (8 * s .args .rule + c .before .before .loop .p) h), (search needs, search needs))
+    let s = c .before .before .before .before .before .before .before in
+    let h : 8 * s .args .rule .0 + c .before .before .loop .p < 264 = omega (arith, few s) in
+    ((h, s .pre .0 .0 .long, s .pre .0 .0 .few (8 * s .args .rule .0 + c .before .before .loop .p) h), (search needs, search needs))
 
 add-p : tie.Need-add-p Inv-loop μ-loop
-add-p c = omega (arith, few (c .before .before .before .before .before .before .before .before .before))
+add-p c = omega (arith, few (c .before .before .before .before .before .before .before .before .before .before))
 
 loop-less : tie.Need-loop-less Inv-loop μ-loop
 loop-less c = search needs
@@ -61,8 +64,8 @@ loop-less c = search needs
 loop-again : tie.Need-loop-again Inv-loop μ-loop
 loop-again c =
     let l = c .before .before .before .before .before in
-    let a = l .before .before .before .before .args in
-    (search needs, search needs, gathers-next (flatMap edges) (λ j. rangesAt (a .loaded .now) (8 * a .rule + j)) (l .loop .p) (l .loop .inv .2) (c .before .before .gather-place .ensures))
+    let a = l .before .before .before .before .before .args in
+    (search needs, search needs, gathers-next (flatMap edges) (λ j. rangesAt (a .loaded .now) (8 * a .rule .0 + j)) (l .loop .p) (l .loop .inv .2) (c .before .before .gather-place .ensures))
 
 same-length : tie.Need-same-length Inv-loop μ-loop
 same-length c = search needs
@@ -71,8 +74,8 @@ returns : tie.Need-returns Inv-loop μ-loop
 unfolding patternAt
 returns c =
     let l = c .before in
-    let a = l .before .before .before .before .args in
-    let e : l .loop .p ≡ at (a .loaded .now) (blockSize * a .rule) = search needs in
+    let a = l .before .before .before .before .before .args in
+    let e : l .loop .p ≡ at (a .loaded .now) (blockSize * a .rule .0) = search needs in
     rw e at (l .loop .inv .2)
 
 pub gather-rule-spec : {M : Type 1} → statement M
@@ -81,6 +84,7 @@ gather-rule-spec =
     (tie.spec
     Inv-loop
     μ-loop
+    cast-group
     mul-size
     mul-size-2
     shared-slice-read-size

@@ -8,6 +8,9 @@ use Rattle.machine.proofs.sets.ends_at.Statement.{statement}
 use Rattle.machine.proofs.sets.ends_at.Tie as tie
 use Rattle.meaning.specs.Block.{blockSize}
 
+cast-group : tie.Need-cast-group
+cast-group c = search needs
+
 mul-if1 : tie.Need-mul-if1
 mul-if1 c = search needs
 
@@ -18,7 +21,7 @@ shared-slice-read-if1 : tie.Need-shared-slice-read-if1
 shared-slice-read-if1 c = search needs
 
 cast-if1 : tie.Need-cast-if1
-cast-if1 c = omega (arith, c .shared-slice-known .given (blockSize * c .before .args .rule))
+cast-if1 c = omega (arith, c .shared-slice-known .given (blockSize * c .before .before .args .rule .0))
 
 returns : tie.Need-returns
 returns c = rw (ne-eqb _ _ (c .if1 .taken))
@@ -45,6 +48,7 @@ pub ends-at-spec : {M : Type 1} → statement M
 ends-at-spec =
     tie.close
     (tie.spec
+    cast-group
     mul-if1
     mul-if1-2
     shared-slice-read-if1

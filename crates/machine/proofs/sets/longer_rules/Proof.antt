@@ -11,7 +11,7 @@ use Rattle.machine.proofs.sets.longer_rules.Tie as tie
 
 abbrev Inv-loop : tie.InvT-loop
 Inv-loop loaded rules set depth c longer₀ weight₀ rest₀ rule₀ longer weight rest rule =
-    Built (goesOn loaded depth c) rules set rule rest longer weight
+    Built (goesOn loaded depth c) rules set (rule .0) rest longer weight
 
 abbrev μ-loop : tie.MeasureT-loop
 μ-loop loaded rules set depth c longer₀ weight₀ rest₀ rule₀ longer weight rest rule = rest
@@ -24,16 +24,16 @@ loop-holds : tie.Need-loop-holds Inv-loop μ-loop
 loop-holds c = let s = c .before in built-start (test s) (s .args .rules) (s .args .set) (omega arith)
 
 -- where something is left, there is a rule that it begins with
-rule-left : (c : tie.In-loop Inv-loop μ-loop) → c .before .loop .rule < c .before .before .before .args .rules
+rule-left : (c : tie.In-loop Inv-loop μ-loop) → c .before .loop .rule .0 < c .before .before .before .args .rules
 rule-left c =
     let l = c .before .loop in
-    left-rule (c .before .before .before .args .rules) (l .rule) (l .rest) (l .inv .left) (omega arith)
+    left-rule (c .before .before .before .args .rules) (l .rule .0) (l .rest) (l .inv .left) (omega arith)
 
 weight-small : (c : tie.In-loop Inv-loop μ-loop) → c .before .loop .weight ≤ 4294967296
 weight-small c =
     let l = c .before .loop in
     let h = rule-left c in
-    subst (λ w. w ≤ 4294967296) (sym (l .inv .power)) (power-up-to 32 (l .rule) (omega arith))
+    subst (λ w. w ≤ 4294967296) (sym (l .inv .power)) (power-up-to 32 (l .rule .0) (omega arith))
 
 goes-on-requires : tie.Need-goes-on-requires Inv-loop μ-loop
 goes-on-requires c κs = let h = rule-left (c .before) in (c .before .before .before .before .pre .0, omega arith)
@@ -48,25 +48,25 @@ mul-weight : tie.Need-mul-weight Inv-loop μ-loop
 mul-weight c = omega (arith, weight-small (c .before))
 
 add-rule : tie.Need-add-rule Inv-loop μ-loop
-add-rule c = omega (arith, rule-left (c .before))
+add-rule c = omega (arith, rule-left (c .before .before))
 
 loop-less : tie.Need-loop-less Inv-loop μ-loop
 loop-less c = omega arith
 
 loop-again : tie.Need-loop-again Inv-loop μ-loop
 loop-again c =
-    let l = c .before .before .loop in
-    let s = c .before .before .before .before in
+    let l = c .before .before .before .loop in
+    let s = c .before .before .before .before .before in
     let n = s .args .rules in
-    let h = rule-left (c .before) in
-    let take = built-take (test s) n (s .args .set) (l .rule) (l .rest) (l .longer) (l .weight) h (l .inv) in
-    let skip = built-skip (test s) n (s .args .set) (l .rule) (l .rest) (l .longer) (l .weight) h (l .inv) in
+    let h = rule-left (c .before .before) in
+    let take = built-take (test s) n (s .args .set) (l .rule .0) (l .rest) (l .longer) (l .weight) h (l .inv) in
+    let skip = built-skip (test s) n (s .args .set) (l .rule .0) (l .rest) (l .longer) (l .weight) h (l .inv) in
     ⊎-elim
     (λ w. rw (w .3) (take (w .0 .taken) (sym (w .1 .ensures) ∙ w .2 .taken)))
     (⊎-elim
     (λ w. rw (w .3) (skip (λ o. sym (w .1 .ensures) ∙ w .2 .left)))
     (λ w. rw (w .1) (skip (λ o. absurd (w .0 .left o)))))
-    (c .if1 .came)
+    (c .before .if1 .came)
 
 -- where nothing is left, the set that was built is the one asked for
 built : (c : tie.After-loop Inv-loop μ-loop) →
@@ -76,7 +76,7 @@ built c =
     let s = c .before .before .before in
     let n = s .args .rules in
     let e : l .rest ≡ 0 = omega arith in
-    built-end (test s) n (s .args .set) (l .rule) (l .longer) (l .weight) (subst (λ x. Built (test s) n (s .args .set) (l .rule) x (l .longer) (l .weight)) e (l .inv))
+    built-end (test s) n (s .args .set) (l .rule .0) (l .longer) (l .weight) (subst (λ x. Built (test s) n (s .args .set) (l .rule .0) x (l .longer) (l .weight)) e (l .inv))
 
 cast-result : tie.Need-cast-result Inv-loop μ-loop
 cast-result c =

@@ -20,11 +20,11 @@ use Rattle.automaton.specs.Layout.{statesFrom}
 
 abbrev Inv-loop : tie.InvT-loop
 Inv-loop loaded rules classes words₀ sets₀ count₀ state₀ words sets count state =
-    (state ≤ length (states (tableAt loaded rules false))) × (length sets ≡ length sets₀) × Kept words₀ words
-    × NotedAt (tableAt loaded rules false) rules state state 0 words sets count
+    (state .0 ≤ length (states (tableAt loaded rules false))) × (length sets ≡ length sets₀) × Kept words₀ words
+    × NotedAt (tableAt loaded rules false) rules (state .0) (state .0) 0 words sets count
 
 abbrev μ-loop : tie.MeasureT-loop
-μ-loop loaded rules classes words₀ sets₀ count₀ state₀ words sets count state = 256 - state
+μ-loop loaded rules classes words₀ sets₀ count₀ state₀ words sets count state = 256 - state .0
 
 abbrev entry : tie.At-loop Inv-loop μ-loop → tie.Start Inv-loop μ-loop
 entry l = l .before .before .before .before .before
@@ -58,33 +58,36 @@ loop-holds c =
           (rules-counted (a .loaded .now) (a .rules) false) (c .all-rules .ensures .0) (c .all-rules .ensures .1),
     )
 
+cast-if1 : tie.Need-cast-if1 Inv-loop μ-loop
+cast-if1 c = omega arith
+
 note-state-requires : tie.Need-note-state-requires Inv-loop μ-loop
 note-state-requires c κs =
-    let l = c .before .before .before in
+    let l = c .before .before .before .before in
     let s = entry l in
     let g = s .pre .1 .0 in
     let N = l .loop .inv .3 in
     let b : l .loop .count ≤ length (states (table s)) =
-    noted-below (table s) (s .args .rules) (l .loop .state) (l .loop .state) 0 (l .loop .words) (l .loop .sets) (l .loop .count) (l .loop .inv .0) N in
-    (s .pre .0, ((g .0, g .1, omega arith, c .before .before .loop-test .taken), N))
+    noted-below (table s) (s .args .rules) (l .loop .state .0) (l .loop .state .0) 0 (l .loop .words) (l .loop .sets) (l .loop .count) (l .loop .inv .0) N in
+    (s .pre .0, ((g .0, g .1, omega arith, c .before .before .if1 .taken), N))
 
 same-length : tie.Need-same-length Inv-loop μ-loop
 same-length c =
     let k = c .before .before .before .before .before in
-    kept (k .before .before .before .before) (k .note-state .last .1 .1 .1 .0) (k .note-state .ensures .kept) .size
+    kept (k .before .before .before .before .before) (k .note-state .last .1 .1 .1 .0) (k .note-state .ensures .kept) .size
 
 same-length-2 : tie.Need-same-length-2 Inv-loop μ-loop
 same-length-2 c =
     let k = c .before .before .before .before .before in
-    k .note-state .kept .1 .1 .1 .1 .0 ∙ k .before .before .before .before .loop .inv .1 ∙ simp length-set
+    k .note-state .kept .1 .1 .1 .1 .0 ∙ k .before .before .before .before .before .loop .inv .1 ∙ simp length-set
 
 returns : tie.Need-returns Inv-loop μ-loop
 returns c =
     let k = c .before .before .before .before .before in
     let o = k .note-state .ensures in
-    let q = o .over (c .if1 .taken) in (
-      q .0 ∙ sym (ap (λ b. cond b 257 (length (states (table (entry (k .before .before .before .before)))))) (lt-ltb _ _ (q .1))),
-      (λ h. absurd (omega arith), kept (k .before .before .before .before) (k .note-state .last .1 .1 .1 .0) (o .kept)),
+    let q = o .over (c .if2 .taken) in (
+      q .0 ∙ sym (ap (λ b. cond b 257 (length (states (table (entry (k .before .before .before .before .before)))))) (lt-ltb _ _ (q .1))),
+      (λ h. absurd (omega arith), kept (k .before .before .before .before .before) (k .note-state .last .1 .1 .1 .0) (o .kept)),
     )
 
 add-state : tie.Need-add-state Inv-loop μ-loop
@@ -95,34 +98,34 @@ loop-less c = omega arith
 
 loop-again : tie.Need-loop-again Inv-loop μ-loop
 loop-again c =
-    let k = c .before .before .before .before .before in
-    let l = k .before .before .before .before in
+    let k = c .before .before .before .before .before .before in
+    let l = k .before .before .before .before .before in
     let s = entry l in
     let o = k .note-state .ensures in
     let b : l .loop .count ≤ length (states (table s)) =
-    noted-below (table s) (s .args .rules) (l .loop .state) (l .loop .state) 0 (l .loop .words) (l .loop .sets) (l .loop .count) (l .loop .inv .0) (l .loop .inv .3) in (
+    noted-below (table s) (s .args .rules) (l .loop .state .0) (l .loop .state .0) 0 (l .loop .words) (l .loop .sets) (l .loop .count) (l .loop .inv .0) (l .loop .inv .3) in (
       omega arith,
       k .note-state .kept .1 .1 .1 .1 .0 ∙ l .loop .inv .1,
       kept-on (l .loop .inv .2) (o .kept),
       subst (λ i. NotedAt (table s) (s .args .rules) i i 0 (k .note-state .last .1 .1 .1 .0) (k .note-state .last .1 .1 .1 .1 .0) (k .note-state .result))
-          (sym (add-one (l .loop .state))) (o .noted (c .if1 .left)),
+          (sym (add-one (l .loop .state .0))) (o .noted (c .before .if2 .left)),
     )
 
 same-length-3 : tie.Need-same-length-3 Inv-loop μ-loop
-same-length-3 c = let l = c .before in kept l (l .loop .words) (kept-same (l .loop .words)) .size
+same-length-3 c = let l = c .before .before in kept l (l .loop .words) (kept-same (l .loop .words)) .size
 
 same-length-4 : tie.Need-same-length-4 Inv-loop μ-loop
-same-length-4 c = c .before .loop .inv .1 ∙ simp length-set
+same-length-4 c = c .before .before .loop .inv .1 ∙ simp length-set
 
 returns-2 : tie.Need-returns-2 Inv-loop μ-loop
 returns-2 c =
-    let l = c .before in
+    let l = c .before .before in
     let s = entry l in
     let N = l .loop .inv .3 in
     let whole = kept l (l .loop .words) (kept-same (l .loop .words)) in
-    let e : l .loop .count ≡ length (states (table s)) = noted-count (table s) (s .args .rules) (l .loop .state) (l .loop .words) (l .loop .sets) (l .loop .count) N (l .loop .inv .0) (c .loop-test .left) in (
+    let e : l .loop .count ≡ length (states (table s)) = noted-count (table s) (s .args .rules) (l .loop .state .0) (l .loop .words) (l .loop .sets) (l .loop .count) N (l .loop .inv .0) (c .if1 .left) in (
       e ∙ sym (ap (λ b. cond b 257 (length (states (table s)))) (le-ltb _ _ (subst (λ i. i ≤ 256) e (N .few)))),
-      (λ h. noted-words (table s) (s .args .rules) (l .loop .state) (l .loop .words) (l .loop .sets) (l .loop .count) N (l .loop .inv .0) (c .loop-test .left) whole, whole),
+      (λ h. noted-words (table s) (s .args .rules) (l .loop .state .0) (l .loop .words) (l .loop .sets) (l .loop .count) N (l .loop .inv .0) (c .if1 .left) whole, whole),
     )
 
 pub build-states-spec : {M : Type 1} → statement M
@@ -135,6 +138,7 @@ build-states-spec =
     all-rules-requires
     slice-write-sets
     loop-holds
+    cast-if1
     note-state-requires
     same-length
     same-length-2

@@ -17,33 +17,39 @@ use Rattle.machine.proofs.states.note_class.Tie as tie
 use Rattle.automaton.specs.Layout.{statesFrom, targetsFrom}
 
 abbrev entry : tie.After-longer-rules → tie.Start
-entry l = l .before .before .before .before .before .before .before
+entry l = l .before .before .before .before .before .before .before .before .before
 
 abbrev table : tie.Start → Table
 table s = let a = s .args in tableAt (a .loaded .now) (a .rules) false
 
-low : (s : tie.Start) → depthWord (s .args .words .now) (s .args .state) ≤ s .args .state
-low s = s .pre .1 .1 .shallow (s .args .state) (s .pre .1 .0 .1)
+low : (s : tie.Start) → depthWord (s .args .words .now) (s .args .state .0) ≤ s .args .state .0
+low s = s .pre .1 .1 .shallow (s .args .state .0) (s .pre .1 .0 .1)
 
 abbrev ways : (l : tie.After-longer-rules) →
     let s = entry l in
-    let a = s .args in Ways (table s) (a .rules) (a .state) (a .class) (a .words .now) (a .sets .now) (a .count) (l .longer-rules .result)
+    let a = s .args in Ways (table s) (a .rules) (a .state .0) (a .class .0) (a .words .now) (a .sets .now) (a .count) (l .longer-rules .result)
 ways l =
     let s = entry l in
     let a = s .args in
     let g = s .pre .1 .0 in
     let e = l .longer-rules .ensures in
-    ways-on (table s) (a .rules) (a .state) (g .2) (a .class) (a .words .now) (a .sets .now) (a .count) (g .3) (s .pre .1 .1) (l .longer-rules .result) (e .1) (e .0) (g .4)
+    ways-on (table s) (a .rules) (a .state .0) (g .2) (a .class .0) (a .words .now) (a .sets .now) (a .count) (g .3) (s .pre .1 .1) (l .longer-rules .result) (e .1) (e .0) (g .4)
 
 -- the number of the state met is that in the list
 number : (f : tie.After-find-state) →
     let l = f .before .before .before .before in
     let a = entry l .args in
-    f .find-state .result ≡ numberIn (stateOf (a .rules) (depthWord (a .words .now) (a .state) + 1) (l .longer-rules .result)) (statesAt (a .words .now) (a .sets .now) (a .rules) (a .count))
+    f .find-state .result .0 ≡ numberIn (stateOf (a .rules) (depthWord (a .words .now) (a .state .0) + 1) (l .longer-rules .result)) (statesAt (a .words .now) (a .sets .now) (a .rules) (a .count))
 number f =
     let l = f .before .before .before .before in
     let s = entry l in
     f .find-state .ensures .1 (s .args .rules) (s .pre .1 .1 .fit) (l .longer-rules .ensures .1)
+
+cast-s : tie.Need-cast-s
+cast-s c = omega arith
+
+cast-k : tie.Need-cast-k
+cast-k c = omega arith
 
 mul-depth : tie.Need-mul-depth
 mul-depth c = omega arith
@@ -58,7 +64,7 @@ slice-read-depth : tie.Need-slice-read-depth
 slice-read-depth c = omega arith
 
 cast-depth : tie.Need-cast-depth
-cast-depth c = omega (arith, low (c .before .before .before .before))
+cast-depth c = omega (arith, low (c .before .before .before .before .before .before))
 
 mul-longer-rules : tie.Need-mul-longer-rules
 mul-longer-rules c = omega arith
@@ -76,7 +82,7 @@ slice-read-longer-rules-2 : tie.Need-slice-read-longer-rules-2
 slice-read-longer-rules-2 c = omega arith
 
 longer-rules-requires : tie.Need-longer-rules-requires
-longer-rules-requires c κs = let s = c .before .before .before .before .before .before in (s .pre .0, (s .pre .1 .0 .0, s .pre .1 .1 .fit (s .args .state) (s .pre .1 .0 .1)))
+longer-rules-requires c κs = let s = c .before .before .before .before .before .before .before .before in (s .pre .0, (s .pre .1 .0 .0, s .pre .1 .1 .fit (s .args .state .0) (s .pre .1 .0 .1)))
 
 returns : tie.Need-returns
 returns c =
@@ -84,18 +90,15 @@ returns c =
     onward (kept-same (entry l .args .words .now)) (ways l .nothing (c .if1 .taken))
 
 add-find-state : tie.Need-add-find-state
-add-find-state c = omega arith
-
-add-find-state-2 : tie.Need-add-find-state-2
-add-find-state-2 c = omega (arith, low (c .before .before .before .before .before .before .before .before .before .before))
+add-find-state c = omega (arith, low (c .before .before .before .before .before .before .before .before .before .before .before .before))
 
 find-state-requires : tie.Need-find-state-requires
 find-state-requires c κs =
-    let s = c .before .before .before .before .before .before .before .before .before .before in
+    let s = c .before .before .before .before .before .before .before .before .before .before .before .before in
     let a = s .args in
     let g = s .pre .1 .0 in
     let N = s .pre .1 .1 in
-    ((omega arith, N .few, N .room, N .places), noted-depths (table s) (a .rules) (a .state) (g .2) (a .class) (a .words .now) (a .sets .now) (a .count) (g .3) N)
+    ((omega arith, N .few, N .room, N .places), noted-depths (table s) (a .rules) (a .state .0) (g .2) (a .class .0) (a .words .now) (a .sets .now) (a .count) (g .3) N)
 
 mul-place : tie.Need-mul-place
 mul-place c = omega arith
@@ -106,8 +109,8 @@ add-place c = omega arith
 add-place-2 : tie.Need-add-place-2
 add-place-2 c = omega arith
 
-cast-words : tie.Need-cast-words
-cast-words c = omega arith
+cast-if2 : tie.Need-cast-if2
+cast-if2 c = omega arith
 
 mul-words : tie.Need-mul-words
 mul-words c = omega arith
@@ -123,14 +126,14 @@ same-length-2 c = search needs
 
 returns-2 : tie.Need-returns-2
 returns-2 c =
-    let f = c .before in
+    let f = c .before .before in
     let l = f .before .before .before .before in
     let s = entry l in
     let a = s .args in
     let g = s .pre .1 in
     let p = f .before .before .before .if1 .left in
-    onward (kept-set (a .words .now) (targetsFrom + 64 * a .state + a .class) (f .find-state .result) (omega arith) (omega arith))
-    (ways l .there p (f .find-state .result) (number f) (c .if2 .taken))
+    onward (kept-set (a .words .now) (targetsFrom + 64 * a .state .0 + a .class .0) (f .find-state .result .0) (omega arith) (omega arith))
+    (ways l .there p (f .find-state .result .0) (number f) (c .if2 .taken))
 
 same-length-3 : tie.Need-same-length-3
 same-length-3 c = search needs
@@ -140,19 +143,19 @@ same-length-4 c = search needs
 
 returns-3 : tie.Need-returns-3
 returns-3 c =
-    let f = c .before .before in
+    let f = c .before .before .before in
     let l = f .before .before .before .before in
     let s = entry l in
     let a = s .args in
     let g = s .pre .1 in
     let p = f .before .before .before .if1 .left in
-    too-large (kept-same (a .words .now)) (omega arith) (refl, ways l .over p (f .find-state .result) (number f) (omega arith) (omega arith))
+    too-large (kept-same (a .words .now)) (omega arith) (refl, ways l .over p (f .find-state .result .0) (number f) (omega arith) (omega arith))
 
 add-words : tie.Need-add-words
-add-words c = omega (arith, low (c .before .before .before .before .before .before .before .before .before .before .before .before .before))
+add-words c = omega (arith, low (c .before .before .before .before .before .before .before .before .before .before .before .before .before .before .before .before))
 
-cast-words-2 : tie.Need-cast-words-2
-cast-words-2 c = omega (arith, low (c .before .before .before .before .before .before .before .before .before .before .before .before .before))
+cast-words : tie.Need-cast-words
+cast-words c = omega (arith, low (c .before .before .before .before .before .before .before .before .before .before .before .before .before .before .before .before))
 
 mul-words-2 : tie.Need-mul-words-2
 mul-words-2 c = omega arith
@@ -172,9 +175,6 @@ mul-sets c = omega arith
 slice-write-sets : tie.Need-slice-write-sets
 slice-write-sets c = omega arith
 
-cast-words-3 : tie.Need-cast-words-3
-cast-words-3 c = omega arith
-
 mul-words-4 : tie.Need-mul-words-4
 mul-words-4 c = omega arith
 
@@ -192,21 +192,25 @@ same-length-6 c = simp length-set
 
 returns-4 : tie.Need-returns-4
 returns-4 c =
-    let f = c .before .before in
+    let f = c .before .before .before in
     let l = f .before .before .before .before in
     let s = entry l in
     let a = s .args in
     let g = s .pre .1 in
     let p = f .before .before .before .if1 .left in
-    let w = set (a .words .now) (statesFrom + 3 * a .count) (depthWord (a .words .now) (a .state) + 1) in
-    onward (kept-on (kept-set (a .words .now) (statesFrom + 3 * a .count) (depthWord (a .words .now) (a .state) + 1) (omega arith) (omega arith))
-    (kept-set w (targetsFrom + 64 * a .state + a .class) (a .count) (omega arith) (omega arith)))
-    (ways l .new p (f .find-state .result) (number f) (omega arith) (omega arith))
+    let w = set (a .words .now) (statesFrom + 3 * a .count) (depthWord (a .words .now) (a .state .0) + 1) in
+    let e : f .find-state .result .0 ≡ a .count = omega arith in
+    rw e
+    (onward (kept-on (kept-set (a .words .now) (statesFrom + 3 * a .count) (depthWord (a .words .now) (a .state .0) + 1) (omega arith) (omega arith))
+    (kept-set w (targetsFrom + 64 * a .state .0 + a .class .0) (a .count) (omega arith) (omega arith)))
+    (ways l .new p (f .find-state .result .0) (number f) (omega arith) (omega arith)))
 
 pub note-class-spec : {M : Type 1} → statement M
 note-class-spec =
     tie.close
     (tie.spec
+    cast-s
+    cast-k
     mul-depth
     add-depth
     mul-depth-2
@@ -220,12 +224,11 @@ note-class-spec =
     longer-rules-requires
     returns
     add-find-state
-    add-find-state-2
     find-state-requires
     mul-place
     add-place
     add-place-2
-    cast-words
+    cast-if2
     mul-words
     slice-write-words
     same-length
@@ -235,14 +238,13 @@ note-class-spec =
     same-length-4
     returns-3
     add-words
-    cast-words-2
+    cast-words
     mul-words-2
     add-words-2
     mul-words-3
     slice-write-words-2
     mul-sets
     slice-write-sets
-    cast-words-3
     mul-words-4
     slice-write-words-3
     add-result

@@ -22,26 +22,26 @@ use Rattle.automaton.specs.Layout.{statesFrom}
 abbrev table : tie.Start → Table
 table s = let a = s .args in tableAt (a .loaded .now) (a .rules) false
 
-low : (s : tie.Start) → depthWord (s .args .words .now) (s .args .state) ≤ s .args .state
-low s = s .pre .1 .1 .shallow (s .args .state) (s .pre .1 .0 .3)
+low : (s : tie.Start) → depthWord (s .args .words .now) (s .args .state .0) ≤ s .args .state .0
+low s = s .pre .1 .1 .shallow (s .args .state .0) (s .pre .1 .0 .3)
 
 abbrev entry : tie.After-accept-of → tie.Start
-entry k = k .before .before .before .before .before .before .before
+entry k = k .before .before .before .before .before .before .before .before
 
 -- the words when both accepts are noted
 abbrev words : tie.After-accept-of → List ℕ
 words k =
     let a = entry k .args in
-    set (set (a .words .now) (statesFrom + 1 + 3 * a .state) (k .before .accept-at-end-of .result)) (statesFrom + 2 + 3 * a .state) (k .accept-of .result)
+    set (set (a .words .now) (statesFrom + 1 + 3 * a .state .0) (k .before .accept-at-end-of .result)) (statesFrom + 2 + 3 * a .state .0) (k .accept-of .result)
 
 noted : (k : tie.After-accept-of) →
     let s = entry k in
     let a = s .args in
-    NotedAt (table s) (a .rules) (suc (a .state)) (a .state) 0 (words k) (a .sets .now) (a .count) × (k .accept-of .result ≡ acceptOf (table s) (stateAt (table s) (a .state)))
+    NotedAt (table s) (a .rules) (suc (a .state .0)) (a .state .0) 0 (words k) (a .sets .now) (a .count) × (k .accept-of .result ≡ acceptOf (table s) (stateAt (table s) (a .state .0)))
 noted k =
     let s = entry k in
     let a = s .args in
-    accepts-noted (table s) (a .rules) (a .state) (s .pre .1 .0 .2) (a .words .now) (a .sets .now) (a .count) (k .before .accept-at-end-of .result) (k .accept-of .result)
+    accepts-noted (table s) (a .rules) (a .state .0) (s .pre .1 .0 .2) (a .words .now) (a .sets .now) (a .count) (k .before .accept-at-end-of .result) (k .accept-of .result)
     (k .before .accept-at-end-of .ensures) (k .accept-of .ensures) (s .pre .1 .1)
 
 kept : (k : tie.After-accept-of) → Kept (entry k .args .words .now) (words k)
@@ -49,8 +49,11 @@ kept k =
     let a = entry k .args in
     let few = entry k .pre .1 .1 .few in
     let h = entry k .pre .1 .0 .3 in
-    kept-on (kept-set (a .words .now) (statesFrom + 1 + 3 * a .state) (k .before .accept-at-end-of .result) (omega arith) (omega arith))
-    (kept-set (set (a .words .now) (statesFrom + 1 + 3 * a .state) (k .before .accept-at-end-of .result)) (statesFrom + 2 + 3 * a .state) (k .accept-of .result) (omega arith) (omega arith))
+    kept-on (kept-set (a .words .now) (statesFrom + 1 + 3 * a .state .0) (k .before .accept-at-end-of .result) (omega arith) (omega arith))
+    (kept-set (set (a .words .now) (statesFrom + 1 + 3 * a .state .0) (k .before .accept-at-end-of .result)) (statesFrom + 2 + 3 * a .state .0) (k .accept-of .result) (omega arith) (omega arith))
+
+cast-s : tie.Need-cast-s
+cast-s c = omega arith
 
 mul-depth : tie.Need-mul-depth
 mul-depth c = omega arith
@@ -65,7 +68,7 @@ slice-read-depth : tie.Need-slice-read-depth
 slice-read-depth c = omega arith
 
 cast-depth : tie.Need-cast-depth
-cast-depth c = omega (arith, low (c .before .before .before .before))
+cast-depth c = omega (arith, low (c .before .before .before .before .before))
 
 mul-set : tie.Need-mul-set
 mul-set c = omega arith
@@ -74,10 +77,10 @@ slice-read-set : tie.Need-slice-read-set
 slice-read-set c = omega arith
 
 accept-at-end-of-requires : tie.Need-accept-at-end-of-requires
-accept-at-end-of-requires c κs = let s = c .before .before .before .before .before in (omega (arith, s .pre .0 .long), s .pre .1 .0 .0, s .pre .1 .1 .fit (s .args .state) (s .pre .1 .0 .3))
+accept-at-end-of-requires c κs = let s = c .before .before .before .before .before .before in (omega (arith, s .pre .0 .long), s .pre .1 .0 .0, s .pre .1 .1 .fit (s .args .state .0) (s .pre .1 .0 .3))
 
 accept-of-requires : tie.Need-accept-of-requires
-accept-of-requires c κs = let s = c .before .before .before .before .before .before in (omega (arith, s .pre .0 .long), s .pre .1 .0 .0, s .pre .1 .1 .fit (s .args .state) (s .pre .1 .0 .3))
+accept-of-requires c κs = let s = c .before .before .before .before .before .before .before in (omega (arith, s .pre .0 .long), s .pre .1 .0 .0, s .pre .1 .1 .fit (s .args .state .0) (s .pre .1 .0 .3))
 
 mul-words : tie.Need-mul-words
 mul-words c = omega arith
@@ -113,8 +116,8 @@ returns c =
     let a = s .args in
     let t = table s in
     onward (kept k)
-    (row-done t (a .rules) (a .state) (s .pre .1 .0 .2) (words k) (a .sets .now) (a .count)
-    (accepting t (a .rules) (a .state) (s .pre .1 .0 .2) (words k) (a .sets .now) (a .count) (λ z. c .if1 .taken (noted k .1 ∙ z)) (length (starts t)) (omega arith) (noted k .0)))
+    (row-done t (a .rules) (a .state .0) (s .pre .1 .0 .2) (words k) (a .sets .now) (a .count)
+    (accepting t (a .rules) (a .state .0) (s .pre .1 .0 .2) (words k) (a .sets .now) (a .count) (λ z. c .if1 .taken (noted k .1 ∙ z)) (length (starts t)) (omega arith) (noted k .0)))
 
 note-classes-requires : tie.Need-note-classes-requires
 note-classes-requires c κs =
@@ -140,6 +143,7 @@ pub note-state-spec : {M : Type 1} → statement M
 note-state-spec =
     tie.close
     (tie.spec
+    cast-s
     mul-depth
     add-depth
     mul-depth-2
