@@ -1,4 +1,4 @@
--- A group as numbers, from which it is evaluated modulo 65536: the "blocks" of document 01's layout.
+-- A group's numbers, from which its output is worked out modulo 65536: what document 01 calls a block.
 use mathlib.Core.Bool.{Bool, true, false}
 use mathlib.Core.List.{List, [], _∷_, map}
 use Prim.Native.Nat.{ℕ, _+_, _-_, _*_, _%_}
@@ -40,7 +40,7 @@ block g = pad blockSize (g .size ∷ bit (g .anchored) ∷ length (g .outputs) �
 abbrev pub at : List ℕ → ℕ → ℕ
 at w i = getD w i 0
 
--- "The machine adds modulo 65536": v, and each coefficient times its character
+-- the sum modulo 65536: v, and each coefficient times its character
 unfoldable pub wordSum : ℕ → List ℕ → List ℕ → ℕ
 wordSum v [] w = v
 wordSum v (a ∷ ks) [] = v
