@@ -163,8 +163,8 @@ module _ (w : List ℕ) (zeros : w ≡ pad wordCount [] ++ drop wordCount w) whe
 
   pub zero-starts : take 64 (drop classesFrom w) ≡ pad 64 []
   zero-starts =
-      ap (λ l. take 64 (drop classesFrom l)) (zeros ∙ ap (λ l. l ++ drop wordCount w) (pad-none 6 19691) ∙ append-assoc (pad 6 []) (pad 19691 []) (drop wordCount w))
-      ∙ ap (take 64) (drop-at (pad 6 []) (pad 19691 [] ++ drop wordCount w) 6 (length-pad 6 []))
+      ap (λ l. take 64 (drop classesFrom l)) (zeros ∙ ap (λ l. l ++ drop wordCount w) (pad-none classesFrom (wordCount - classesFrom)) ∙ append-assoc (pad classesFrom []) (pad (wordCount - classesFrom) []) (drop wordCount w))
+      ∙ ap (take 64) (drop-at (pad classesFrom []) (pad (wordCount - classesFrom) [] ++ drop wordCount w) classesFrom (length-pad classesFrom []))
       ∙ ap (take 64) (ap (λ l. l ++ drop wordCount w) (pad-none 64 (wordCount - statesFrom)) ∙ append-assoc (pad 64 []) (pad (wordCount - statesFrom) []) (drop wordCount w))
       ∙ take-at (pad 64 []) (pad (wordCount - statesFrom) [] ++ drop wordCount w) 64 (length-pad 64 [])
 
