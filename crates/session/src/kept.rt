@@ -2,6 +2,7 @@
 use crate::tally::Tally;
 use crate::tally::zero;
 use words::numbers::StateNo;
+use words::read::Next;
 use words::read::class_of;
 use words::read::expansion;
 use words::read::longest;
@@ -62,10 +63,9 @@ fn next_state(words: &[u16], state: StateNo, c: u16) -> Path
     requires { ⌜ T (sound (now words)) × (state .0 < stateCount (now words)) ⌝ }
     ensures { λ r. ⌜ pathOf r ≡ path (fromWords (now (words .entry))) (state .0) (c ∷ []) ⌝ }
 {
-    let next = target(words, state, class_of(words, c));
-    if next.0 == 0 {
+    let Next::To(next) = target(words, state, class_of(words, c)) else {
         return Path::Nowhere;
-    }
+    };
     if settled(words, next) {
         return Path::Nowhere;
     }

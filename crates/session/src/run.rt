@@ -5,6 +5,7 @@ use words::numbers::DEFAULT_RULE;
 use words::numbers::RuleNo;
 use words::numbers::StateNo;
 use words::read::Accept;
+use words::read::Next;
 use words::read::accept_at;
 use words::read::accept_at_end;
 use words::read::class_of;
@@ -139,14 +140,13 @@ fn read_on<'a>(
     let mut state = run.state;
     let mut read: usize = 0;
     while read < part.len() {
-        let next = target(words, state, class_in(words, classes, part[read]));
-        if next.0 == 0 {
+        let Next::To(next) = target(words, state, class_in(words, classes, part[read])) else {
             return Ahead {
                 state,
                 at: from + read,
                 stuck: true,
             };
-        }
+        };
         state = next;
         read += 1;
     }
@@ -204,10 +204,10 @@ fn write_defaults<'a>(
     let mut count = run.count;
     let mut read: usize = 0;
     while read < part.len() {
-        let next = target(words, StateNo(0), class_in(words, classes, part[read]));
-        if next.0 != 0 {
+        let class = class_in(words, classes, part[read]);
+        let Next::Nowhere = target(words, StateNo(0), class) else {
             return between(from + read, count, steps + 3 * read as u64);
-        }
+        };
         count = write_default(words, part, read, output, count);
         read += 1;
     }

@@ -12,7 +12,7 @@ ghost use Rattle.meaning.specs.Block.{at, entryValue, blockOutput, blockSize};
 ghost use Rattle.automaton.specs.Classes.{classOf};
 ghost use Rattle.automaton.specs.Layout.{wordCount, classesFrom};
 ghost use Rattle.automaton.specs.Sound.{stateCount, classCount, ruleCount, longestWord, expansionWord, depthWord, acceptAtEndWord, acceptWord, targetWord, blockAt, used, sound};
-ghost use Rattle.words.specs.bridge.Readings.{wordOf};
+ghost use Rattle.words.specs.bridge.Readings.{wordOf, Leads};
 use crate::layout::ACCEPT_FROM;
 use crate::layout::AT_END_FROM;
 use crate::layout::BLOCKS_FROM;
@@ -31,6 +31,12 @@ use rules::layout::BLOCK;
 pub enum Accept {
     Rule(RuleNo),
     Nothing,
+}
+
+// The state that a class leads to from a state, if it leads to one.
+pub enum Next {
+    To(StateNo),
+    Nowhere,
 }
 
 // A word as a size.
@@ -123,14 +129,18 @@ pub fn class_of(words: &[u16], c: u16) -> ClassNo
     ClassNo(low as u16)
 }
 
-// The state that a class leads to from a state; state 0 for none.
-pub fn target(words: &[u16], state: StateNo, class: ClassNo) -> StateNo
+// Where a class leads from a state.
+pub fn target(words: &[u16], state: StateNo, class: ClassNo) -> Next
     requires { ⌜ (wordCount ≤ length (now words)) × (state .0 < 256) × (class .0 < 64) ⌝ }
-    ensures { λ r. ⌜ r .0 ≡ targetWord (now (words .entry)) (state .0) (class .0) ⌝ }
+    ensures { λ r. ⌜ Leads r (targetWord (now (words .entry)) (state .0) (class .0)) ⌝ }
 {
     let s = state.0 as usize;
     let k = class.0 as usize;
-    StateNo(words[TARGETS_FROM + 64 * s + k])
+    let word = words[TARGETS_FROM + 64 * s + k];
+    if word == 0 {
+        return Next::Nowhere;
+    }
+    Next::To(StateNo(word))
 }
 
 // The depth of a state.

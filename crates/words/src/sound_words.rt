@@ -14,6 +14,7 @@ use crate::numbers::ClassNo;
 use crate::numbers::DEFAULT_RULE;
 use crate::numbers::RuleNo;
 use crate::numbers::StateNo;
+use crate::read::Next;
 use crate::read::accept_at_end_word;
 use crate::read::accept_word;
 use crate::read::class_count;
@@ -216,10 +217,9 @@ fn class_target_sound(words: &[u16], state: StateNo, class: ClassNo) -> bool
         ∷ soundTarget (now (words .entry)) (state .0) (targetWord (now (words .entry)) (state .0) (class .0))
         ∷ [])) ⌝ }
 {
-    let next = target(words, state, class);
-    if next.0 == 0 {
+    let Next::To(next) = target(words, state, class) else {
         return true;
-    }
+    };
     if accept_word(words, state) != 0 {
         return false;
     }

@@ -1,12 +1,13 @@
 -- `run::read_on` meets its contract. The invariant: any run in the first state at the part's start reads on to the state, past the characters read.
 -- The measure is the characters of the part left. Assumes nothing.
-use mathlib.Core.Path.{_≡_, refl, sym, ap, _∙_}
+use mathlib.Core.Path.{_≡_, refl, sym, ap, subst, _∙_}
 use mathlib.Core.List.{List, _++_}
 use Prim.Native.Nat.{ℕ, _+_, _-_, _≤_, _<_}
 use native.Mathlib.Omega.{arith}
 use borrow.Author.Needs.{needs}
 use lib.ListN.{length, getD, length-append}
 use Rattle.automaton.specs.Sound.{targetWord}
+use Rattle.words.specs.bridge.Readings.{Leads}
 use Rattle.automaton.proofs.Laws.Words.{sound-header, sound-class}
 use Rattle.session.proofs.Laws.Reading.{partOf, part-inside, part-some, part-at, classIn, Reaches, reaches-none, reaches-next, reads-stuck, reads-free}
 use Rattle.session.proofs.run.read_on.Statement.{statement}
@@ -57,8 +58,14 @@ target-requires c κs =
     let e : c .class-in .result .0 ≡ classIn w x = c .class-in .ensures in
     (h .long, omega (arith, h .few-states, l .inv .1 .0), omega (arith, h .few-classes, sound-class w (s .pre .0 .0) x, e))
 
-add-t16 : tie.Need-add-t16 Inv-loop μ-loop
-add-t16 c =
+enum-known-next : tie.Need-enum-known-next Inv-loop μ-loop
+enum-known-next c = search needs
+
+enum-told : tie.Need-enum-told Inv-loop μ-loop
+enum-told c = search needs
+
+add-t17 : tie.Need-add-t17 Inv-loop μ-loop
+add-t17 c =
     let s = c .before .before .before .before .before .before .before .before .before .before .before .before .before in
     let p = c .before .before .before .before .before .before .before .before .unread in
     let l = c .before .before .before .before .before .before .loop in
@@ -68,11 +75,14 @@ add-t16 c =
 abbrev start : tie.After-target Inv-loop μ-loop → tie.Start Inv-loop μ-loop
 start c = c .before .before .before .before .before .before .before .before .before .before .before
 
-leads : (c : tie.After-target Inv-loop μ-loop) →
+abbrev word : tie.After-target Inv-loop μ-loop → ℕ
+word c =
     let a = start c .args in
     let l = c .before .before .before .before .loop in
-    (a .run .at + l .read < length (text (start c)))
-    × (c .target .result .0 ≡ targetWord (a .words .now) (l .state .0) (classIn (a .words .now) (getD (text (start c)) (a .run .at + l .read) 0)))
+    targetWord (a .words .now) (l .state .0) (classIn (a .words .now) (getD (text (start c)) (a .run .at + l .read) 0))
+
+leads : (c : tie.After-target Inv-loop μ-loop) →
+    (start c .args .run .at + c .before .before .before .before .loop .read < length (text (start c))) × Leads (c .target .result) (word c)
 leads c =
     let s = start c in
     let a = s .args in
@@ -82,7 +92,7 @@ leads c =
     let w = a .words .now in
     let x = part-at (a .given .now) (a .piece .now) (p .result .now) (a .run .at) (p .ensures) (l .read) t in (
       omega (arith, t, within s (p .result .now) (p .ensures) (l .read + 1) (omega (arith, t))),
-      c .target .ensures ∙ ap (targetWord w (l .state .0)) (c .before .class-in .ensures ∙ ap (classIn w) x),
+      subst (λ k. Leads (c .target .result) (targetWord w (l .state .0) k)) (c .before .class-in .ensures ∙ ap (classIn w) x) (c .target .ensures),
     )
 
 returns : tie.Need-returns Inv-loop μ-loop
@@ -90,28 +100,32 @@ returns c =
     let s = c .before .before .before .before .before .before .before .before .before .before .before .before .before in
     let a = s .args in
     let l = c .before .before .before .before .before .before .loop in
-    let k = leads (c .before .before) in
-    reads-stuck (a .words .now) (text s) (a .run) _ (omega arith) (l .inv .1) refl (k .0) (sym (k .1) ∙ c .if1 .taken)
+    let t = c .before .before in
+    let k = leads t in
+    reads-stuck (a .words .now) (text s) (a .run) _ (omega arith) (l .inv .1) refl (k .0) (subst (λ n. Leads n (word t)) (c .enum-told .given .1) (k .1))
 
 add-read : tie.Need-add-read Inv-loop μ-loop
 add-read c = search needs
 
 loop-less : tie.Need-loop-less Inv-loop μ-loop
-loop-less c = omega (arith, c .before .before .before .before .before .loop-test .taken)
+loop-less c = omega (arith, c .before .before .before .before .before .before .loop-test .taken)
 
 loop-again : tie.Need-loop-again Inv-loop μ-loop
 loop-again c =
-    let s = c .before .before .before .before .before .before .before .before .before .before .before .before .before in
+    let r = c .before in
+    let t = r .before .before in
+    let s = start t in
     let a = s .args in
-    let l = c .before .before .before .before .before .before .loop in
-    let k = leads (c .before .before) in (
-      omega (arith, c .before .before .before .before .before .loop-test .taken),
-      reaches-next (a .words .now) (text s) (a .run .state) (a .run .at) (s .pre .0 .0) (l .state) (a .run .at + l .read) (l .inv .1) (c .before .before .target .result)
-          (a .run .at + (l .read + 1)) (omega arith) (omega arith) (k .0) (k .1) (c .if1 .left),
+    let l = t .before .before .before .before .loop in
+    let k = leads t in
+    let on = subst (λ n. Leads n (word t)) (r .next .given .1) (k .1) in (
+      omega (arith, t .before .before .before .loop-test .taken),
+      reaches-next (a .words .now) (text s) (a .run .state) (a .run .at) (s .pre .0 .0) (l .state) (a .run .at + l .read) (l .inv .1) (r .next .given .0 .0)
+          (a .run .at + (l .read + 1)) (omega arith) (omega arith) (k .0) (on .0) (λ z. on .1 (sym (on .0) ∙ z)),
     )
 
-add-t17 : tie.Need-add-t17 Inv-loop μ-loop
-add-t17 c =
+add-t18 : tie.Need-add-t18 Inv-loop μ-loop
+add-t18 c =
     let s = c .before .before .before .before .before .before .before .before in
     let p = c .before .before .before .unread in
     let l = c .before .loop in
@@ -139,10 +153,12 @@ read-on-spec =
     shared-slice-read-class-in
     class-in-requires
     target-requires
-    add-t16
+    enum-known-next
+    enum-told
+    add-t17
     returns
     add-read
     loop-less
     loop-again
-    add-t17
+    add-t18
     returns-2)

@@ -1,6 +1,6 @@
 -- `run::write_defaults` meets its contract. The invariant: any run with an empty store at the part's start writes defaults for the characters read.
 -- The measure is the characters of the part left. Assumes nothing.
-use mathlib.Core.Path.{_≡_, refl, sym, ap, _∙_}
+use mathlib.Core.Path.{_≡_, refl, ap, subst, _∙_}
 use mathlib.Core.List.{List, _++_}
 use Prim.Native.Nat.{ℕ, _+_, _-_, _*_, _≤_, _<_}
 use native.Mathlib.Omega.{arith}
@@ -8,6 +8,7 @@ use borrow.Author.Needs.{needs}
 use lib.ListN.{length, getD, take, drop, length-append}
 use Rattle.meaning.specs.Block.{at, blockOutput}
 use Rattle.automaton.specs.Sound.{targetWord, blockAt}
+use Rattle.words.specs.bridge.Readings.{Leads}
 use Rattle.automaton.proofs.Laws.Words.{sound-header, sound-class, sound-default}
 use Rattle.session.proofs.Laws.Reading.{partOf, part-inside, part-at, part-one, classIn, Defaulted, defaulted-none, defaulted-next, defaulted-room, defaulted-end}
 use Rattle.session.proofs.run.write_defaults.Statement.{statement}
@@ -59,6 +60,12 @@ target-requires c κs =
     let e : c .class-in .result .0 ≡ classIn w x = c .class-in .ensures in
     (h .long, omega arith, omega (arith, h .few-classes, sound-class w (s .pre .0 .0) x, e))
 
+enum-told : tie.Need-enum-told Inv-loop μ-loop
+enum-told c = search needs
+
+enum-told-2 : tie.Need-enum-told-2 Inv-loop μ-loop
+enum-told-2 c = search needs
+
 add-between : tie.Need-add-between Inv-loop μ-loop
 add-between c =
     let s = c .before .before .before .before .before .before .before .before .before .before .before .before .before in
@@ -90,11 +97,13 @@ same-length c = c .before .before .before .before .before .before .before .loop 
 abbrev start : tie.After-target Inv-loop μ-loop → tie.Start Inv-loop μ-loop
 start c = c .before .before .before .before .before .before .before .before .before .before .before
 
-leads : (c : tie.After-target Inv-loop μ-loop) →
+abbrev word : tie.After-target Inv-loop μ-loop → ℕ
+word c =
     let a = start c .args in
-    let l = c .before .before .before .before .loop in
-    (a .run .at + l .read < length (text (start c)))
-    × (c .target .result .0 ≡ targetWord (a .words .now) 0 (classIn (a .words .now) (getD (text (start c)) (a .run .at + l .read) 0)))
+    targetWord (a .words .now) 0 (classIn (a .words .now) (getD (text (start c)) (a .run .at + c .before .before .before .before .loop .read) 0))
+
+leads : (c : tie.After-target Inv-loop μ-loop) →
+    (start c .args .run .at + c .before .before .before .before .loop .read < length (text (start c))) × Leads (c .target .result) (word c)
 leads c =
     let s = start c in
     let a = s .args in
@@ -104,7 +113,7 @@ leads c =
     let w = a .words .now in
     let x = part-at (a .given .now) (a .piece .now) (p .result .now) (a .run .at) (p .ensures) (l .read) t in (
       omega (arith, t, within s (p .result .now) (p .ensures) (l .read + 1) (omega (arith, t))),
-      c .target .ensures ∙ ap (targetWord w 0) (c .before .class-in .ensures ∙ ap (classIn w) x),
+      subst (λ k. Leads (c .target .result) (targetWord w 0 k)) (c .before .class-in .ensures ∙ ap (classIn w) x) (c .target .ensures),
     )
 
 returns : tie.Need-returns Inv-loop μ-loop
@@ -149,14 +158,17 @@ loop-again c =
     let p = c .before .before .before .before .before .before .before .before .before .before .before .unread in
     let l = c .before .before .before .before .before .before .before .before .before .before .loop in
     let t : l .read < length (p .result .now) = c .before .before .before .before .before .before .before .before .before .loop-test .taken in
-    let k = leads (c .before .before .before .before .before .before) in
+    let told = c .before .before .before .before in
+    let lead = told .before .before in
+    let k = leads lead in
+    let none = subst (λ n. Leads n (word lead)) (told .enum-told .given .1) (k .1) in
     let known = c .before .before .write-default .ensures in
     let size = l .inv .1 in
     let one = part-one (a .given .now) (a .piece .now) (p .result .now) (a .run .at) (p .ensures) (l .read) t (s .pre .1 .0 .inside) in (
       omega (arith, t),
       search needs,
       defaulted-next w (text s) (a .run .at) (a .run .count) (a .run .steps) (a .output .now) (s .pre .0 .0) (s .pre .0 .2)
-          (a .run .at + l .read) (l .count) (a .run .steps + 3 * l .read) (l .output) size (l .inv .2) (k .0) (sym (k .1) ∙ c .before .before .before .before .if1 .left)
+          (a .run .at + l .read) (l .count) (a .run .steps + 3 * l .read) (l .output) size (l .inv .2) (k .0) none
           (a .run .at + (l .read + 1)) (c .before .before .write-default .result) (a .run .steps + 3 * (l .read + 1)) _ (omega arith) (known .0) (omega arith)
           (known .1 ∙ ap (λ x. take (l .count) (l .output) ++ blockOutput b x ++ drop (l .count + at b 2) (l .output)) one),
     )
@@ -208,6 +220,8 @@ write-defaults-spec =
     shared-slice-read-class-in
     class-in-requires
     target-requires
+    enum-told
+    enum-told-2
     add-between
     mul-between
     add-between-2
