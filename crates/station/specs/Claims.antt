@@ -1,10 +1,11 @@
 -- What a conversion in two pieces comes to by demand 3: what it wrote and left is the plain machine's on the pieces joined, and in the end Definition 7's.
 use mathlib.Core.List.{List, [], _∷_}
 use mathlib.Core.Path.{_≡_}
-use Prim.Native.Nat.{ℕ, _≤_}
+use Prim.Native.Nat.{ℕ, _+_, _*_, _≤_}
 use lib.ListN.{length, take, drop}
 use Rattle.meaning.specs.Refusal.{accepted}
-use Rattle.meaning.specs.Table.{Characters, Table}
+use Rattle.meaning.specs.Table.{Characters, Table, expansion}
+use Rattle.meaning.specs.Direct.{limit}
 use Rattle.automaton.specs.Layout.{wordCount}
 use Rattle.automaton.specs.Compile.{compile}
 use Rattle.automaton.specs.Claims.{KeepsCompiling}
@@ -44,3 +45,10 @@ InTwo =
     let cs = callsOf w first second output in
     let i = reckon t cs noInput in
     Agrees t cs (seenBy w cs (inTwo table first second buffer output)) i (ran t (i .characters) (i .ended))
+
+-- Nothing is refused where the table keeps the rules and the lengths are those that 14 and 15 ask of the pieces joined.
+unfoldable pub Passes : Type 0
+Passes =
+    (table first second buffer output : List ℕ) (t : Table) → KeepsCompiling table t → wordCount ≤ length buffer →
+    length first + length second ≤ limit → expansion t * (length first + length second) ≤ length output →
+    inTwo table first second buffer output .0 .answer ≡ accepted tt

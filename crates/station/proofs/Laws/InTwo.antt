@@ -4,13 +4,13 @@ use mathlib.Core.List.{List, [], _∷_, _++_}
 use mathlib.Core.Path.{_≡_, refl, sym, ap, subst, _∙_}
 use Prim.Native.Nat.{ℕ, suc, _+_, _≤_}
 use native.Mathlib.Omega.{arith}
-use lib.ListN.{length, take, drop, length-append, length-take}
+use lib.ListN.{length, take, length-append, length-take}
 use Rattle.meaning.specs.Refusal.{Outcome, refused, accepted}
 use Rattle.meaning.proofs.Laws.Refusal.{accepted-not}
 use Rattle.automaton.specs.Compile.{compile}
 use Rattle.automaton.proofs.Laws.Compile.{compile-accepts}
 use Rattle.reckoning.specs.Session.{Session, fresh}
-use Rattle.reckoning.specs.Calls.{Answer, feed, finish}
+use Rattle.reckoning.specs.Calls.{Answer}
 use Rattle.reckoning.specs.Reckoning.{Call, ofFeed, ofFinish, Served, unserved, called, outputBy, serveCall, serve, noInput, ran, reckon}
 use Rattle.reckoning.specs.Claims.{Agrees, OutcomesAgree}
 use Rattle.reckoning.proofs.Laws.Demand3.{outcomes-agree}
