@@ -1,0 +1,3 @@
+pub mod Two
+pub mod Progress
+pub mod Claims
