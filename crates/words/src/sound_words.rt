@@ -72,9 +72,9 @@ fn starts_sound(words: &[u16]) -> bool
         return false;
     }
     let classes = class_count(words);
-    let mut k: usize = 0;
-    while k + 1 < classes {
-        if class_start(words, ClassNo(k as u16)) >= class_start(words, ClassNo((k + 1) as u16)) {
+    let mut k: u16 = 0;
+    while k as usize + 1 < classes {
+        if class_start(words, ClassNo(k)) >= class_start(words, ClassNo(k + 1)) {
             return false;
         }
         k += 1;

@@ -39,20 +39,17 @@ class-count-requires c κs = omega arith
 loop-holds : tie.Need-loop-holds Inv-loop μ-loop
 loop-holds c = (omega arith, none-below (rises (now (c .before .before .before .before .args .words))))
 
+cast-loop : tie.Need-cast-loop Inv-loop μ-loop
+cast-loop c = omega arith
+
 add-loop : tie.Need-add-loop Inv-loop μ-loop
 add-loop c = omega arith
-
-cast-t10 : tie.Need-cast-t10 Inv-loop μ-loop
-cast-t10 c = omega arith
 
 class-start-requires-2 : tie.Need-class-start-requires-2 Inv-loop μ-loop
 class-start-requires-2 c κs = omega arith
 
-add-t7 : tie.Need-add-t7 Inv-loop μ-loop
-add-t7 c = omega arith
-
-cast-t13 : tie.Need-cast-t13 Inv-loop μ-loop
-cast-t13 c = omega arith
+add-t13 : tie.Need-add-t13 Inv-loop μ-loop
+add-t13 c = omega arith
 
 class-start-requires-3 : tie.Need-class-start-requires-3 Inv-loop μ-loop
 class-start-requires-3 c κs = omega arith
@@ -109,11 +106,10 @@ starts-sound-spec =
     returns
     class-count-requires
     loop-holds
+    cast-loop
     add-loop
-    cast-t10
     class-start-requires-2
-    add-t7
-    cast-t13
+    add-t13
     class-start-requires-3
     returns-2
     add-k
