@@ -1,4 +1,4 @@
--- Definition 7 looks at no output character, so a table read back of its flat arrays, which has none, converts as the table does.
+-- Definition 7 looks at no output character, so a table read back of its loaded array, which has none, converts as the table does.
 -- By recursion on the rules and on the input; what is read back is found element by element.
 use mathlib.Core.Bool.{Bool, true, false, cond}
 use mathlib.Core.List.{List, [], _∷_, map}

@@ -1,4 +1,4 @@
--- How Definition 7's choice is found on the flat arrays: range by range, position by position, rule by rule.
+-- How Definition 7's choice is found on the loaded array: range by range, position by position, rule by rule.
 -- Each loop's test of what is left is the test of its next element and of what is left then.
 use mathlib.Core.Bool.{Bool, true, false, _&&_, _||_, not, cond}
 use mathlib.Core.List.{List, [], _∷_}

@@ -1,5 +1,5 @@
 -- What reading leaves true of an accepted table beyond its shape: at most four ranges a position, numbers of 32 and 16 bits.
--- The laws of the flat arrays take it as their hypothesis; `Flattened` shows it of every table that is read.
+-- The laws of the loaded array take it as their hypothesis; `Flattened` shows it of every table that is read.
 use mathlib.Core.Path.{_≡_}
 use Prim.Native.Nat.{ℕ, _≤_, _<_, _^_}
 use lib.IntN.{ℤ}
