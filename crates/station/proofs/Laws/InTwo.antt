@@ -68,6 +68,12 @@ module _ (w : List ℕ) where
   made : (v : Turn × List ℕ) (f : Session → ℕ → List ℕ → Turn × List ℕ) → next v f .0 .answer ≡ accepted tt → next v f ≡ f (v .0 .session) (v .0 .written) (v .1)
   made v f a = made-by v f (v .0 .answer) refl a
 
+  -- and what came before it was not refused
+  before-passed : (v : Turn × List ℕ) (f : Session → ℕ → List ℕ → Turn × List ℕ) (o : Outcome (Unit {0})) → v .0 .answer ≡ o →
+      nextBy o v f .0 .answer ≡ accepted tt → o ≡ accepted tt
+  before-passed v f (refused n) e a = absurd (accepted-not tt n (sym a ∙ e))
+  before-passed v f (accepted u) e a = refl
+
   module _ (first second buffer : List ℕ) where
     abbrev x₁ : Turn × List ℕ
     x₁ = afterFirst w first buffer
@@ -84,6 +90,16 @@ module _ (w : List ℕ) where
         let one = made x₁ (restOf w second) a in
         let two = made x₂ (finishOn w) (ap (λ (v : Turn × List ℕ). v .0 .answer) (sym one) ∙ a) in
         one ∙ two
+
+    -- none of the three was refused, but by 13
+    pub all-passed : pieces w first second buffer .0 .answer ≡ accepted tt →
+        (x₁ .0 .answer ≡ accepted tt) × (x₂ .0 .answer ≡ accepted tt) × (x₃ .0 .answer ≡ accepted tt)
+    unfolding pieces restOf
+    all-passed a =
+        let answer : Turn × List ℕ → Outcome (Unit {0}) = λ v. v .0 .answer in
+        let rest = ap answer (sym (made x₁ (restOf w second) a)) ∙ a in
+        let last = ap answer (sym (made x₂ (finishOn w) rest)) ∙ rest in
+        (before-passed x₁ (restOf w second) (x₁ .0 .answer) refl a, before-passed x₂ (finishOn w) (x₂ .0 .answer) refl rest, last)
 
     joined : Joined (serve w (callsOf w first second buffer) unserved) x₃
     unfolding serve callsOf feedOn finishOn

@@ -35,12 +35,12 @@ contrary : (b : Bool) → T b → T (not b) → ⊥
 contrary true a n = n
 contrary false a n = a
 
-open-is : (s : Status) → T (isOpen s) → s ≡ Open
+pub open-is : (s : Status) → T (isOpen s) → s ≡ Open
 open-is Open t = refl
 open-is Closed t = absurd t
 open-is Stopped t = absurd t
 
-not-open : (s : Status) → T (not (isOpen s)) → s ≡ Open → ⊥
+pub not-open : (s : Status) → T (not (isOpen s)) → s ≡ Open → ⊥
 not-open s t e = subst (λ z. T (not (isOpen z))) e t
 
 open-received : (s : Status) (received gone : ℕ) → s ≡ Open → receivedBy s received gone ≡ received
