@@ -40,8 +40,8 @@
 extern "C" {
 #endif
 
-/* The machine words of a table: 19,697 of 16 bits. */
-enum { COBBLETWILL_WORDS = 19697 };
+/* The machine words of a table: 19,961 of 16 bits. */
+enum { COBBLETWILL_WORDS = 19961 };
 
 /* The most stack that a call takes on x86-64, in bytes: its return address, and
  * all below but for the frames of memcpy and memset. */
@@ -81,9 +81,9 @@ enum {
     COBBLETWILL_CLASSES = 8,
     /* 9: a 257th state (compiling only). */
     COBBLETWILL_STATES = 9,
-    /* 10: under 19,697 words for compiling. */
+    /* 10: under 19,961 words for compiling. */
     COBBLETWILL_SHORT_WORDS = 10,
-    /* 11: under 19,697 words for feed or finish, or words that are not sound. */
+    /* 11: under 19,961 words for feed or finish, or words that are not sound. */
     COBBLETWILL_UNSOUND_WORDS = 11,
     /* 12: a session that is not sound. */
     COBBLETWILL_UNSOUND_SESSION = 12,
@@ -134,9 +134,9 @@ static inline const char *cobbletwill_refusal_text(uint32_t answer) {
     case COBBLETWILL_STATES:
         return "a 257th state";
     case COBBLETWILL_SHORT_WORDS:
-        return "under 19,697 words for compiling";
+        return "under 19,961 words for compiling";
     case COBBLETWILL_UNSOUND_WORDS:
-        return "under 19,697 words or not sound";
+        return "under 19,961 words or not sound";
     case COBBLETWILL_UNSOUND_SESSION:
         return "session not sound";
     case COBBLETWILL_ENDED:
@@ -179,13 +179,13 @@ uint32_t cobbletwill_convert(const uint8_t *table, size_t table_length,
 
 /*
  * Compiling. `table` has `table_length` bytes, in records of 8. `words` has room
- * for `words_length` words, of which the first 19,697 (COBBLETWILL_WORDS) are
+ * for `words_length` words, of which the first 19,961 (COBBLETWILL_WORDS) are
  * written; those beyond stay as found.
  *
  * Answers 0 for a table that is compiled; the words are then its machine words,
  * words not in use being 0. Else answers the first refusal in this order:
  *
- *   10  fewer than 19,697 words: `words` is as found
+ *   10  fewer than 19,961 words: `words` is as found
  *    1  the table's length is no multiple of 8
  *   then record by record, from the first, the first of
  *    2  unknown kind, a field outside its own range, a byte that must be zero
@@ -201,17 +201,17 @@ uint32_t cobbletwill_convert(const uint8_t *table, size_t table_length,
  *    8  a 65th class
  *    9  a 257th state
  *
- * Refused by 1 to 9, the first 19,697 words are 0.
+ * Refused by 1 to 9, the first 19,961 words are 0.
  */
 uint32_t cobbletwill_compile(const uint8_t *table, size_t table_length,
                              uint16_t *words, size_t words_length);
 
 /*
  * The test of words. `words` has `words_length` words, which are only read; at
- * most the first 19,697 are looked at, and of these only the ones in use.
+ * most the first 19,961 are looked at, and of these only the ones in use.
  *
  * Answers 1 for sound words, on which a machine may run, and 0 for words that
- * are not sound or fewer than 19,697. Words that cobbletwill_compile has
+ * are not sound or fewer than 19,961. Words that cobbletwill_compile has
  * written with the answer 0 are sound.
  */
 uint32_t cobbletwill_is_sound(const uint16_t *words, size_t words_length);
@@ -279,7 +279,7 @@ COBBLETWILL_HOLDS(offsetof(cobbletwill_session, held) == 32);
 
 /*
  * Feed. `words` has `words_length` words, which are only read; at most the first
- * 19,697 are looked at. `session` points to one session. `piece` has
+ * 19,961 are looked at. `session` points to one session. `piece` has
  * `piece_length` characters of 16 bits: what follows those received so far.
  * `output` has room for `output_length` characters. `written` points to one
  * number.
@@ -293,7 +293,7 @@ COBBLETWILL_HOLDS(offsetof(cobbletwill_session, held) == 32);
  * Else answers the first refusal in this order, and `*session`, `output` and
  * `*written` are as found:
  *
- *   11  fewer than 19,697 words, or words that are not sound
+ *   11  fewer than 19,961 words, or words that are not sound
  *   12  a session that is not sound for these words, a status above 2 included
  *   13  a session that is closed or stopped
  *   14  received plus `piece_length` above 1,099,511,627,776
@@ -317,7 +317,7 @@ uint32_t cobbletwill_feed(const uint16_t *words, size_t words_length,
  * Else answers the first refusal in this order, and `*session`, `output` and
  * `*written` are as found:
  *
- *   11  fewer than 19,697 words, or words that are not sound
+ *   11  fewer than 19,961 words, or words that are not sound
  *   12  a session that is not sound for these words, a status above 2 included
  *   13  a session that is closed or stopped
  *   15  `output_length` below E times held

@@ -22,7 +22,7 @@ impl Machine {
     }
 
     /// A machine of words that came from elsewhere; refused by 11 where they are
-    /// under 19,697 or not sound. Words beyond are left out.
+    /// under 19,961 or not sound. Words beyond are left out.
     pub fn from_words(words: &[u16]) -> Result<Machine, Refusal> {
         let words = words.get(..WORDS).ok_or(Refusal::UnsoundWords)?;
         match raw::is_sound(words) {

@@ -7,7 +7,7 @@
 
 use std::mem::offset_of;
 
-/// The machine words of a table: 19,697 of 16 bits.
+/// The machine words of a table: 19,961 of 16 bits.
 pub const WORDS: usize = 19_697;
 
 /// The answer for a table that is accepted or compiled, and for a conversion or

@@ -27,9 +27,9 @@ pub enum Refusal {
     Classes = 8,
     /// 9: a 257th state.
     States = 9,
-    /// 10: under 19,697 words for compiling.
+    /// 10: under 19,961 words for compiling.
     ShortWords = 10,
-    /// 11: under 19,697 words, or words that are not sound.
+    /// 11: under 19,961 words, or words that are not sound.
     UnsoundWords = 11,
     /// 12: the session is not sound.
     UnsoundSession = 12,
@@ -91,8 +91,8 @@ impl Refusal {
             Refusal::Value => "an output value may leave 0 to 65535",
             Refusal::Classes => "a 65th class",
             Refusal::States => "a 257th state",
-            Refusal::ShortWords => "under 19,697 words for compiling",
-            Refusal::UnsoundWords => "under 19,697 words or not sound",
+            Refusal::ShortWords => "under 19,961 words for compiling",
+            Refusal::UnsoundWords => "under 19,961 words or not sound",
             Refusal::UnsoundSession => "session not sound",
             Refusal::Ended => "session closed or stopped",
             Refusal::TooLong => "received plus piece (direct: input) above 1,099,511,627,776",

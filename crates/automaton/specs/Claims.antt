@@ -45,7 +45,7 @@ pub record KeepsCompiling (b : List ℕ) (t : Table) : Type 0 where
   pub classes : length (starts t) ≤ 64
   pub states : length (states t) ≤ 256
 
--- Demand 1: "Compiling refused by 1 to 9 leaves its 19,697 words zero; every other refusal changes nothing. Words beyond those written stay
+-- Demand 1: "Compiling refused by 1 to 9 leaves its 19,961 words zero; every other refusal changes nothing. Words beyond those written stay
 -- as found."
 pub record CompileAnswers (b buffer : List ℕ) : Type 0 where
   pub numbered : RefusedBy (10 ∷ 1 ∷ 2 ∷ 3 ∷ 4 ∷ 5 ∷ 6 ∷ 7 ∷ 8 ∷ 9 ∷ []) (compile b buffer .answer)

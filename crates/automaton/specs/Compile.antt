@@ -25,7 +25,7 @@ small t = select ((ltb 64 (length (starts t)), refused 8) ∷ (ltb 256 (length (
 unfoldable pub compilable : List ℕ → ℕ → Outcome Table
 compilable b room = select ((ltb room wordCount, refused 10) ∷ []) (andThen (readTable b) small)
 
--- "Compiling refused by 1 to 9 leaves its 19,697 words zero; every other refusal changes nothing. Words beyond those written stay as found."
+-- "Compiling refused by 1 to 9 leaves its 19,961 words zero; every other refusal changes nothing. Words beyond those written stay as found."
 abbrev pub compileBy : Outcome Table → List ℕ → CompileOutcome
 compileBy (refused n) buffer = record { answer = refused n; words = cond (eqb n 10) buffer (pad wordCount [] ++ drop wordCount buffer) }
 compileBy (accepted t) buffer = record { answer = accepted tt; words = words t ++ drop wordCount buffer }

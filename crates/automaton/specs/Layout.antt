@@ -1,4 +1,4 @@
--- "Layout, 19,697 words": the machine words of a table.
+-- "Layout, 19,961 words": the machine words of a table.
 use mathlib.Core.List.{List, [], _∷_, map}
 use Prim.Native.Nat.{ℕ, _+_, _*_}
 use lib.ListN.{length}
@@ -30,7 +30,7 @@ targetsSize = 256 * 64
 abbrev pub blocksFrom : ℕ
 blocksFrom = targetsFrom + targetsSize
 
--- "19,697 words"
+-- "19,961 words"
 abbrev pub wordCount : ℕ
 wordCount = blocksFrom + blocksSize
 

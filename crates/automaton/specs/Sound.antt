@@ -3,10 +3,11 @@ use mathlib.Core.Bool.{Bool, _&&_, not, cond}
 use mathlib.Core.List.{List, [], _∷_}
 use Prim.Native.Nat.{ℕ, suc, pred, _+_, _*_}
 use lib.Dec.{eqb, leb, ltb}
-use lib.ListN.{length, drop}
+use lib.ListN.{length, take, drop}
+use Rattle.lists.specs.Lists.{any, count}
 use Rattle.lists.specs.Decide.{allOf, forBelow, implies}
-use Rattle.meaning.specs.Table.{defaultNumber}
-use Rattle.meaning.specs.Block.{at, blockSize}
+use Rattle.meaning.specs.Table.{defaultNumber, isShift}
+use Rattle.meaning.specs.Block.{at, blockSize, entrySize}
 use Rattle.automaton.specs.Layout.{wordCount, blocksFrom, classesFrom, statesFrom, targetsFrom}
 
 abbrev pub classCount : List ℕ → ℕ
@@ -52,6 +53,18 @@ between lo hi x = leb lo x && leb x hi
 abbrev pub used : ℕ → Bool
 used n = not (eqb n 0)
 
+-- of some coefficients "just one" is not 0, and it is 1
+unfoldable pub oneOnly : List ℕ → Bool
+oneOnly ks = allOf (eqb (count used ks) 1 ∷ any (eqb 1) ks ∷ [])
+
+-- entry j of a block: "a known sort, and a digit entry has one of the four shifts and just one coefficient, of 1, below K"
+unfoldable pub soundEntry : List ℕ → ℕ → Bool
+soundEntry b j =
+    let sort = at b (3 + entrySize * j) in
+    let shift = at b (4 + entrySize * j) in
+    let coefficients = take (at b 0) (drop (5 + entrySize * j) b) in
+    allOf (leb sort 1 ∷ implies (eqb sort 1) (allOf (isShift shift ∷ oneOnly coefficients ∷ [])) ∷ [])
+
 module _ (w : List ℕ) where
   -- "states 1 to 256, classes 1 to 64, L 1 to 8, E 0 to 8, rules 1 to 32, default 0 or 1"
   unfoldable pub soundHeader : Bool
@@ -69,11 +82,11 @@ module _ (w : List ℕ) where
   unfoldable pub soundStarts : Bool
   soundStarts = allOf (eqb (at w 6) 0 ∷ forBelow (pred (classCount w)) (λ k. ltb (at w (classesFrom + k)) (at w (classesFrom + 1 + k))) ∷ [])
 
-  -- "blocks have K 1 to L (default 1), anchored 0 or 1 (default 0), output count at most E"
+  -- "blocks have K 1 to L (default 1), anchored 0 or 1 (default 0), output count at most E", and sound entries in use
   unfoldable pub soundBlock : ℕ → ℕ → ℕ → Bool
   soundBlock g most anchored =
       let b = blockAt w g in
-      allOf (between 1 most (at b 0) ∷ leb (at b 1) anchored ∷ leb (at b 2) (expansionWord w) ∷ [])
+      allOf (between 1 most (at b 0) ∷ leb (at b 1) anchored ∷ leb (at b 2) (expansionWord w) ∷ forBelow (at b 2) (soundEntry b) ∷ [])
 
   unfoldable pub soundBlocks : Bool
   soundBlocks =

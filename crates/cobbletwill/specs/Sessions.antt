@@ -75,7 +75,7 @@ left answer session output written = record { answer = answer; session = session
 abbrev pub faceOf : CallOutcome → ℕ → CalledFace
 faceOf o found = left (answerCode (o .answer)) (numbersOf (o .session)) (o .output) (writtenAfter (o .answer) found)
 
--- numbers with a status above 2 are no session's: "12 session not sound", after "11 under 19,697 words or not sound"
+-- numbers with a status above 2 are no session's: "12 session not sound", after "11 under 19,961 words or not sound"
 abbrev pub noSession : Bool → ℕ
 noSession soundWords = cond soundWords 12 11
 

@@ -62,7 +62,7 @@ pub extern "C" fn cobbletwill_convert(
     }
 }
 
-// 0 with the words of the table; else the number of the refusal, 1 to 9 with the 19,697 words zero, or 10 with nothing changed.
+// 0 with the words of the table; else the number of the refusal, 1 to 9 with the 19,961 words zero, or 10 with nothing changed.
 #[no_mangle]
 pub extern "C" fn cobbletwill_compile(table: &[u8], words: &mut [u16]) -> u32
     ensures answer { λ r. ⌜ r ≡ checkCode (Spec.compile (now (table .entry)) (now (words .entry)) .answer) ⌝ }

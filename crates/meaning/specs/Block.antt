@@ -1,11 +1,13 @@
 -- A group's numbers, from which its output is worked out modulo 65536: what document 01 calls a block.
-use mathlib.Core.Bool.{Bool, true, false}
-use mathlib.Core.List.{List, [], _∷_, map}
+use mathlib.Core.Bool.{Bool, true, false, cond}
+use mathlib.Core.List.{List, [], _∷_, _++_, map}
 use Prim.Native.Nat.{ℕ, _+_, _-_, _*_, _%_}
+use lib.Dec.{eqb}
 use lib.IntN.{ℤ, pos, negsuc}
-use lib.ListN.{length, getD, take, drop}
+use lib.ListN.{length, getD, take, drop, replicate}
 use Rattle.lists.specs.Lists.{flatMap, tabFrom, pad}
-use Rattle.meaning.specs.Table.{Output, sum, Group}
+use Rattle.meaning.specs.Table.{Output, sum, digit, Group}
+use Rattle.meaning.specs.Value.{nibble, hexDigit}
 
 -- "Constants and coefficients are kept modulo 65536"
 unfoldable pub word : ℤ → ℕ
@@ -16,9 +18,9 @@ abbrev pub bit : Bool → ℕ
 bit true = 1
 bit false = 0
 
--- the words of an entry: "a constant and eight coefficients by position"
+-- the words of an entry: a sort, "a constant and eight coefficients by position"
 abbrev pub entrySize : ℕ
-entrySize = 9
+entrySize = 10
 
 -- a block: "K, anchored, output count, then eight times" an entry
 abbrev pub blockSize : ℕ
@@ -28,9 +30,11 @@ blockSize = 3 + 8 * entrySize
 abbrev pub blocksSize : ℕ
 blocksSize = 33 * blockSize
 
--- an output character's entry
+-- an output character's entry: "a first word, 0 for a sum and 1 for a digit. A digit keeps its shift as constant and 1 at its position's
+-- coefficient."
 unfoldable pub entry : Output → List ℕ
-entry (sum c ks) = word c ∷ pad (entrySize - 1) (map word ks)
+entry (sum c ks) = 0 ∷ word c ∷ pad (entrySize - 2) (map word ks)
+entry (digit p shift) = 1 ∷ shift ∷ pad (entrySize - 2) (replicate p 0 ++ (1 ∷ []))
 
 -- "unused words are 0"
 unfoldable pub block : Group → List ℕ
@@ -46,9 +50,13 @@ wordSum v [] w = v
 wordSum v (a ∷ ks) [] = v
 wordSum v (a ∷ ks) (c ∷ w) = wordSum ((v + a * c) % 65536) ks w
 
--- what entry j of a block writes for a word: its constant and its coefficients below K
+-- what entry j of a block writes for a word: the sum of its constant and its coefficients below K times the characters; or the digit that its
+-- constant as shift gives of that sum without the constant, which with one coefficient of 1 is the character at its position
 unfoldable pub entryValue : List ℕ → ℕ → List ℕ → ℕ
-entryValue b j w = wordSum (at b (3 + entrySize * j)) (take (at b 0) (drop (4 + entrySize * j) b)) w
+entryValue b j w =
+    let constant = at b (4 + entrySize * j) in
+    let coefficients = take (at b 0) (drop (5 + entrySize * j) b) in
+    cond (eqb (at b (3 + entrySize * j)) 0) (wordSum constant coefficients w) (hexDigit (nibble constant (wordSum 0 coefficients w)))
 
 -- what a block writes for a word
 unfoldable pub blockOutput : List ℕ → List ℕ → List ℕ

@@ -9,8 +9,8 @@ use lib.ListN.{length, take, drop, replicate}
 use Rattle.lists.specs.Lists.{atLast, lastD, isSome, orElse}
 use Rattle.lists.specs.Decide.{select}
 use Rattle.meaning.specs.Refusal.{Outcome, refused, accepted, andThen}
-use Rattle.meaning.specs.Table.{Range, Output, sum, Group, Table, everyCharacter}
-use Rattle.meaning.specs.Record.{Record, rule, range, output, term, default, decode}
+use Rattle.meaning.specs.Table.{Range, Output, sum, digit, Group, Table, everyCharacter}
+use Rattle.meaning.specs.Record.{Record, rule, range, output, term, default, hexadecimal, decode}
 use Rattle.meaning.specs.Value.{safe}
 
 -- the groups read so far, the last of them perhaps unfinished, and the last record's kind, 0 for none
@@ -28,6 +28,7 @@ latest s = orElse (lastD (everyCharacter []) (s .table .rules)) (s .table .defau
 -- how many positions the last output character's coefficients reach
 abbrev pub reach : Output → ℕ
 reach (sum c ks) = length ks
+reach (digit p shift) = 0
 
 unfoldable pub latestReach : Reading → ℕ
 latestReach s = reach (lastD (sum (pos 0) []) (latest s .outputs))
@@ -49,14 +50,16 @@ misplaced s (range p r) =
     not (ranging s) || leb (latest s .size) p || ltb (suc p) (length ps)
     || (eqb (suc p) (length ps) && leb (r .lowest) (lastD r (lastD [] ps) .highest))
 misplaced s (output c) = eqb (s .kind) 0
+misplaced s (hexadecimal p shift) = eqb (s .kind) 0 || leb (latest s .size) p
 misplaced s (term p a) = not (eqb (s .kind) 3 || eqb (s .kind) 4) || leb (latest s .size) p || ltb p (latestReach s)
 
--- refusal 4: "a position skipped, or unfilled when the ranges end (at a record of kind 1, 3 or 5 ..)"
+-- refusal 4: "a position skipped, or unfilled when the ranges end (at a record of kind 1, 3 or 5 ..)", and of kind 6
 unfoldable pub skipping : Reading → Record → Bool
 skipping s (rule k a) = unfilled s
 skipping s default = unfilled s
 skipping s (range p r) = ltb (length (latest s .ranges)) p
 skipping s (output c) = unfilled s
+skipping s (hexadecimal p shift) = unfilled s
 skipping s (term p a) = false
 
 -- refusal 6: "a 33rd rule, fifth range of a position, ninth output character"
@@ -65,6 +68,7 @@ tooMany s (rule k a) = eqb (length (s .table .rules)) 32
 tooMany s default = false
 tooMany s (range p r) = eqb (suc p) (length (latest s .ranges)) && eqb (length (lastD [] (latest s .ranges))) 4
 tooMany s (output c) = eqb (length (latest s .outputs)) 8
+tooMany s (hexadecimal p shift) = eqb (length (latest s .outputs)) 8
 tooMany s (term p a) = false
 
 -- the table with its last group changed
@@ -82,8 +86,10 @@ addRange p r ps = cond (eqb p (length ps)) (ps ++ ((r ∷ []) ∷ [])) (atLast (
 unfoldable pub signed : ℕ → ℕ → ℤ
 signed n x = cond (ltb x (2 ^ (n - 1))) (pos x) (subℕ x (2 ^ n))
 
+-- a digit "takes no terms"
 abbrev pub addTerm : ℕ → ℤ → Output → Output
 addTerm p a (sum c ks) = sum c (ks ++ replicate (p - length ks) (pos 0) ++ (a ∷ []))
+addTerm p a (digit q shift) = digit q shift
 
 abbrev pub changeRanges : (List (List Range) → List (List Range)) → Group → Group
 changeRanges f g = record { size = g .size; anchored = g .anchored; ranges = f (g .ranges); outputs = g .outputs }
@@ -91,13 +97,17 @@ changeRanges f g = record { size = g .size; anchored = g .anchored; ranges = f (
 abbrev pub changeOutputs : (List Output → List Output) → Group → Group
 changeOutputs f g = record { size = g .size; anchored = g .anchored; ranges = g .ranges; outputs = f (g .outputs) }
 
+abbrev pub addOutput : Output → Table → Table
+addOutput o t = changeLatest (changeOutputs (λ os. os ++ (o ∷ []))) t
+
 -- the reading with the record taken in
 unfoldable pub taken : Reading → Record → Reading
 taken s (rule k a) =
     let g : Group = record { size = k; anchored = a; ranges = []; outputs = [] } in
     record { table = record { rules = s .table .rules ++ (g ∷ []); default = none }; kind = 1 }
 taken s (range p r) = record { table = changeLatest (changeRanges (addRange p r)) (s .table); kind = 2 }
-taken s (output c) = record { table = changeLatest (changeOutputs (λ os. os ++ (sum (signed 32 c) [] ∷ []))) (s .table); kind = 3 }
+taken s (output c) = record { table = addOutput (sum (signed 32 c) []) (s .table); kind = 3 }
+taken s (hexadecimal p shift) = record { table = addOutput (digit p shift) (s .table); kind = 6 }
 taken s (term p a) = record { table = changeLatest (changeOutputs (atLast (addTerm p (signed 16 a)))) (s .table); kind = 4 }
 taken s default = record { table = record { rules = s .table .rules; default = some (everyCharacter []) }; kind = 5 }
 

@@ -7,16 +7,17 @@ use lib.Dec.{eqb, leb}
 use lib.ListN.{getD, drop}
 use Rattle.lists.specs.Lists.{all}
 use Rattle.lists.specs.Decide.{allOf, select}
-use Rattle.meaning.specs.Table.{Range}
+use Rattle.meaning.specs.Table.{Range, isShift}
 
 -- a rule's K and whether it is anchored; a range's position; an output character's constant, 32 bits; a term's position and coefficient,
--- 16 bits; the default
+-- 16 bits; the default; a hexadecimal digit's position and shift
 pub data Record : Type 0 where
   rule : ℕ → Bool → Record
   range : ℕ → Range → Record
   output : ℕ → Record
   term : ℕ → ℕ → Record
   default : Record
+  hexadecimal : ℕ → ℕ → Record
 
 -- "Bytes not named are zero"
 abbrev pub zeros : List ℕ → Bool
@@ -36,4 +37,5 @@ decode b =
     ∷ (allOf (eqb kind 3 ∷ zeros (p ∷ byte 2 ∷ byte 3 ∷ []) ∷ []), some (output (lo + 65536 * hi)))
     ∷ (allOf (eqb kind 4 ∷ leb p 7 ∷ zeros (byte 2 ∷ byte 3 ∷ hi ∷ []) ∷ leb 1 lo ∷ []), some (term p lo))
     ∷ (allOf (eqb kind 5 ∷ zeros (drop 1 b) ∷ []), some default)
+    ∷ (allOf (eqb kind 6 ∷ leb p 7 ∷ isShift (byte 2) ∷ zeros (drop 3 b) ∷ []), some (hexadecimal p (byte 2)))
     ∷ []) none

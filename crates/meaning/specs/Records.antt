@@ -4,10 +4,11 @@ use mathlib.Core.List.{List, [], _∷_, _++_}
 use mathlib.Core.Logic.{_≢_}
 use mathlib.Core.Path.{_≡_}
 use Prim.Native.Nat.{ℕ, zero, suc, _-_, _/_, _%_, _^_, _*_, _≤_, _<_}
+use lib.Dec.{T}
 use lib.IntN.{ℤ, pos, negsuc}
 use lib.ListN.{take, drop}
 use Rattle.lists.specs.Lists.{Each, flatMap, optional}
-use Rattle.meaning.specs.Table.{Range, Output, sum, Group, Table}
+use Rattle.meaning.specs.Table.{Range, Output, sum, digit, Group, Table, isShift}
 use Rattle.meaning.specs.WellFormed.{WellFormedRange, Signed}
 
 -- a table is lent as bytes
@@ -51,6 +52,10 @@ termRecord x = 4 ∷ x .position ∷ 0 ∷ 0 ∷ (littleEndian 2 (twosComplement
 abbrev pub defaultRecord : List ℕ
 defaultRecord = 5 ∷ 0 ∷ 0 ∷ 0 ∷ 0 ∷ 0 ∷ 0 ∷ 0 ∷ []
 
+-- "A new record, kind 6": "Byte 1 is a position and byte 2 a shift of 0, 4, 8 or 12"
+abbrev pub digitRecord : ℕ → ℕ → List ℕ
+digitRecord p shift = 6 ∷ p ∷ shift ∷ 0 ∷ 0 ∷ 0 ∷ 0 ∷ 0 ∷ []
+
 -- the bytes are those of each element, one after another
 abbrev pub Joined : {A : Type 0} → (A → List ℕ → Type 0) → List A → List ℕ → Type 0
 Joined R [] b = b ≡ []
@@ -72,9 +77,10 @@ terms p (negsuc a ∷ ks) = record { position = p; coefficient = negsuc a } ∷ 
 abbrev pub Listed : List ℤ → List Term → Type 0
 Listed ks xs = xs ≡ terms 0 ks
 
--- "its output characters, each followed by its terms"
+-- "its output characters, each followed by its terms"; a digit "stands wherever kind 3 may and takes no terms"
 abbrev pub OutputRecords : Output → List ℕ → Type 0
 OutputRecords (sum c ks) b = (xs : List Term) × Listed ks xs × (b ≡ outputRecord c ++ flatMap termRecord xs)
+OutputRecords (digit p shift) b = b ≡ digitRecord p shift
 
 -- "A rule's group is kind 1, its ranges, its output characters"
 pub record RuleRecords (g : Group) (b : List ℕ) : Type 0 where
@@ -104,6 +110,7 @@ pub data Known : List ℕ → Type 0 where
   output : (c : ℤ) → Signed 32 c → Known (outputRecord c)
   term : (x : Term) → x .position ≤ 7 → Signed 16 (x .coefficient) → x .coefficient ≢ pos 0 → Known (termRecord x)
   default : Known defaultRecord
+  hexadecimal : (p shift : ℕ) → p ≤ 7 → T (isShift shift) → Known (digitRecord p shift)
 
 -- record number i
 abbrev pub recordAt : List ℕ → ℕ → List ℕ

@@ -18,9 +18,14 @@ pub record Range : Type 0 where
   pub highest : ℕ
 
 -- An output character: the sum of a constant and, for each position from 0, a coefficient (0 where no term names the position) times the
--- character there.
+-- character there; or a hexadecimal digit of the character at a position, with a shift that says which.
 pub data Output : Type 0 where
   sum : ℤ → List ℤ → Output
+  digit : ℕ → ℕ → Output
+
+-- "a shift of 0, 4, 8 or 12"
+abbrev pub isShift : ℕ → Bool
+isShift n = any (eqb n) (0 ∷ 4 ∷ 8 ∷ 12 ∷ [])
 
 -- a rule or the default: its length K, whether it is anchored, the ranges of each position, its output characters
 pub record Group : Type 0 where

@@ -1,12 +1,13 @@
 -- "An output character's value", and what refusal 7 asks of it.
 use mathlib.Core.Bool.{Bool, true, false, _&&_, cond, Bool·beq}
 use mathlib.Core.List.{List, [], _∷_}
-use Prim.Native.Nat.{ℕ, min, max}
-use lib.Dec.{T}
+use Prim.Native.Nat.{ℕ, _+_, _/_, _%_, _^_, min, max}
+use lib.Dec.{T, ltb}
 use lib.IntN.{ℤ, pos, _+ℤ_, _*ℤ_}
+use lib.ListN.{getD}
 use lib.Signed.{leZ, nonNeg, _≤ℤ_}
 use Rattle.lists.specs.Lists.{all, Each}
-use Rattle.meaning.specs.Table.{Range, Output, sum, Table, inRanges, groups}
+use Rattle.meaning.specs.Table.{Range, Output, sum, digit, Table, inRanges, groups}
 
 -- each coefficient times the character at its position
 unfoldable pub dot : List ℤ → List ℕ → ℤ
@@ -14,9 +15,18 @@ dot [] w = pos 0
 dot (a ∷ ks) [] = pos 0
 dot (a ∷ ks) (c ∷ w) = a *ℤ pos c +ℤ dot ks w
 
--- "its constant plus each coefficient times the character at that position"
+-- "v is the character divided by 2 to that shift, rounded down, modulo 16"
+unfoldable pub nibble : ℕ → ℕ → ℕ
+nibble shift c = c / 2 ^ shift % 16
+
+-- "48 + v when v is below 10, and 55 + v from 10 to 15"
+unfoldable pub hexDigit : ℕ → ℕ
+hexDigit v = cond (ltb v 10) (48 + v) (55 + v)
+
+-- "its constant plus each coefficient times the character at that position"; a digit's is that of the character at its position
 unfoldable pub value : Output → List ℕ → ℤ
 value (sum c ks) w = c +ℤ dot ks w
+value (digit p shift) w = pos (hexDigit (nibble shift (getD w p 0)))
 
 -- the word has a character in the ranges of each position, and no more
 unfoldable pub fitsWord : List (List Range) → List ℕ → Bool
@@ -37,7 +47,8 @@ SafeOutput ps o = (w : List ℕ) → T (fitsWord ps w) → IsCharacter (value o 
 unfoldable pub SafeTable : Table → Type 0
 SafeTable t = Each (λ g. Each (SafeOutput (g .ranges)) (g .outputs)) (groups t)
 
--- The same as a test that can be run: the value at the word that fits and makes it least, and at the one that makes it greatest.
+-- The same as a test that can be run: the value at the word that fits and makes it least, and at the one that makes it greatest. A digit is a
+-- character at every word.
 
 unfoldable pub lowestOf : List Range → ℕ
 lowestOf [] = 0
@@ -57,6 +68,7 @@ extreme sign (a ∷ ks) (rs ∷ ps) = cond (Bool·beq (nonNeg a) sign) (lowestOf
 
 unfoldable pub safeOutput : List (List Range) → Output → Bool
 safeOutput ps (sum c ks) = leZ (pos 0) (value (sum c ks) (extreme true ks ps)) && leZ (value (sum c ks) (extreme false ks ps)) (pos 65535)
+safeOutput ps (digit p shift) = true
 
 unfoldable pub safe : Table → Bool
 safe t = all (λ g. all (safeOutput (g .ranges)) (g .outputs)) (groups t)

@@ -5,8 +5,9 @@ use mathlib.Core.Path.{_≡_}
 use Prim.Native.Nat.{ℕ, _-_, _^_, _≤_, _<_}
 use lib.IntN.{ℤ, pos, negsuc}
 use lib.ListN.{length}
+use lib.Dec.{T}
 use Rattle.lists.specs.Lists.{Each, lastD, optional}
-use Rattle.meaning.specs.Table.{Range, Output, sum, Group, Table, everyCharacter}
+use Rattle.meaning.specs.Table.{Range, Output, sum, digit, Group, Table, everyCharacter, isShift}
 
 -- "lowest at most highest", both of them characters
 pub record WellFormedRange (r : Range) : Type 0 where
@@ -39,9 +40,15 @@ pub record WellFormedSum (k : ℕ) (c : ℤ) (ks : List ℤ) : Type 0 where
   pub below : length ks ≤ k
   pub last-named : lastD (pos 1) ks ≢ pos 0
 
+-- "Byte 1 is a position and byte 2 a shift of 0, 4, 8 or 12", "Positions are below K"
+pub record WellFormedDigit (k p shift : ℕ) : Type 0 where
+  pub below : p < k
+  pub shifts : T (isShift shift)
+
 -- an output character in a group of size k
 abbrev pub WellFormedOutput : ℕ → Output → Type 0
 WellFormedOutput k (sum c ks) = WellFormedSum k c ks
+WellFormedOutput k (digit p shift) = WellFormedDigit k p shift
 
 -- "its length K, 1 to 8", "Every position has" its ranges, "0 to 8 output characters in a group"
 pub record WellFormedRule (g : Group) : Type 0 where

@@ -1,8 +1,9 @@
-// What a group writes: sums modulo 65536 of a constant and coefficients times characters.
+// What a group writes: sums modulo 65536 of a constant and coefficients times characters, and hexadecimal digits of characters.
 ghost use mathlib.Core.Path.{_≡_};
 ghost use mathlib.Core.List.{_++_};
 ghost use Prim.Native.Nat.{_+_, _*_, _%_, _≤_, _<_};
 ghost use lib.ListN.{length, take, drop};
+ghost use Rattle.meaning.specs.Value.{nibble, hexDigit};
 ghost use Rattle.meaning.specs.Block.{at, wordSum, entryValue, blockOutput, blockSize, blocksSize};
 use crate::layout::BLOCK;
 use crate::layout::ENTRY;
@@ -14,18 +15,39 @@ fn wrapping_product(a: u16, c: u16) -> u16
     (a as u32 * c as u32 % 65536) as u16
 }
 
-// The constant that stands at `from`, and each coefficient after it times its character of `word`.
-fn sum_at(blocks: &[u16], from: usize, word: &[u16]) -> u16
-    requires { ⌜ from + 1 + length (now word) ≤ length (now blocks) ⌝ }
-    ensures { λ r. ⌜ r ≡ wordSum (at (now (blocks .entry)) from) (take (length (now (word .entry))) (drop (from + 1) (now (blocks .entry)))) (now (word .entry)) ⌝ }
+// A constant, and each coefficient from `from` on times its character of `word`.
+fn sum_at(constant: u16, blocks: &[u16], from: usize, word: &[u16]) -> u16
+    requires { ⌜ from + length (now word) ≤ length (now blocks) ⌝ }
+    ensures { λ r. ⌜ r ≡ wordSum constant (take (length (now (word .entry))) (drop from (now (blocks .entry)))) (now (word .entry)) ⌝ }
 {
-    let mut sum = blocks[from];
+    let mut sum = constant;
     let mut i = 0;
     while i < word.len() {
-        sum = std::num::wrapping_add_u16(sum, wrapping_product(blocks[from + 1 + i], word[i]));
+        sum = std::num::wrapping_add_u16(sum, wrapping_product(blocks[from + i], word[i]));
         i += 1;
     }
     sum
+}
+
+// Four bits of a character, those from `shift` on.
+fn nibble_of(shift: u16, character: u16) -> u16
+    ensures { λ r. ⌜ r ≡ nibble shift character ⌝ }
+{
+    if shift < 16 {
+        return (character >> shift) % 16;
+    }
+    0
+}
+
+// The hexadecimal digit of a number, which is below 16.
+fn digit_of(number: u16) -> u16
+    requires { ⌜ number < 16 ⌝ }
+    ensures { λ r. ⌜ r ≡ hexDigit number ⌝ }
+{
+    if number < 10 {
+        return 48 + number;
+    }
+    55 + number
 }
 
 // What an entry of a group writes for the group's characters.
@@ -34,7 +56,12 @@ pub fn entry_value(blocks: &[u16], group: usize, entry: usize, word: &[u16]) -> 
     requires { ⌜ (length (now word) ≡ at (now blocks) (blockSize * group)) × (length (now word) ≤ 8) ⌝ }
     ensures { λ r. ⌜ r ≡ entryValue (drop (blockSize * group) (now (blocks .entry))) entry (now (word .entry)) ⌝ }
 {
-    sum_at(blocks, BLOCK * group + 3 + ENTRY * entry, word)
+    let from = BLOCK * group + 3 + ENTRY * entry;
+    let constant = blocks[from + 1];
+    if blocks[from] == 0 {
+        return sum_at(constant, blocks, from + 2, word);
+    }
+    digit_of(nibble_of(constant, sum_at(0, blocks, from + 2, word)))
 }
 
 // What a group writes for the characters from `place` on goes to `output` from `count` on; the count after it.

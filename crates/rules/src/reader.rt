@@ -5,11 +5,11 @@ ghost use Prim.Native.Nat.{_+_, _*_, _≤_, _<_};
 ghost use lib.Dec.{eqb, leb, ltb};
 ghost use lib.ListN.{length, set};
 ghost use Rattle.meaning.specs.Table.{Range};
-ghost use Rattle.meaning.specs.Record.{rule, range, output, term, default};
+ghost use Rattle.meaning.specs.Record.{rule, range, output, term, default, hexadecimal};
 ghost use Rattle.meaning.specs.Block.{bit, blockSize, entrySize};
 ghost use Rattle.meaning.specs.bridge.Flat.{loadedSize};
 ghost use Rattle.rules.specs.bridge.Readings.{recordOf, stepOf};
-ghost use Rattle.rules.specs.bridge.Summary.{Fitting, everyLast, started, rangesRead, gap, groupNumber, slotNumber, rangedTo, summedTo, rangePut, outputPut, admit, admitted, ifAdmitted, ifTaken};
+ghost use Rattle.rules.specs.bridge.Summary.{Fitting, everyLast, started, rangesRead, gap, groupNumber, slotNumber, rangedTo, summedTo, rangePut, outputPut, digitPut, admit, admitted, ifAdmitted, ifTaken};
 use crate::layout::BLOCK;
 use crate::layout::DEFAULT_BLOCK;
 use crate::layout::DEFAULT_HIGHEST;
@@ -281,7 +281,7 @@ fn put_output(group: usize, number: usize, constant: u32, loaded: &mut [u16])
     ensures { λ _. ⌜ now (loaded .exit) ≡ outputPut group number constant (now (loaded .entry)) ⌝ }
 {
     loaded[BLOCK * group + 2] = (number + 1) as u16;
-    loaded[BLOCK * group + 3 + ENTRY * number] = (constant % 65536) as u16;
+    loaded[BLOCK * group + 4 + ENTRY * number] = (constant % 65536) as u16;
     loaded[HIGHS_FROM + 8 * group + number] = (constant / 65536) as u16;
 }
 
@@ -306,6 +306,51 @@ fn on_output(reader: Reader, constant: u32, loaded: &mut [u16]) -> Step
     Step::Next(summed(reader, 3, outputs + 1, 0))
 }
 
+// Refusal 3 of a digit: no group has begun, or its position is not below K.
+fn digit_misplaced(reader: Reader, position: usize) -> bool
+    ensures { λ r. ⌜ r ≡ (eqb (reader .kind) 0 || leb (reader .last .size) position) ⌝ }
+{
+    if reader.kind == 0 {
+        return true;
+    }
+    reader.last.size <= position
+}
+
+// Output character `number` of a group, a digit of the character at a position.
+fn put_digit(group: usize, number: usize, position: usize, shift: u8, loaded: &mut [u16])
+    requires { ⌜ (group < 33) × (number < 8) × (position < 8) ⌝ }
+    requires { ⌜ length (now loaded) ≡ loadedSize ⌝ }
+    ensures { λ _. ⌜ now (loaded .exit) ≡ digitPut group number position shift (now (loaded .entry)) ⌝ }
+{
+    loaded[BLOCK * group + 2] = (number + 1) as u16;
+    let at = BLOCK * group + 3 + ENTRY * number;
+    loaded[at] = 1;
+    loaded[at + 1] = shift as u16;
+    loaded[at + 2 + position] = 1;
+}
+
+// A hexadecimal digit of the last group, by 4 and 6 as another output character.
+fn on_hexadecimal(reader: Reader, position: u8, shift: u8, loaded: &mut [u16]) -> Step
+    requires { ⌜ Fitting reader ⌝ }
+    requires { ⌜ length (now loaded) ≡ loadedSize ⌝ }
+    ensures { λ r. ⌜ stepOf r ≡ admit reader (hexadecimal position shift) ⌝ }
+    ensures { λ _. ⌜ now (loaded .exit) ≡ ifAdmitted reader (hexadecimal position shift) (now (loaded .entry)) ⌝ }
+{
+    let place = position as usize;
+    if digit_misplaced(reader, place) {
+        return Step::Refused(3);
+    }
+    if has_gap(reader) {
+        return Step::Refused(4);
+    }
+    let outputs = reader.last.outputs;
+    if outputs == 8 {
+        return Step::Refused(6);
+    }
+    put_digit(group_number(reader), outputs, place, shift, loaded);
+    Step::Next(summed(reader, 6, outputs + 1, 0))
+}
+
 // Refusal 3 of a term: it may not come, its position is not below K, or it is out of order.
 fn term_misplaced(reader: Reader, position: usize) -> bool
     ensures { λ r. ⌜ r ≡ (not (eqb (reader .kind) 3 || eqb (reader .kind) 4) || leb (reader .last .size) position || ltb position (reader .last .reach)) ⌝ }
@@ -323,9 +368,9 @@ fn term_misplaced(reader: Reader, position: usize) -> bool
 fn put_term(group: usize, number: usize, position: usize, coefficient: u16, loaded: &mut [u16])
     requires { ⌜ (group < 33) × (number < 8) × (position < 8) ⌝ }
     requires { ⌜ length (now loaded) ≡ loadedSize ⌝ }
-    ensures { λ _. ⌜ now (loaded .exit) ≡ set (now (loaded .entry)) (blockSize * group + 4 + entrySize * number + position) coefficient ⌝ }
+    ensures { λ _. ⌜ now (loaded .exit) ≡ set (now (loaded .entry)) (blockSize * group + 5 + entrySize * number + position) coefficient ⌝ }
 {
-    loaded[BLOCK * group + 4 + ENTRY * number + position] = coefficient;
+    loaded[BLOCK * group + 5 + ENTRY * number + position] = coefficient;
 }
 
 // A coefficient of the last output character.
@@ -393,6 +438,7 @@ pub fn take_record(reader: Reader, record: Record, loaded: &mut [u16]) -> Step
             coefficient,
         } => on_term(reader, position, coefficient, loaded),
         Record::Default => on_default(reader, loaded),
+        Record::Hexadecimal { position, shift } => on_hexadecimal(reader, position, shift, loaded),
         Record::Bad => Step::Refused(2),
     }
 }

@@ -24,6 +24,10 @@ pub enum Record {
         coefficient: u16,
     },
     Default,
+    Hexadecimal {
+        position: u8,
+        shift: u8,
+    },
     // refusal 2
     Bad,
 }
@@ -156,6 +160,28 @@ fn default_record(b1: u8, b2: u8, b3: u8, b4: u8, b5: u8, b6: u8, b7: u8) -> Rec
     Record::Default
 }
 
+// Kind 6, a hexadecimal digit: its position, 0 to 7, and its shift, 0, 4, 8 or 12.
+fn hexadecimal_record(position: u8, shift: u8, b3: u8, b4: u8, b5: u8, b6: u8, b7: u8) -> Record
+    ensures { λ r. ⌜ recordOf r ≡ decode (6 ∷ position ∷ shift ∷ b3 ∷ b4 ∷ b5 ∷ b6 ∷ b7 ∷ []) ⌝ }
+{
+    if b3 != 0 {
+        return Record::Bad;
+    }
+    if !both_zero(b4, b5) {
+        return Record::Bad;
+    }
+    if !both_zero(b6, b7) {
+        return Record::Bad;
+    }
+    match position {
+        0..=7 => match shift {
+            0 | 4 | 8 | 12 => Record::Hexadecimal { position, shift },
+            _ => Record::Bad,
+        },
+        _ => Record::Bad,
+    }
+}
+
 // The record whose eight bytes start at `at`.
 pub fn record_at(table: &[u8], at: usize) -> Record
     requires { ⌜ at + 8 ≤ length (now table) ⌝ }
@@ -175,6 +201,7 @@ pub fn record_at(table: &[u8], at: usize) -> Record
         3 => output_record(b1, b2, b3, b4, b5, b6, b7),
         4 => term_record(b1, b2, b3, b4, b5, b6, b7),
         5 => default_record(b1, b2, b3, b4, b5, b6, b7),
+        6 => hexadecimal_record(b1, b2, b3, b4, b5, b6, b7),
         _ => Record::Bad,
     }
 }

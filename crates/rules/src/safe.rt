@@ -8,8 +8,8 @@ ghost use lib.Signed.{nonNeg};
 ghost use mathlib.Core.List.{map};
 ghost use Rattle.meaning.specs.Block.{at, blockSize, entrySize};
 ghost use Rattle.meaning.specs.Reader.{signed};
-ghost use Rattle.meaning.specs.Value.{dot, lowestOf, highestOf, extreme, safeOutput};
-ghost use Rattle.meaning.specs.bridge.Flat.{Flat, slotsFrom, highsFrom, loadedSize, rangeAt, rangesAt, patternAt, outputAt, safeGroupAt, safeAt};
+ghost use Rattle.meaning.specs.Value.{dot, lowestOf, highestOf, extreme};
+ghost use Rattle.meaning.specs.bridge.Flat.{Flat, slotsFrom, highsFrom, loadedSize, rangeAt, rangesAt, patternAt, safeOutputAt, safeGroupAt, safeAt};
 use crate::layout::BLOCK;
 use crate::layout::ENTRY;
 use crate::layout::HIGHS_FROM;
@@ -113,7 +113,7 @@ fn extreme_sum(loaded: &[u16], group: usize, number: usize, least: bool) -> Diff
     requires { ⌜ Flat (now loaded) × (group < 33) × (number < 8) ⌝ }
     ensures sum { λ r. ⌜ (
         let size = at (now (loaded .entry)) (blockSize * group) in
-        let coefficients = map (signed 16) (take size (drop (blockSize * group + 4 + entrySize * number) (now (loaded .entry)))) in
+        let coefficients = map (signed 16) (take size (drop (blockSize * group + 5 + entrySize * number) (now (loaded .entry)))) in
         subℕ (r .plus) (r .minus) ≡ dot coefficients (extreme least coefficients (patternAt (now (loaded .entry)) group size))) ⌝ }
     ensures small { λ r. ⌜ (r .plus ≤ 2 ^ 35) × (r .minus ≤ 2 ^ 35) ⌝ }
 {
@@ -121,7 +121,7 @@ fn extreme_sum(loaded: &[u16], group: usize, number: usize, least: bool) -> Diff
     let mut d = Difference { plus: 0, minus: 0 };
     while p > 0 {
         p -= 1;
-        let coefficient = loaded[BLOCK * group + 4 + ENTRY * number + p];
+        let coefficient = loaded[BLOCK * group + 5 + ENTRY * number + p];
         let character = end_of(loaded, 8 * group + p, coefficient, least);
         d = with_product(d, coefficient, character);
     }
@@ -139,20 +139,23 @@ fn from_halves(low: u16, high: u16) -> u32
 fn constant_of(loaded: &[u16], group: usize, number: usize) -> u32
     requires { ⌜ (group < 33) × (number < 8) × (length (now loaded) ≡ loadedSize) ⌝ }
     ensures { λ r.
-        ⌜ r ≡ at (now (loaded .entry)) (blockSize * group + 3 + entrySize * number) + 65536 * at (now (loaded .entry)) (highsFrom + 8 * group + number) ⌝ }
+        ⌜ r ≡ at (now (loaded .entry)) (blockSize * group + 4 + entrySize * number) + 65536 * at (now (loaded .entry)) (highsFrom + 8 * group + number) ⌝ }
 {
     from_halves(
-        loaded[BLOCK * group + 3 + ENTRY * number],
+        loaded[BLOCK * group + 4 + ENTRY * number],
         loaded[HIGHS_FROM + 8 * group + number],
     )
 }
 
-// The values of an output character are characters at every word that fits.
+// The values of an output character are characters at every word that fits. A digit's are.
 pub fn output_safe(loaded: &[u16], group: usize, number: usize) -> bool
     requires { ⌜ Flat (now loaded) × (group < 33) × (number < 8) ⌝ }
     ensures { λ r.
-        ⌜ r ≡ safeOutput (patternAt (now (loaded .entry)) group (at (now (loaded .entry)) (blockSize * group))) (outputAt (now (loaded .entry)) group number) ⌝ }
+        ⌜ r ≡ safeOutputAt (now (loaded .entry)) group number ⌝ }
 {
+    if loaded[BLOCK * group + 3 + ENTRY * number] != 0 {
+        return true;
+    }
     let constant = constant_of(loaded, group, number);
     let least = with_constant(extreme_sum(loaded, group, number, true), constant);
     if least.plus < least.minus {

@@ -2,12 +2,13 @@
 ghost use mathlib.Core.Bool.{cond, not};
 ghost use mathlib.Core.List.{[], _∷_};
 ghost use mathlib.Core.Path.{_≡_};
-ghost use Prim.Native.Nat.{suc, pred, _≤_, _<_};
+ghost use Prim.Native.Nat.{suc, pred, _+_, _*_, _≤_, _<_};
 ghost use lib.Dec.{eqb};
-ghost use lib.ListN.{length};
+ghost use lib.ListN.{length, take, drop};
 ghost use Rattle.lists.specs.Decide.{allOf, forBelow, implies};
-ghost use Rattle.meaning.specs.Block.{at};
-ghost use Rattle.automaton.specs.Sound.{stateCount, classCount, ruleCount, longestWord, depthWord, acceptAtEndWord, acceptWord, targetWord, blockAt, between, used, soundHeader, soundStarts, soundBlock, soundBlocks, namesRule, soundTarget, soundState, sound};
+ghost use Rattle.meaning.specs.Table.{isShift};
+ghost use Rattle.meaning.specs.Block.{at, entrySize};
+ghost use Rattle.automaton.specs.Sound.{stateCount, classCount, ruleCount, longestWord, expansionWord, depthWord, acceptAtEndWord, acceptWord, targetWord, blockAt, between, used, oneOnly, soundEntry, soundHeader, soundStarts, soundBlock, soundBlocks, namesRule, soundTarget, soundState, sound};
 ghost use Rattle.automaton.specs.Layout.{wordCount};
 use crate::layout::WORDS;
 use crate::numbers::ClassNo;
@@ -21,6 +22,7 @@ use crate::read::class_count;
 use crate::read::class_start;
 use crate::read::default_word;
 use crate::read::depth_word;
+use crate::read::entry_word;
 use crate::read::expansion;
 use crate::read::group_anchored;
 use crate::read::group_outputs;
@@ -82,9 +84,65 @@ fn starts_sound(words: &[u16]) -> bool
     true
 }
 
-// K is at least 1 and at most `most`, anchored at most `anchored`, the output count at most E. Block 32 is the default's.
+// "a shift of 0, 4, 8 or 12"
+fn is_shift(word: u16) -> bool
+    ensures { λ r. ⌜ r ≡ isShift word ⌝ }
+{
+    match word {
+        0 | 4 | 8 | 12 => true,
+        _ => false,
+    }
+}
+
+// Of the first `size` coefficients of an entry just one is not 0, and it is 1: that is, they add up to 1.
+fn one_only(words: &[u16], rule: RuleNo, entry: usize, size: usize) -> bool
+    requires { ⌜ (wordCount ≤ length (now words)) × (rule .0 ≤ 32) × (entry < 8) × (size ≤ 8) ⌝ }
+    ensures { λ r. ⌜ r ≡ oneOnly (take size (drop (5 + entrySize * entry) (blockAt (now (words .entry)) (rule .0)))) ⌝ }
+{
+    let mut total: usize = 0;
+    let mut p = 0;
+    while p < size {
+        total += entry_word(words, rule, entry, 2 + p) as usize;
+        p += 1;
+    }
+    total == 1
+}
+
+// "a known sort, and a digit entry has one of the four shifts and just one coefficient, of 1, below K"
+fn entry_sound(words: &[u16], rule: RuleNo, entry: usize) -> bool
+    requires { ⌜ (wordCount ≤ length (now words)) × (rule .0 ≤ 32) × (entry < 8) × (at (blockAt (now words) (rule .0)) 0 ≤ 8) ⌝ }
+    ensures { λ r. ⌜ r ≡ soundEntry (blockAt (now (words .entry)) (rule .0)) entry ⌝ }
+{
+    match entry_word(words, rule, entry, 0) {
+        0 => true,
+        1 => {
+            if !is_shift(entry_word(words, rule, entry, 1)) {
+                return false;
+            }
+            one_only(words, rule, entry, group_size(words, rule))
+        }
+        _ => false,
+    }
+}
+
+// The entries in use, `count` of them.
+fn entries_sound(words: &[u16], rule: RuleNo, count: usize) -> bool
+    requires { ⌜ (wordCount ≤ length (now words)) × (rule .0 ≤ 32) × (count ≤ 8) × (at (blockAt (now words) (rule .0)) 0 ≤ 8) ⌝ }
+    ensures { λ r. ⌜ r ≡ forBelow count (soundEntry (blockAt (now (words .entry)) (rule .0))) ⌝ }
+{
+    let mut entry = 0;
+    while entry < count {
+        if !entry_sound(words, rule, entry) {
+            return false;
+        }
+        entry += 1;
+    }
+    true
+}
+
+// K is at least 1 and at most `most`, anchored at most `anchored`, the output count at most E, the entries sound. Block 32 is the default's.
 fn block_sound(words: &[u16], rule: RuleNo, most: usize, anchored: usize) -> bool
-    requires { ⌜ (wordCount ≤ length (now words)) × (rule .0 ≤ 32) ⌝ }
+    requires { ⌜ (wordCount ≤ length (now words)) × (rule .0 ≤ 32) × (most ≤ 8) × (expansionWord (now words) ≤ 8) ⌝ }
     ensures { λ r. ⌜ r ≡ soundBlock (now (words .entry)) (rule .0) most anchored ⌝ }
 {
     if !within(1, most, group_size(words, rule)) {
@@ -93,11 +151,16 @@ fn block_sound(words: &[u16], rule: RuleNo, most: usize, anchored: usize) -> boo
     if group_anchored(words, rule) > anchored {
         return false;
     }
-    group_outputs(words, rule) <= expansion(words)
+    let outputs = group_outputs(words, rule);
+    if outputs > expansion(words) {
+        return false;
+    }
+    entries_sound(words, rule, outputs)
 }
 
 fn rule_blocks_sound(words: &[u16]) -> bool
     requires { ⌜ (wordCount ≤ length (now words)) × (ruleCount (now words) ≤ 32) ⌝ }
+    requires { ⌜ (longestWord (now words) ≤ 8) × (expansionWord (now words) ≤ 8) ⌝ }
     ensures { λ r. ⌜ r ≡ forBelow (ruleCount (now (words .entry))) (λ g. soundBlock (now (words .entry)) g (longestWord (now (words .entry))) 1) ⌝ }
 {
     let rules = rule_count(words);
@@ -114,6 +177,7 @@ fn rule_blocks_sound(words: &[u16]) -> bool
 
 fn blocks_sound(words: &[u16]) -> bool
     requires { ⌜ (wordCount ≤ length (now words)) × (ruleCount (now words) ≤ 32) ⌝ }
+    requires { ⌜ (longestWord (now words) ≤ 8) × (expansionWord (now words) ≤ 8) ⌝ }
     ensures { λ r. ⌜ r ≡ soundBlocks (now (words .entry)) ⌝ }
 {
     if !rule_blocks_sound(words) {

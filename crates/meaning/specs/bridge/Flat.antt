@@ -9,7 +9,7 @@ use lib.IntN.{ℤ, pos, negsuc}
 use lib.ListN.{length, take, drop}
 use Rattle.lists.specs.Lists.{flatMap, tabFrom, pad, optional}
 use Rattle.lists.specs.Decide.{forBelow, implies, select}
-use Rattle.meaning.specs.Table.{Range, Output, sum, Group, Table, defaultNumber}
+use Rattle.meaning.specs.Table.{Range, Output, sum, digit, Group, Table, defaultNumber}
 use Rattle.meaning.specs.Reader.{signed}
 use Rattle.meaning.specs.Block.{at, block, blockOutput, blockSize, blocksSize, entrySize}
 use Rattle.meaning.specs.Value.{safeOutput}
@@ -37,9 +37,10 @@ abbrev pub bits : ℤ → ℕ
 bits (pos n) = n % 2 ^ 32
 bits (negsuc n) = 2 ^ 32 - 1 - n % 2 ^ 32
 
--- its upper half; the lower half stands in the block
+-- its upper half; the lower half stands in the block, and a digit has none
 abbrev pub highOf : Output → ℕ
 highOf (sum c ks) = bits c / 65536
+highOf (digit p shift) = 0
 
 unfoldable pub highWords : Table → List ℕ
 highWords t = rows 8 (λ g. map highOf (g .outputs)) t
@@ -93,16 +94,23 @@ tableAt loaded n defaulted =
       default = cond defaulted (some (groupAt loaded defaultNumber)) none;
     }
 
--- output character j of group g: its constant of 32 bits, and its coefficients of 16 bits below the group's length
-unfoldable pub outputAt : List ℕ → ℕ → ℕ → Output
-outputAt loaded g j =
-    sum (signed 32 (at loaded (blockSize * g + 3 + entrySize * j) + 65536 * at loaded (highsFrom + 8 * g + j)))
-    (map (signed 16) (take (at loaded (blockSize * g)) (drop (blockSize * g + 4 + entrySize * j) loaded)))
+-- output character j of group g is a sum
+abbrev pub isSumAt : List ℕ → ℕ → ℕ → Bool
+isSumAt loaded g j = eqb (at loaded (blockSize * g + 3 + entrySize * j)) 0
 
--- refusal 7's test on the array: each output character of a group, each group
+-- that sum: its constant of 32 bits, and its coefficients of 16 bits below the group's length
+unfoldable pub sumAt : List ℕ → ℕ → ℕ → Output
+sumAt loaded g j =
+    sum (signed 32 (at loaded (blockSize * g + 4 + entrySize * j) + 65536 * at loaded (highsFrom + 8 * g + j)))
+    (map (signed 16) (take (at loaded (blockSize * g)) (drop (blockSize * g + 5 + entrySize * j) loaded)))
+
+-- refusal 7's test on the array: each output character of a group, which a digit passes, each group
+abbrev pub safeOutputAt : List ℕ → ℕ → ℕ → Bool
+safeOutputAt loaded g j =
+    implies (isSumAt loaded g j) (safeOutput (patternAt loaded g (at loaded (blockSize * g))) (sumAt loaded g j))
+
 unfoldable pub safeGroupAt : List ℕ → ℕ → Bool
-safeGroupAt loaded g =
-    forBelow (at loaded (blockSize * g + 2)) (λ j. safeOutput (patternAt loaded g (at loaded (blockSize * g))) (outputAt loaded g j))
+safeGroupAt loaded g = forBelow (at loaded (blockSize * g + 2)) (safeOutputAt loaded g)
 
 unfoldable pub safeAt : List ℕ → ℕ → Bool → Bool
 safeAt loaded n defaulted = forBelow n (safeGroupAt loaded) && implies defaulted (safeGroupAt loaded defaultNumber)

@@ -14,7 +14,7 @@ use Rattle.meaning.specs.Table.{Table}
 use Rattle.meaning.specs.bridge.Flat.{loadedWords}
 use Rattle.rules.specs.bridge.Summary.{gap}
 use Rattle.rules.specs.declared.record.Record.{Record}
-use Rattle.rules.specs.declared.record.Record.the-variants.{Rule, Range, Output, Term, Default, Bad}
+use Rattle.rules.specs.declared.record.Record.the-variants.{Rule, Range, Output, Term, Default, Hexadecimal, Bad}
 use Rattle.rules.specs.declared.reader.Reader.{Reader}
 use Rattle.rules.specs.declared.reader.Step.{Step}
 use Rattle.rules.specs.declared.reader.Step.the-variants.{Next, Refused}
@@ -29,6 +29,7 @@ recordOf (Range position lowest highest) = some (Spec.range position (record { l
 recordOf (Output constant) = some (Spec.output constant)
 recordOf (Term position coefficient) = some (Spec.term position coefficient)
 recordOf Default = some Spec.default
+recordOf (Hexadecimal position shift) = some (Spec.hexadecimal position shift)
 recordOf Bad = none
 
 abbrev pub stepOf : Step → Outcome Reader

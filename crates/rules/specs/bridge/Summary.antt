@@ -10,7 +10,7 @@ use Rattle.lists.specs.Decide.{select}
 use Rattle.meaning.specs.Refusal.{Outcome, refused, accepted}
 use Rattle.meaning.specs.Table.{defaultNumber}
 use Rattle.meaning.specs.Block.{bit, blockSize, entrySize}
-use Rattle.meaning.specs.Record.{Record, rule, range, output, term, default, decode}
+use Rattle.meaning.specs.Record.{Record, rule, range, output, term, default, hexadecimal, decode}
 use Rattle.meaning.specs.bridge.Flat.{slotsFrom, rangesFrom, highsFrom}
 use Rattle.rules.specs.declared.reader.Reader.{Reader}
 use Rattle.rules.specs.declared.reader.Last.{Last}
@@ -63,6 +63,7 @@ next r (rule k a) = record { kind = 1; rules = r .rules + 1; defaulted = false; 
 next r (range p c) = rangedTo r (p + 1) (slotNumber r p + 1) (c .highest)
 next r (output c) = summedTo r 3 (r .last .outputs + 1) 0
 next r (term p a) = summedTo r 4 (r .last .outputs) (p + 1)
+next r (hexadecimal p shift) = summedTo r 6 (r .last .outputs + 1) 0
 next r default = record { kind = 5; rules = r .rules; defaulted = true; last = everyLast }
 
 -- one record by 3, 4, 6
@@ -80,6 +81,9 @@ admit r (output c) =
     select ((eqb (r .kind) 0, refused 3) ∷ (gap r, refused 4) ∷ (eqb (r .last .outputs) 8, refused 6) ∷ []) (accepted (next r (output c)))
 admit r (term p a) =
     select ((not (eqb (r .kind) 3 || eqb (r .kind) 4) || leb (r .last .size) p || ltb p (r .last .reach), refused 3) ∷ []) (accepted (next r (term p a)))
+admit r (hexadecimal p shift) =
+    select ((eqb (r .kind) 0 || leb (r .last .size) p, refused 3) ∷ (gap r, refused 4) ∷ (eqb (r .last .outputs) 8, refused 6) ∷ [])
+    (accepted (next r (hexadecimal p shift)))
 admit r default = select ((r .defaulted, refused 3) ∷ (gap r, refused 4) ∷ []) (accepted (next r default))
 
 -- "each by 2, 3, 4, 6"
@@ -91,19 +95,24 @@ admitted r (some x) = admit r x
 abbrev pub groupNumber : Reader → ℕ
 groupNumber r = cond (r .defaulted) defaultNumber (pred (r .rules))
 
--- The table's array with a range put in, an output character, and what a record puts in.
+-- The table's array with a range put in, an output character, a digit, and what a record puts in.
 abbrev pub rangePut : ℕ → ℕ → ℕ → ℕ → ℕ → List ℕ → List ℕ
 rangePut g p slot lowest highest l =
     let i = rangesFrom + 64 * g + 8 * p + 2 * slot in set (set (set l (slotsFrom + 8 * g + p) (slot + 1)) i lowest) (i + 1) highest
 
 abbrev pub outputPut : ℕ → ℕ → ℕ → List ℕ → List ℕ
-outputPut g j c l = set (set (set l (blockSize * g + 2) (j + 1)) (blockSize * g + 3 + entrySize * j) (c % 65536)) (highsFrom + 8 * g + j) (c / 65536)
+outputPut g j c l = set (set (set l (blockSize * g + 2) (j + 1)) (blockSize * g + 4 + entrySize * j) (c % 65536)) (highsFrom + 8 * g + j) (c / 65536)
+
+abbrev pub digitPut : ℕ → ℕ → ℕ → ℕ → List ℕ → List ℕ
+digitPut g j p shift l =
+    let i = blockSize * g + 3 + entrySize * j in set (set (set (set l (blockSize * g + 2) (j + 1)) i 1) (i + 1) shift) (i + 2 + p) 1
 
 abbrev pub loadedBy : Reader → Record → List ℕ → List ℕ
 loadedBy r (rule k a) l = set (set l (blockSize * r .rules) k) (blockSize * r .rules + 1) (bit a)
 loadedBy r (range p c) l = rangePut (groupNumber r) p (slotNumber r p) (c .lowest) (c .highest) l
 loadedBy r (output c) l = outputPut (groupNumber r) (r .last .outputs) c l
-loadedBy r (term p a) l = set l (blockSize * groupNumber r + 4 + entrySize * pred (r .last .outputs) + p) a
+loadedBy r (hexadecimal p shift) l = digitPut (groupNumber r) (r .last .outputs) p shift l
+loadedBy r (term p a) l = set l (blockSize * groupNumber r + 5 + entrySize * pred (r .last .outputs) + p) a
 loadedBy r default l = set (set (set l (32 * blockSize) 1) (slotsFrom + 32 * 8) 1) (rangesFrom + 32 * 64 + 1) 65535
 
 -- the array after a record: changed if the record was taken in
