@@ -5,7 +5,7 @@ use Prim.Native.Nat.{ℕ, _≤_, _<_, _^_}
 use lib.IntN.{ℤ}
 use lib.ListN.{length}
 use Rattle.lists.specs.Lists.{Each}
-use Rattle.meaning.specs.Table.{Output, sum, Group, Table, groups}
+use Rattle.meaning.specs.Table.{Output, sum, digit, Group, Table, groups}
 use Rattle.meaning.specs.Reader.{signed}
 
 -- a number that n bits hold
@@ -16,6 +16,7 @@ pub record Bits (n : ℕ) (z : ℤ) : Type 0 where
 
 abbrev pub NarrowOutput : Output → Type 0
 NarrowOutput (sum c ks) = Bits 32 c × Each (Bits 16) ks
+NarrowOutput (digit p shift) = Unit {0}
 
 pub record NarrowGroup (g : Group) : Type 0 where
   pub few : Each (λ rs. length rs ≤ 4) (g .ranges)

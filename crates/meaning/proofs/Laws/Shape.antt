@@ -3,25 +3,36 @@
 use mathlib.Core.Bool.{false}
 use mathlib.Core.List.{[]}
 use mathlib.Core.Path.{_≡_}
-use Prim.Native.Nat.{_≤_}
+use Prim.Native.Nat.{ℕ, _≤_, _<_}
+use native.Mathlib.Omega.{arith}
+use lib.Dec.{T}
 use lib.ListN.{length}
 use Rattle.lists.specs.Lists.{Each, optional}
-use Rattle.meaning.specs.Table.{Group, Table, everyCharacter}
+use Rattle.meaning.specs.Table.{Output, sum, digit, Group, Table, everyCharacter, isShift}
 use Rattle.meaning.specs.Reader.{reach}
+
+-- an output character of a group of size k: coefficients for its positions alone, or a digit of one of them by a known shift
+abbrev pub Within : ℕ → Output → Type 0
+Within k (sum c ks) = length ks ≤ k
+Within k (digit p shift) = (p < k) × T (isShift shift)
+
+pub within-reach : (k : ℕ) (o : Output) → Within k o → reach o ≤ k
+within-reach k (sum c ks) h = h
+within-reach k (digit p shift) h = omega arith
 
 pub record ShapedGroup (g : Group) : Type 0 where
   pub positive : 1 ≤ g .size
   pub small : g .size ≤ 8
   pub places : length (g .ranges) ≡ g .size
   pub outputs : length (g .outputs) ≤ 8
-  pub reaches : Each (λ o. reach o ≤ g .size) (g .outputs)
+  pub reaches : Each (Within (g .size)) (g .outputs)
 
 pub record ShapedDefault (g : Group) : Type 0 where
   pub size : g .size ≡ 1
   pub anchored : g .anchored ≡ false
   pub ranges : g .ranges ≡ everyCharacter [] .ranges
   pub outputs : length (g .outputs) ≤ 8
-  pub reaches : Each (λ o. reach o ≤ 1) (g .outputs)
+  pub reaches : Each (Within 1) (g .outputs)
 
 pub record Shaped (t : Table) : Type 0 where
   pub some-rule : 1 ≤ length (t .rules)
