@@ -1,6 +1,6 @@
 -- What a group writes, one sum after another, and a conversion, one choice after another.
 -- Each law is one turn of a loop: a sum by one coefficient, an output by one character, a conversion by one group.
-use mathlib.Core.Bool.{Bool, true, false, cond}
+use mathlib.Core.Bool.{Bool, true, false}
 use mathlib.Core.List.{List, [], _∷_, _++_, append-assoc, append-nil}
 use mathlib.Core.Option.{Option, none, some}
 use mathlib.Core.Path.{_≡_, refl, sym, ap, ap₂, subst, _∙_}
@@ -14,8 +14,7 @@ use lib.Seq.{length-take-le, take-all, take-append-seam, drop-append-add, drop-c
 use Rattle.lists.specs.Lists.{tabFrom, orElse}
 use Rattle.lists.proofs.Laws.Tests.{of-cond}
 use Rattle.meaning.specs.Table.{Table, everyCharacter, ruleAt, defaultNumber, group}
-use Rattle.meaning.specs.Value.{nibble, hexDigit}
-use Rattle.meaning.specs.Block.{at, wordSum, entryValue, blockOutput, blockSize, entrySize}
+use Rattle.meaning.specs.Block.{at, wordSum, valueBy, entryValue, blockOutput, blockSize, entrySize}
 use Rattle.meaning.specs.Meaning.{best, orDefault, choose, Emission, textOf, covered, chosen, convertBy, convertFrom, convert}
 use Rattle.meaning.specs.bridge.Flat.{rangesAt, patternAt, groupAt, tableAt, flatText}
 use Rattle.meaning.specs.Refusal.{Outcome, accepted}
@@ -85,7 +84,7 @@ module _ (blocks : List ℕ) (g : ℕ) where
       let from = blockSize * g + 3 + entrySize * j in
       let coefficients = take (length w) (drop (from + 2) blocks) in
       entryValue (drop (blockSize * g) blocks) j w
-      ≡ cond (eqb (at blocks from) 0) (wordSum (at blocks (from + 1)) coefficients w) (hexDigit (nibble (at blocks (from + 1)) (wordSum 0 coefficients w)))
+      ≡ valueBy (at blocks from) (at blocks (from + 1)) coefficients w
   unfolding entryValue
   entry-placed j w size =
       let c : blockSize * g + (3 + entrySize * j) ≡ blockSize * g + 3 + entrySize * j = omega arith in
