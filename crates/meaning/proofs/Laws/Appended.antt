@@ -12,7 +12,7 @@ use lib.IntN.{ℤ, pos, negsuc}
 use lib.ListN.{length, replicate, length-append, length-replicate}
 use Rattle.lists.specs.Lists.{flatMap, atLast, lastD, isSome, optional}
 use Rattle.lists.proofs.Laws.Tests.{of-cond, neqb→ne}
-use Rattle.meaning.specs.Table.{Range, Output, sum, Group, everyCharacter}
+use Rattle.meaning.specs.Table.{Range, Output, sum, digit, Group, everyCharacter}
 use Rattle.meaning.specs.Reader.{reach, changeLatest, addRange, addTerm, changeRanges, changeOutputs}
 use Rattle.meaning.specs.Records.{ruleRecord, rangeRecord, outputRecord, Term, termRecord, defaultRecord, Joined, rangeRecords, terms, OutputRecords, RuleRecords, DefaultRecords, Records}
 use Rattle.meaning.proofs.Laws.Reading.{top}
@@ -111,9 +111,19 @@ terms-more p a ks d h =
     ∙ ap (λ i. terms 0 ks ++ terms i (a ∷ [])) q
     ∙ ap (λ l. terms 0 ks ++ l) (term-one p a [] d)
 
-pub term-written : (p : ℕ) (a : ℤ) (o : Output) → a ≢ pos 0 → reach o ≤ p → (b : List ℕ) → OutputRecords o b →
+-- a sum takes terms, a digit none
+abbrev pub IsSum : Output → Type 0
+IsSum (sum c ks) = Unit {0}
+IsSum (digit p shift) = ⊥
+
+pub term-sum : (p : ℕ) (a : ℤ) (o : Output) → IsSum o → IsSum (addTerm p a o)
+term-sum p a (sum c ks) i = tt
+term-sum p a (digit q shift) i = i
+
+pub term-written : (p : ℕ) (a : ℤ) (o : Output) → IsSum o → a ≢ pos 0 → reach o ≤ p → (b : List ℕ) → OutputRecords o b →
     OutputRecords (addTerm p a o) (b ++ termRecord (record { position = p; coefficient = a }))
-term-written p a (sum c ks) d h b w =
+term-written p a (digit q shift) i d h b w = absurd i
+term-written p a (sum c ks) i d h b w =
     let x : Term = record { position = p; coefficient = a } in (
       w .0 ++ (x ∷ []),
       ap (λ l. l ++ (x ∷ [])) (w .1) ∙ sym (terms-more p a ks d h),

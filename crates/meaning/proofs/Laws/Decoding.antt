@@ -9,14 +9,15 @@ use Prim.Native.Nat.{ℕ, zero, suc, _+_, _*_, _^_, _≤_, _<_}
 use native.Mathlib.Nat.{add-zero, add-suc}
 use native.Mathlib.Omega.{arith}
 use borrow.Author.Tests.{eq-eqb, ne-eqb}
-use lib.Dec.{eqb, leb, leb→le, eqb→eq}
+use lib.Dec.{T, eqb, leb, leb→le, eqb→eq}
 use lib.ListN.{length, getD, take, drop}
 use lib.Seq.{drop-cons}
 use Rattle.lists.specs.Lists.{Each, tabFrom}
 use Rattle.lists.specs.Decide.{allOf, select}
 use Rattle.lists.proofs.Laws.Tests.{holds, by-cases, and-assoc, and-true, test-eq, to-T, one-fails, select-here, select-next, select-last}
 use Rattle.lists.proofs.Laws.Each.{all-each, each-all}
-use Rattle.meaning.specs.Record.{Record, rule, range, output, term, default, zeros, decode}
+use Rattle.meaning.specs.Table.{isShift}
+use Rattle.meaning.specs.Record.{Record, rule, range, output, term, default, hexadecimal, zeros, decode}
 
 -- the elements of a part
 
@@ -86,9 +87,15 @@ module _ (p b2 b3 b4 b5 b6 b7 : ℕ) where
   unfolding decode select allOf
   decode-default = rw (← zero-first p) (simp (and-assoc, and-true))
 
-pub decode-unknown : (kind : ℕ) (rest : List ℕ) → kind ≢ 1 → kind ≢ 2 → kind ≢ 3 → kind ≢ 4 → kind ≢ 5 → decode (kind ∷ rest) ≡ none
+  pub decode-hexadecimal : decode (6 ∷ p ∷ b2 ∷ b3 ∷ b4 ∷ b5 ∷ b6 ∷ b7 ∷ []) ≡
+      onlyIf (leb p 7 ∷ isShift b2 ∷ eqb b3 0 ∷ zeros (b4 ∷ b5 ∷ []) ∷ zeros (b6 ∷ b7 ∷ []) ∷ []) (hexadecimal p b2)
+  unfolding decode select allOf
+  decode-hexadecimal = rw (← zero-first b3) (simp (and-assoc, and-true))
+
+pub decode-unknown : (kind : ℕ) (rest : List ℕ) → kind ≢ 1 → kind ≢ 2 → kind ≢ 3 → kind ≢ 4 → kind ≢ 5 → kind ≢ 6 → decode (kind ∷ rest) ≡ none
 unfolding decode select allOf
-decode-unknown kind rest h1 h2 h3 h4 h5 = simp (ne-eqb kind 1 h1, ne-eqb kind 2 h2, ne-eqb kind 3 h3, ne-eqb kind 4 h4, ne-eqb kind 5 h5)
+decode-unknown kind rest h1 h2 h3 h4 h5 h6 =
+    simp (ne-eqb kind 1 h1, ne-eqb kind 2 h2, ne-eqb kind 3 h3, ne-eqb kind 4 h4, ne-eqb kind 5 h5, ne-eqb kind 6 h6)
 
 -- the fields of a decoded record
 
@@ -98,6 +105,7 @@ FittingRecord (range p r) = (p ≤ 7) × (r .lowest ≤ r .highest) × (r .highe
 FittingRecord (output c) = c < 2 ^ 32
 FittingRecord (term p a) = (p ≤ 7) × (1 ≤ a) × (a < 65536)
 FittingRecord default = Unit {0}
+FittingRecord (hexadecimal p shift) = (p ≤ 7) × T (isShift shift)
 
 abbrev IfRecord : Option Record → Type 0
 IfRecord none = Unit {0}
@@ -121,7 +129,7 @@ fits b e =
           λ _. omega arith,
           λ _. (
             λ t. let h = holds _ t in (leb→le _ _ (h .1 .0), leb→le _ _ (h .1 .1 .1 .0), lo),
-            λ _. (λ _. tt, λ _. tt),
+            λ _. (λ _. tt, λ _. (λ t. let h = holds _ t in (leb→le _ _ (h .1 .0), h .1 .1 .0), λ _. tt)),
           ),
         ),
       ),

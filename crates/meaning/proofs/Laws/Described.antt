@@ -15,17 +15,17 @@ use Rattle.lists.specs.Lists.{Each, atLast, lastD, isSome, optional}
 use Rattle.lists.proofs.Laws.Tests.{not-not, or-none, or-cases, of-cond, by-cases, eq→eqb, neqb→ne}
 use Rattle.lists.proofs.Laws.Each.{each-append, each-front, each-back, each-weaken, each-both}
 use Rattle.meaning.specs.Refusal.{Outcome, refused, accepted}
-use Rattle.meaning.specs.Table.{Range, Output, sum, Group, Table, everyCharacter, groups}
-use Rattle.meaning.specs.Record.{Record, rule, range, output, term, default, decode}
-use Rattle.meaning.specs.Reader.{signed, Reading, unread, latest, reach, latestReach, ranging, misplaced, skipping, tooMany, changeLatest, addRange, addTerm, changeRanges, changeOutputs, taken, readOne, readRecords, readEnd, readRules}
+use Rattle.meaning.specs.Table.{Range, Output, sum, digit, Group, Table, everyCharacter, groups}
+use Rattle.meaning.specs.Record.{Record, rule, range, output, term, default, hexadecimal, decode}
+use Rattle.meaning.specs.Reader.{signed, Reading, unread, latest, reach, latestReach, ranging, misplaced, skipping, tooMany, changeLatest, addRange, addTerm, changeRanges, changeOutputs, addOutput, taken, readOne, readRecords, readEnd, readRules}
 use Rattle.meaning.specs.WellFormed.{WellFormedRange, Rising, WellFormedPosition, Signed, WellFormedOutput, WellFormedRule, WellFormedDefault, WellFormed}
 use Rattle.meaning.specs.Records.{Bytes, outputRecord, Joined, OutputRecords, Records}
 use Rattle.meaning.proofs.Laws.Refusal.{by-then}
-use Rattle.meaning.proofs.Laws.Shape.{ShapedGroup, ShapedDefault, Shaped}
+use Rattle.meaning.proofs.Laws.Shape.{Within, ShapedGroup, ShapedDefault, Shaped}
 use Rattle.meaning.proofs.Laws.Reading.{atLast-length, last-each, top, read-shaped}
 use Rattle.meaning.proofs.Laws.Decoding.{FittingRecord, decode-fits}
 use Rattle.meaning.proofs.Laws.Encoding.{signed-fits, signed-named, half-16, half-32, bytesOf, encode-decode}
-use Rattle.meaning.proofs.Laws.Appended.{joined-snoc, joined-last, lastD-snoc, term-written, rule-outputs, default-outputs, rule-ranges, table-latest, table-rule, table-default, top-changed}
+use Rattle.meaning.proofs.Laws.Appended.{joined-snoc, joined-last, lastD-atLast, lastD-snoc, IsSum, term-sum, term-written, rule-outputs, default-outputs, rule-ranges, table-latest, table-rule, table-default, top-changed}
 
 -- ranges and output characters stay well formed
 
@@ -78,6 +78,7 @@ term-formed k p a (sum c ks) h l m w =
       below = rw (length-append, length-append, length-replicate) (omega arith);
       last-named = rw (lastD-snoc (pos 1) (ks ++ gap) z) (signed-named 16 half-16 a (h .2) (h .1));
     }
+term-formed k p a (digit q shift) h l m w = w
 
 -- groups, as far as they are read
 pub record Formed (g : Group) : Type 0 where
@@ -109,7 +110,7 @@ pub record Described (s : Reading) (b : List ℕ) : Type 0 where
   pub formed : FormedTable (s .table)
   pub begun : s .kind ≢ 0 → 1 ≤ length (groups (s .table))
   pub bare : T (ranging s) → (latest s .outputs ≡ []) × (s .table .default ≡ none)
-  pub writing : T (eqb (s .kind) 3 || eqb (s .kind) 4) → 1 ≤ length (latest s .outputs)
+  pub writing : T (eqb (s .kind) 3 || eqb (s .kind) 4) → (1 ≤ length (latest s .outputs)) × IsSum (lastD (sum (pos 0) []) (latest s .outputs))
 
 is-none : {A : Type 0} (d : Option A) → T (not (isSome d)) → d ≡ none
 is-none none t = refl
@@ -133,6 +134,29 @@ ranging-begun s t e = or-cases (eqb (s .kind) 1) (eqb (s .kind) 2) t
 writing-begun : (s : Reading) → T (eqb (s .kind) 3 || eqb (s .kind) 4) → s .kind ≢ 0
 writing-begun s t e = or-cases (eqb (s .kind) 3) (eqb (s .kind) 4) t
     (λ u. let k : s .kind ≡ 3 = eqb→eq (s .kind) 3 u in omega arith) (λ u. let k : s .kind ≡ 4 = eqb→eq (s .kind) 4 u in omega arith)
+
+-- an output character more, of kind 3 or 6
+added-described : (s : Reading) (o : Output) (kind : ℕ) (e : List ℕ) → s .kind ≢ 0 → (T (eqb kind 1 || eqb kind 2) → ⊥) → (T (eqb kind 3 || eqb kind 4) → IsSum o) →
+    OutputRecords o e → WellFormedOutput (top (s .table .rules) (s .table .default) .size) o →
+    (b : List ℕ) → Described s b → Described (record { table = addOutput o (s .table); kind = kind }) (b ++ e)
+unfolding latest
+added-described s o kind e begun ended sums r f b w =
+    let rs = s .table .rules in
+    let d = s .table .default in
+    let g = top rs d in
+    let more : List Output → List Output = λ os. os ++ (o ∷ []) in
+    let change = changeOutputs more in
+    let some-group = w .begun begun in
+    let listed : (v : List ℕ) → Joined OutputRecords (g .outputs) v → Joined OutputRecords (more (g .outputs)) (v ++ e) =
+    λ v j. joined-snoc OutputRecords (g .outputs) o v e j r in
+    record {
+      records = table-latest change e rs d some-group (rule-outputs more e g listed) (λ _. default-outputs more e g listed) b (w .records);
+      formed = formed-latest change rs d
+          (λ v. record { positions = v .positions; outputs = each-append (WellFormedOutput (g .size)) (g .outputs) (o ∷ []) (v .outputs) (f, tt) }) (w .formed);
+      begun = λ _. some-latest change rs d some-group;
+      bare = λ t. absurd (ended t);
+      writing = λ t. rw (top-changed change rs d some-group, length-append, lastD-snoc (sum (pos 0) []) (g .outputs) o) (omega arith, sums t);
+    }
 
 taken-described : (s : Reading) (x : Record) → FittingRecord x → T (not (misplaced s x)) → T (not (skipping s x)) → T (not (tooMany s x)) →
     (b : List ℕ) → Described s b → Described (taken s x) (b ++ bytesOf x)
@@ -183,24 +207,12 @@ taken-described s (range p r) f m n o b w =
       writing = λ t. absurd t;
     }
 taken-described s (output c) f m n o b w =
-    let rs = s .table .rules in
-    let d = s .table .default in
-    let g = top rs d in
-    let x : Output = sum (signed 32 c) [] in
     let e = outputRecord (signed 32 c) in
-    let more : List Output → List Output = λ os. os ++ (x ∷ []) in
-    let change = changeOutputs more in
-    let some-group = w .begun (neqb→ne (s .kind) 0 m) in
-    let listed : (v : List ℕ) → Joined OutputRecords (g .outputs) v → Joined OutputRecords (more (g .outputs)) (v ++ e) =
-    λ v j. joined-snoc OutputRecords (g .outputs) x v e j ([], refl, sym (append-nil e)) in
-    record {
-      records = table-latest change e rs d some-group (rule-outputs more e g listed) (λ _. default-outputs more e g listed) b (w .records);
-      formed = formed-latest change rs d
-          (λ v. record { positions = v .positions; outputs = each-append (WellFormedOutput (g .size)) (g .outputs) (x ∷ []) (v .outputs) (output-formed (g .size) c f, tt) }) (w .formed);
-      begun = λ _. some-latest change rs d some-group;
-      bare = λ t. absurd t;
-      writing = λ _. rw (top-changed change rs d some-group, length-append) (omega arith);
-    }
+    added-described s (sum (signed 32 c) []) 3 e (neqb→ne (s .kind) 0 m) (λ t. t) (λ _. tt) ([], refl, sym (append-nil e)) (output-formed _ c f) b w
+taken-described s (hexadecimal p shift) f m n o b w =
+    let k = top (s .table .rules) (s .table .default) .size in
+    let u = or-none (eqb (s .kind) 0) (leb k p) m in
+    added-described s (digit p shift) 6 _ (neqb→ne (s .kind) 0 (u .0)) (λ t. t) (λ t. t) refl (record { below = nleb→lt k p (u .1); shifts = f .1 }) b w
 taken-described s (term p a) f m n o b w =
     let rs = s .table .rules in
     let d = s .table .default in
@@ -217,9 +229,10 @@ taken-described s (term p a) f m n o b w =
     let more : List Output → List Output = atLast (addTerm p z) in
     let change = changeOutputs more in
     let some-group = w .begun (writing-begun s going) in
-    let some-output : 1 ≤ length (g .outputs) = w .writing going in
+    let some-output : 1 ≤ length (g .outputs) = w .writing going .0 in
+    let is-sum : IsSum last = w .writing going .1 in
     let listed : (v : List ℕ) → Joined OutputRecords (g .outputs) v → Joined OutputRecords (more (g .outputs)) (v ++ e) =
-    λ v. joined-last OutputRecords (addTerm p z) e (sum (pos 0) []) (g .outputs) v some-output (term-written p z last (signed-named 16 half-16 a (f .2) (f .1)) rising) in
+    λ v. joined-last OutputRecords (addTerm p z) e (sum (pos 0) []) (g .outputs) v some-output (term-written p z last is-sum (signed-named 16 half-16 a (f .2) (f .1)) rising) in
     record {
       records = table-latest change e rs d some-group (rule-outputs more e g listed) (λ _. default-outputs more e g listed) b (w .records);
       formed = formed-latest change rs d
@@ -229,7 +242,7 @@ taken-described s (term p a) f m n o b w =
           }) (w .formed);
       begun = λ _. some-latest change rs d some-group;
       bare = λ t. absurd t;
-      writing = λ _. rw (top-changed change rs d some-group, atLast-length) some-output;
+      writing = λ _. rw (top-changed change rs d some-group, atLast-length, lastD-atLast (addTerm p z) (sum (pos 0) []) (g .outputs)) (some-output, term-sum p z last is-sum);
     }
 taken-described s default f m n o b w =
     let rs = s .table .rules in
@@ -355,11 +368,12 @@ read-well-formed b t y e =
 
 -- a well formed table has the shape that the laws above ask for
 
-outputs-reach : (k : ℕ) (os : List Output) → Each (WellFormedOutput k) os → Each (λ o. reach o ≤ k) os
-outputs-reach k os w = each-weaken (WellFormedOutput k) (λ o. reach o ≤ k) os below w
+outputs-within : (k : ℕ) (os : List Output) → Each (WellFormedOutput k) os → Each (Within k) os
+outputs-within k os w = each-weaken (WellFormedOutput k) (Within k) os within w
   where
-    below : (o : Output) → WellFormedOutput k o → reach o ≤ k
-    below (sum c ks) v = v .below
+    within : (o : Output) → WellFormedOutput k o → Within k o
+    within (sum c ks) v = v .below
+    within (digit p shift) v = (v .below, v .shifts)
 
 pub well-formed-shaped : (t : Table) → WellFormed t → Shaped t
 well-formed-shaped t w =
@@ -367,7 +381,7 @@ well-formed-shaped t w =
       some-rule = w .some-rule;
       few-rules = w .few-rules;
       rules = each-weaken WellFormedRule ShapedGroup (t .rules)
-          (λ g v. record { positive = v .long; small = v .short; places = v .places; outputs = v .few-outputs; reaches = outputs-reach (g .size) (g .outputs) (v .outputs) })
+          (λ g v. record { positive = v .long; small = v .short; places = v .places; outputs = v .few-outputs; reaches = outputs-within (g .size) (g .outputs) (v .outputs) })
           (w .rules);
       default = each-weaken WellFormedDefault ShapedDefault (optional (t .default))
           (λ g v. record {
@@ -375,7 +389,7 @@ well-formed-shaped t w =
             anchored = ap (λ h. h .anchored) (v .acts);
             ranges = ap (λ h. h .ranges) (v .acts);
             outputs = v .few-outputs;
-            reaches = outputs-reach 1 (g .outputs) (v .outputs);
+            reaches = outputs-within 1 (g .outputs) (v .outputs);
           })
           (w .default);
     }

@@ -16,12 +16,12 @@ use Rattle.lists.specs.Lists.{Each}
 use Rattle.lists.specs.Decide.{allOf}
 use Rattle.lists.proofs.Laws.Tests.{of-cond, of-T, holds, to-allOf, by-cases, neqb→ne}
 use Rattle.lists.proofs.Laws.Each.{all-each}
-use Rattle.meaning.specs.Table.{Range}
-use Rattle.meaning.specs.Record.{Record, rule, range, output, term, default, zeros, decode}
+use Rattle.meaning.specs.Table.{Range, isShift}
+use Rattle.meaning.specs.Record.{Record, rule, range, output, term, default, hexadecimal, zeros, decode}
 use Rattle.meaning.specs.Reader.{signed}
 use Rattle.meaning.specs.WellFormed.{WellFormedRange, Signed}
-use Rattle.meaning.specs.Records.{Bytes, littleEndian, twosComplement, ruleRecord, rangeRecord, outputRecord, termRecord, defaultRecord}
-use Rattle.meaning.proofs.Laws.Decoding.{onlyIf, accepts, decode-rule, decode-range, decode-output, decode-term, decode-default, decode-unknown}
+use Rattle.meaning.specs.Records.{Bytes, littleEndian, twosComplement, ruleRecord, rangeRecord, outputRecord, termRecord, defaultRecord, digitRecord}
+use Rattle.meaning.proofs.Laws.Decoding.{onlyIf, accepts, decode-rule, decode-range, decode-output, decode-term, decode-default, decode-hexadecimal, decode-unknown}
 
 -- numbers of bytes
 
@@ -109,6 +109,7 @@ bytesOf (range p r) = rangeRecord p r
 bytesOf (output c) = outputRecord (signed 32 c)
 bytesOf (term p a) = termRecord (record { position = p; coefficient = signed 16 a })
 bytesOf default = defaultRecord
+bytesOf (hexadecimal p shift) = digitRecord p shift
 
 pub no-record : {x : Record} → none ≡ some x → ⊥
 no-record e = let z : _≡_ {A = ℕ} 0 1 = cc in omega arith
@@ -181,6 +182,15 @@ module _ (p b2 b3 b4 b5 b6 b7 : ℕ) (y : Record) where
       let bytes : 5 ∷ p ∷ b2 ∷ b3 ∷ b4 ∷ b5 ∷ b6 ∷ b7 ∷ [] ≡ defaultRecord = cc in
       bytes ∙ ap bytesOf (o .1)
 
+  of-hexadecimal : Of 6
+  of-hexadecimal s e =
+      let o = only-some _ _ y (sym (decode-hexadecimal p b2 b3 b4 b5 b6 b7) ∙ e) in
+      let zero-3 : b3 ≡ 0 = eqb→eq b3 0 (o .0 .1 .1 .0) in
+      let zeros-4 : Each (λ x. 0 ≡ x) (b4 ∷ b5 ∷ []) = all-zero (b4 ∷ b5 ∷ []) (o .0 .1 .1 .1 .0) in
+      let zeros-6 : Each (λ x. 0 ≡ x) (b6 ∷ b7 ∷ []) = all-zero (b6 ∷ b7 ∷ []) (o .0 .1 .1 .1 .1 .0) in
+      let bytes : 6 ∷ p ∷ b2 ∷ b3 ∷ b4 ∷ b5 ∷ b6 ∷ b7 ∷ [] ≡ digitRecord p b2 = cc in
+      bytes ∙ ap bytesOf (o .1)
+
   of-kind : (kind : ℕ) → Of kind
   of-kind kind s e =
       elim (ℕ-discrete kind 1) [
@@ -193,7 +203,10 @@ module _ (p b2 b3 b4 b5 b6 b7 : ℕ) (y : Record) where
               | yes k ↦ subst Of (sym k) of-term s e
               | no h4 ↦ elim (ℕ-discrete kind 5) [
                 | yes k ↦ subst Of (sym k) of-default s e
-                | no h5 ↦ absurd (no-record (sym (decode-unknown kind _ h1 h2 h3 h4 h5) ∙ e))
+                | no h5 ↦ elim (ℕ-discrete kind 6) [
+                  | yes k ↦ subst Of (sym k) of-hexadecimal s e
+                  | no h6 ↦ absurd (no-record (sym (decode-unknown kind _ h1 h2 h3 h4 h5 h6) ∙ e))
+                ]
               ]
             ]
           ]
@@ -249,3 +262,6 @@ read-term p a h s d =
 
 pub read-default : decode defaultRecord ≡ some default
 read-default = decode-default 0 0 0 0 0 0 0 ∙ only-if _ _ (tt, (tt, (tt, (tt, tt))))
+
+pub read-hexadecimal : (p shift : ℕ) → p ≤ 7 → T (isShift shift) → decode (digitRecord p shift) ≡ some (hexadecimal p shift)
+read-hexadecimal p shift h s = decode-hexadecimal p shift 0 0 0 0 0 ∙ only-if _ _ (le→leb p 7 h, (s, (tt, (tt, (tt, tt)))))

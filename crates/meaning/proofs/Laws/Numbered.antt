@@ -16,13 +16,13 @@ use Rattle.lists.proofs.Laws.Tests.{of-T, not-not, by-cases, select-here, ne→
 use Rattle.lists.proofs.Laws.Each.{each-front, each-back}
 use Rattle.meaning.specs.Refusal.{Outcome, refused, accepted, andThen}
 use Rattle.meaning.specs.Table.{Group, Table}
-use Rattle.meaning.specs.Record.{Record, rule, range, output, term, default, decode}
+use Rattle.meaning.specs.Record.{Record, rule, range, output, term, default, hexadecimal, decode}
 use Rattle.meaning.specs.Reader.{Reading, unread, changeLatest, taken, readOne, readRecords, readEnd, readRules}
 use Rattle.meaning.specs.Records.{Bytes, Known, recordAt}
 use Rattle.meaning.specs.Records as described
 use Rattle.meaning.proofs.Laws.Refusal.{by-then, accepted-not}
 use Rattle.meaning.proofs.Laws.Reading.{atLast-length}
-use Rattle.meaning.proofs.Laws.Encoding.{no-record, bytesOf, encode-decode, read-rule, read-range, read-output, read-term, read-default}
+use Rattle.meaning.proofs.Laws.Encoding.{no-record, bytesOf, encode-decode, read-rule, read-range, read-output, read-term, read-default, read-hexadecimal}
 
 -- bytes of a known record are read to a record
 known-read : {r : List ℕ} → Known r → decode r ≡ none → ⊥
@@ -31,6 +31,7 @@ known-read (described.range p r h w) e = no-record (sym e ∙ read-range p r h w
 known-read (described.output c s) e = no-record (sym e ∙ read-output c s)
 known-read (described.term x h s d) e = no-record (sym e ∙ read-term (x .position) (x .coefficient) h s d)
 known-read described.default e = no-record (sym e ∙ read-default)
+known-read (described.hexadecimal p shift h s) e = no-record (sym e ∙ read-hexadecimal p shift h s)
 
 -- a record at fault
 
@@ -107,6 +108,7 @@ taken-none s (range p r) e = (sym (change-count _ (s .table .rules) (s .table .d
 taken-none s (output c) e = (sym (change-count _ (s .table .rules) (s .table .default)) ∙ e, λ q. omega arith)
 taken-none s (term p a) e = (sym (change-count _ (s .table .rules) (s .table .default)) ∙ e, λ q. omega arith)
 taken-none s default e = (e, λ q. omega arith)
+taken-none s (hexadecimal p shift) e = (sym (change-count _ (s .table .rules) (s .table .default)) ∙ e, λ q. omega arith)
 
 abbrev OneNone : List ℕ → Reading → Outcome Reading → Type 0
 OneNone r s (refused k) = Unit {0}

@@ -15,12 +15,12 @@ use lib.Seq.{append-snoc, take-at, drop-at}
 use Rattle.lists.specs.Lists.{Each, flatMap, atLast, lastD, optional}
 use Rattle.lists.proofs.Laws.Tests.{of-T, of-not, or-cases, by-cases, eq→eqb, ne→neqb}
 use Rattle.meaning.specs.Refusal.{accepted, andThen}
-use Rattle.meaning.specs.Table.{Range, Output, sum, Group, Table, everyCharacter}
-use Rattle.meaning.specs.Record.{Record, rule, range, output, term, default, decode}
-use Rattle.meaning.specs.Reader.{signed, Reading, unread, latest, latestReach, unfilled, misplaced, skipping, tooMany, changeLatest, addRange, addTerm, changeRanges, changeOutputs, taken, readOne, readRecords, readEnd, readRules}
+use Rattle.meaning.specs.Table.{Range, Output, sum, digit, Group, Table, everyCharacter, isShift}
+use Rattle.meaning.specs.Record.{Record, rule, range, output, term, default, hexadecimal, decode}
+use Rattle.meaning.specs.Reader.{signed, Reading, unread, latest, latestReach, unfilled, misplaced, skipping, tooMany, changeLatest, addRange, addTerm, changeRanges, changeOutputs, addOutput, taken, readOne, readRecords, readEnd, readRules}
 use Rattle.meaning.specs.WellFormed.{WellFormedRange, Rising, WellFormedPosition, Signed, WellFormedOutput, WellFormedRule, WellFormedDefault, WellFormed}
-use Rattle.meaning.specs.Records.{littleEndian, twosComplement, ruleRecord, rangeRecord, outputRecord, termRecord, defaultRecord, Joined, rangeRecords, terms, OutputRecords, RuleRecords, DefaultRecords, Records}
-use Rattle.meaning.proofs.Laws.Encoding.{signed-of-bits, half-16, half-32, read-rule, read-range, read-output, read-term, read-default}
+use Rattle.meaning.specs.Records.{littleEndian, twosComplement, ruleRecord, rangeRecord, outputRecord, termRecord, defaultRecord, digitRecord, Joined, rangeRecords, terms, OutputRecords, RuleRecords, DefaultRecords, Records}
+use Rattle.meaning.proofs.Laws.Encoding.{signed-of-bits, half-16, half-32, read-rule, read-range, read-output, read-term, read-default, read-hexadecimal}
 use Rattle.meaning.proofs.Laws.Appended.{lastD-snoc, term-one}
 
 -- tests that fail
@@ -213,6 +213,13 @@ module _ (d : Bool) (gs : List Group) (k : ℕ) (small : k ≤ 8) (anchored : Bo
   unfolding unfilled
   filled os kind = rw latest-at (not-both (eqb kind 1 || eqb kind 2) (ltb (length ranges) k) (λ _. not-ltb (length ranges) k (omega arith)))
 
+  -- one more of them, of kind 3 or 6: there is room, and it stands at the end
+  room : (os : List Output) (kind : ℕ) → length os < 8 → T (not (eqb (length (latest (at d gs (writing os) kind) .outputs)) 8))
+  room os kind l = rw latest-at (ne→neqb (length os) 8 (λ e. omega arith))
+
+  added : (os : List Output) (o : Output) (kind : ℕ) → record { table = addOutput o (holding d gs (writing os)); kind = kind } ≡ at d gs (writing (os ++ (o ∷ []))) kind
+  added os o kind = ap (λ t. record { table = t; kind = kind }) (change-at (changeOutputs (λ l. l ++ (o ∷ []))) d gs (writing os))
+
   output-read : (os : List Output) (c : ℤ) (kind : ℕ) → kind ≢ 0 → length os < 8 → Signed 32 c →
       Reads (at d gs (writing os) kind) (outputRecord c) (at d gs (writing (os ++ (sum c [] ∷ []))) 3)
   unfolding littleEndian misplaced skipping tooMany taken
@@ -220,9 +227,18 @@ module _ (d : Bool) (gs : List Group) (k : ℕ) (small : k ≤ 8) (anchored : Bo
       one (at d gs (writing os) kind) _ (outputRecord c) (output (twosComplement 32 c)) refl (read-output c s)
       (ne→neqb kind 0 n)
       (filled os kind)
-      (rw latest-at (ne→neqb (length os) 8 (λ e. omega arith)))
-      (ap (λ t. record { table = t; kind = 3 }) (change-at (changeOutputs (λ l. l ++ (sum (signed 32 (twosComplement 32 c)) [] ∷ []))) d gs (writing os))
-      ∙ ap (λ z. at d gs (writing (os ++ (sum z [] ∷ []))) 3) (signed-of-bits 32 half-32 c s))
+      (room os kind l)
+      (added os (sum (signed 32 (twosComplement 32 c)) []) 3 ∙ ap (λ z. at d gs (writing (os ++ (sum z [] ∷ []))) 3) (signed-of-bits 32 half-32 c s))
+
+  digit-read : (os : List Output) (p shift kind : ℕ) → kind ≢ 0 → length os < 8 → p < k → T (isShift shift) →
+      Reads (at d gs (writing os) kind) (digitRecord p shift) (at d gs (writing (os ++ (digit p shift ∷ []))) 6)
+  unfolding misplaced skipping tooMany taken
+  digit-read os p shift kind n l h s =
+      one (at d gs (writing os) kind) _ (digitRecord p shift) (hexadecimal p shift) refl (read-hexadecimal p shift (omega arith) s)
+      (rw latest-at (neither (eqb kind 0) (leb k p) (ne→neqb kind 0 n) (not-leb k p h)))
+      (filled os kind)
+      (room os kind l)
+      (added os (digit p shift) 6)
 
   term-read : (os : List Output) (c : ℤ) (ks : List ℤ) (kind p : ℕ) (a : ℤ) → T (eqb kind 3 || eqb kind 4) → p < k → length ks ≤ p → Signed 16 a → a ≢ pos 0 →
       Reads (at d gs (writing (os ++ (sum c ks ∷ []))) kind) (termRecord (record { position = p; coefficient = a }))
@@ -284,6 +300,7 @@ module _ (d : Bool) (gs : List Group) (k : ℕ) (small : k ≤ 8) (anchored : Bo
   -- an output character with its terms
   whole-read : (os : List Output) (o : Output) (b : List ℕ) (kind : ℕ) → kind ≢ 0 → length os < 8 → WellFormedOutput k o → OutputRecords o b →
       (kind′ : ℕ) × (kind′ ≢ 0) × Reads (at d gs (writing os) kind) b (at d gs (writing (os ++ (o ∷ []))) kind′)
+  whole-read os (digit p shift) b kind n l w r = (6, λ e. omega arith, moved (sym r) refl (digit-read os p shift kind n l (w .below) (w .shifts)))
   whole-read os (sum c ks) b kind n l w r =
       let here = output-read os c kind n l (w .constant) in
       let rest = terms-read ks os c [] 0 0 3 tt refl (omega (arith, w .below)) (w .coefficients) (w .last-named) in

@@ -14,11 +14,11 @@ use Rattle.lists.specs.Lists.{any, Each, atLast, lastD, isSome, orElse, optiona
 use Rattle.lists.proofs.Laws.Tests.{of-T, not-not, or-none, or-cases, of-cond, holds, by-cases, neqb→ne}
 use Rattle.lists.proofs.Laws.Each.{each-append, each-weaken, each-both, each-atLast}
 use Rattle.meaning.specs.Refusal.{Outcome, refused, accepted}
-use Rattle.meaning.specs.Table.{Range, Output, sum, Group, Table, everyCharacter}
-use Rattle.meaning.specs.Record.{Record, rule, range, output, term, default, decode}
+use Rattle.meaning.specs.Table.{Range, Output, sum, digit, Group, Table, everyCharacter, isShift}
+use Rattle.meaning.specs.Record.{Record, rule, range, output, term, default, hexadecimal, decode}
 use Rattle.meaning.specs.Reader.{signed, Reading, unread, latest, reach, latestReach, ranging, unfilled, misplaced, skipping, tooMany, changeLatest, addRange, addTerm, changeRanges, changeOutputs, taken, readOne, readRecords, readEnd, readRules}
 use Rattle.meaning.proofs.Laws.Refusal.{by-then, Says}
-use Rattle.meaning.proofs.Laws.Shape.{ShapedGroup, ShapedDefault, Shaped}
+use Rattle.meaning.proofs.Laws.Shape.{Within, ShapedGroup, ShapedDefault, Shaped}
 use Rattle.meaning.proofs.Laws.Seven.{Ordered, FilledPosition, FilledGroup, Filled}
 
 -- the last element, and those before it
@@ -57,7 +57,7 @@ before-last P d (x ∷ (y ∷ ys)) a h = (a .0, before-last P x (y ∷ ys) (a .1
 
 -- output characters of a group of size k
 abbrev pub Outputs : ℕ → List Output → Type 0
-Outputs k os = (length os ≤ 8) × Each (λ o. reach o ≤ k) os
+Outputs k os = (length os ≤ 8) × Each (Within k) os
 
 -- a group that may still lack ranges; with enough of them; the default, but for its output characters
 pub record Begun (g : Group) : Type 0 where
@@ -127,19 +127,20 @@ outputs-kept h b rs (some d) k e f =
       ended = e;
     }
 
-output-more : (c : ℤ) (k : ℕ) (os : List Output) → T (not (eqb (length os) 8)) → Outputs k os → Outputs k (os ++ (sum c [] ∷ []))
-output-more c k os t h =
+output-more : (o : Output) (k : ℕ) (os : List Output) → Within k o → T (not (eqb (length os) 8)) → Outputs k os → Outputs k (os ++ (o ∷ []))
+output-more o k os w t h =
     let n : length os ≤ 8 = h .0 in
     let other : length os ≢ 8 = neqb→ne (length os) 8 t in
-    (rw length-append (omega arith), each-append (λ o. reach o ≤ k) os (sum c [] ∷ []) (h .1) (omega arith, tt))
+    (rw length-append (omega arith), each-append (Within k) os (o ∷ []) (h .1) (w, tt))
 
-term-reach : (p k : ℕ) (a : ℤ) (o : Output) → p < k → reach o ≤ p → reach (addTerm p a o) ≤ k
-term-reach p k a (sum c ks) l h =
+term-within : (p k : ℕ) (a : ℤ) (o : Output) → p < k → reach o ≤ p → Within k o → Within k (addTerm p a o)
+term-within p k a (sum c ks) l h w =
     rw (length-append, length-append, length-replicate) (omega arith)
+term-within p k a (digit q shift) l h w = w
 
 term-more : (p k : ℕ) (a : ℤ) (os : List Output) → p < k → reach (lastD (sum (pos 0) []) os) ≤ p → Outputs k os → Outputs k (atLast (addTerm p a) os)
 term-more p k a os l r h =
-    (rw atLast-length (h .0), last-each (λ o. reach o ≤ k) (addTerm p a) (sum (pos 0) []) os (λ _. term-reach p k a (lastD (sum (pos 0) []) os) l r) (h .1))
+    (rw atLast-length (h .0), last-each (Within k) (addTerm p a) (sum (pos 0) []) os (term-within p k a (lastD (sum (pos 0) []) os) l r) (h .1))
 
 -- a range
 
@@ -192,13 +193,14 @@ Fields (some (range p r)) = Ordered r
 Fields (some (output c)) = Unit {0}
 Fields (some (term p a)) = Unit {0}
 Fields (some default) = Unit {0}
+Fields (some (hexadecimal p shift)) = T (isShift shift)
 
 decode-fields : (b : List ℕ) → Fields (decode b)
 unfolding decode
 decode-fields b =
     by-cases Fields _ none (
       λ t. let h = holds _ t in (leb→le _ _ (h .1 .0), leb→le _ _ (h .1 .1 .0)),
-      λ _. (λ t. leb→le _ _ (holds _ t .1 .1 .1 .0), λ _. (λ _. tt, λ _. (λ _. tt, λ _. (λ _. tt, λ _. tt)))),
+      λ _. (λ t. leb→le _ _ (holds _ t .1 .1 .1 .0), λ _. (λ _. tt, λ _. (λ _. tt, λ _. (λ _. tt, λ _. (λ t. holds _ t .1 .1 .0, λ _. tt))))),
     )
 
 -- where a term may come, the ranges have ended
@@ -234,7 +236,11 @@ taken-kept s (range p r) f m n o h =
     (subst (λ b. Kept b (s .table)) (of-T (ranging s) (not-not (ranging s) (t .0))) h)
 taken-kept s (output c) f m n o h =
     let g = top (s .table .rules) (s .table .default) in
-    outputs-kept _ (ranging s) (s .table .rules) (s .table .default) h (all-full s h n) (output-more _ (g .size) (g .outputs) o)
+    outputs-kept _ (ranging s) (s .table .rules) (s .table .default) h (all-full s h n) (output-more _ (g .size) (g .outputs) (omega arith) o)
+taken-kept s (hexadecimal p shift) f m n o h =
+    let g = top (s .table .rules) (s .table .default) in
+    let below : p < g .size = nleb→lt (g .size) p (or-none (eqb (s .kind) 0) (leb (g .size) p) m .1) in
+    outputs-kept _ (ranging s) (s .table .rules) (s .table .default) h (all-full s h n) (output-more (digit p shift) (g .size) (g .outputs) (below, f) o)
 taken-kept s (term p a) f m n o h =
     let g = top (s .table .rules) (s .table .default) in
     let kinds = eqb (s .kind) 3 || eqb (s .kind) 4 in
@@ -286,7 +292,7 @@ plain-shaped g p =
       anchored = ap (λ g. g .anchored) (p .1);
       ranges = ap (λ g. g .ranges) (p .1);
       outputs = p .0 .outputs .0;
-      reaches = subst (λ k. Each (λ o. reach o ≤ k) (g .outputs)) (ap (λ g. g .size) (p .1)) (p .0 .outputs .1);
+      reaches = subst (λ k. Each (Within k) (g .outputs)) (ap (λ g. g .size) (p .1)) (p .0 .outputs .1);
     }
 
 full-shaped : (g : Group) → Begun g × Full g → ShapedGroup g

@@ -3,18 +3,19 @@
 use mathlib.Core.Bool.{Bool, true, false, cond, Bool·beq}
 use mathlib.Core.List.{List, [], _∷_}
 use mathlib.Core.Path.{_≡_, sym, ap, _∙_, subst}
-use Prim.Native.Nat.{ℕ, suc, _+_, _*_, _-_, min, max, _≤_}
+use Prim.Native.Nat.{ℕ, suc, _+_, _*_, _-_, _/_, _%_, _^_, min, max, _≤_, _<_}
 use native.Mathlib.Omega.{arith}
-use native.Mathlib.Nat.{mul-add, add-sub-of-le}
+use native.Mathlib.Nat.{mul-add, add-sub-of-le, mod-lt}
 use native.Mathlib.Decide.{decLe}
-use lib.Dec.{T, leb, leb→le, le→leb}
+use lib.Dec.{T, leb, ltb, leb→le, le→leb, lit<}
 use lib.IntN.{ℤ, pos, negsuc, negℤ, _+ℤ_, _*ℤ_, +ℤ-idr, +ℤ-assoc, +ℤ-comm, +ℤ-invl, negℤ-+ℤ}
+use lib.ListN.{getD}
 use lib.Signed.{leZ, nonNeg}
 use Rattle.lists.specs.Lists.{all, Each}
 use Rattle.lists.proofs.Laws.Tests.{and-left, and-right, both, or-left, or-right, or-cases, of-cond, of-between, to-between}
 use Rattle.lists.proofs.Laws.Each.{each-both, all-each, each-all}
-use Rattle.meaning.specs.Table.{Range, Output, sum, Group, Table, within, inRanges, groups}
-use Rattle.meaning.specs.Value.{dot, value, fitsWord, SafeOutput, SafeTable, lowestOf, highestOf, extreme, safeOutput, safe}
+use Rattle.meaning.specs.Table.{Range, Output, sum, digit, Group, Table, within, inRanges, groups}
+use Rattle.meaning.specs.Value.{dot, nibble, hexDigit, value, fitsWord, IsCharacter, SafeOutput, SafeTable, lowestOf, highestOf, extreme, safeOutput, safe}
 use Rattle.meaning.proofs.Laws.Groups.{SafeGroup}
 
 -- each position has a range, and no range is empty
@@ -160,6 +161,16 @@ extreme-fits sign (a ∷ ks) ((r ∷ rs) ∷ ps) h =
     (λ _. ends-in r rs (h .0) .1))
     (extreme-fits sign ks ps (h .1))
 
+-- a digit is a character whatever the word
+digit-character : (p shift : ℕ) (w : List ℕ) → IsCharacter (value (digit p shift) w)
+unfolding value nibble hexDigit
+digit-character p shift w =
+    let v = getD w p 0 / 2 ^ shift % 16 in
+    let small : v < 16 = mod-lt (getD w p 0 / 2 ^ shift) (lit< {m = 0} {n = 16} tt) in
+    let n = cond (ltb v 10) (48 + v) (55 + v) in
+    let below : n ≤ 65535 = of-cond (λ m. m ≤ 65535) (ltb v 10) (48 + v) (55 + v) (λ _. omega arith) (λ _. omega arith) in
+    record { low = record { le = le→leb 0 n (omega arith) }; high = record { le = le→leb n 65535 below } }
+
 pub safe-every : (ps : List (List Range)) (o : Output) → T (safeOutput ps o) → SafeOutput ps o
 unfolding safeOutput SafeOutput value
 safe-every ps (sum c ks) t w f =
@@ -171,6 +182,7 @@ safe-every ps (sum c ks) t w f =
       low = record { le = low-up lo (c +ℤ dot ks w) (toward true) (and-left (leZ (pos 0) lo) (leZ hi (pos 65535)) t) };
       high = record { le = high-down (c +ℤ dot ks w) hi (toward false) (and-right (leZ (pos 0) lo) (leZ hi (pos 65535)) t) };
     }
+safe-every ps (digit p shift) t w f = digit-character p shift w
 
 pub every-safe : (ps : List (List Range)) (o : Output) → Each FilledPosition ps → SafeOutput ps o → T (safeOutput ps o)
 unfolding safeOutput SafeOutput
@@ -180,6 +192,7 @@ every-safe ps (sum c ks) f h =
     both (leZ (pos 0) (value (sum c ks) lo)) (leZ (value (sum c ks) hi) (pos 65535))
     (h lo (extreme-fits true ks ps f) .low .le)
     (h hi (extreme-fits false ks ps f) .high .le)
+every-safe ps (digit p shift) f h = tt
 
 pub safe-table : (t : Table) → T (safe t) → SafeTable t
 unfolding safe SafeTable
