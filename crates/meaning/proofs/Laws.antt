@@ -17,6 +17,7 @@ pub mod Described
 pub mod Readable
 pub mod Numbered
 pub mod Choosing
+pub mod Sums
 pub mod Writing
 pub mod Extremes
 pub mod Rows
