@@ -2,6 +2,7 @@
 -- A sum modulo 65536 differs from the signed sum by a multiple of 65536; below 65536 that leaves one number. A digit's one coefficient
 -- picks its character out, of which 16 bits are enough for the digit.
 use mathlib.Core.List.{List, [], _∷_, _++_, map}
+use mathlib.Core.Logic.{_≢_}
 use mathlib.Core.Path.{_≡_, refl, sym, ap, ap₂, subst, _∙_}
 use Prim.Native.Nat.{ℕ, zero, suc, _+_, _*_, _/_, _%_, _^_, _≤_, _<_, _-_}
 use native.Mathlib.Nat.{mul-zero, mul-suc, zero-mul, zero-add, add-zero, add-comm}
@@ -126,6 +127,16 @@ sum-reads v xs ys (c ∷ w) h e =
 -- the coefficients of a digit: 1 at its position
 abbrev pub oneAt : ℕ → List ℕ
 oneAt p = replicate p 0 ++ (1 ∷ [])
+
+pub one-here : (p : ℕ) → at (oneAt p) p ≡ 1
+one-here zero = refl
+one-here (suc p) = one-here p
+
+pub one-elsewhere : (p j : ℕ) → j ≢ p → at (oneAt p) j ≡ 0
+one-elsewhere zero zero n = absurd (n refl)
+one-elsewhere zero (suc j) n = refl
+one-elsewhere (suc p) zero n = refl
+one-elsewhere (suc p) (suc j) n = one-elsewhere p j (omega arith)
 
 pub sum-one : (p : ℕ) (w : List ℕ) → wordSum 0 (oneAt p) w ≡ at w p % 65536
 unfolding wordSum
