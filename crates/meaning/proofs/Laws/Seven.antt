@@ -3,7 +3,7 @@
 use mathlib.Core.Bool.{Bool, true, false, cond, Bool·beq}
 use mathlib.Core.List.{List, [], _∷_}
 use mathlib.Core.Path.{_≡_, sym, ap, _∙_, subst}
-use Prim.Native.Nat.{ℕ, suc, _+_, _*_, _-_, _/_, _%_, _^_, min, max, _≤_, _<_}
+use Prim.Native.Nat.{ℕ, suc, _+_, _*_, _-_, min, max, _≤_, _<_}
 use native.Mathlib.Omega.{arith}
 use native.Mathlib.Nat.{mul-add, add-sub-of-le, mod-lt}
 use native.Mathlib.Decide.{decLe}
@@ -162,14 +162,21 @@ extreme-fits sign (a ∷ ks) ((r ∷ rs) ∷ ps) h =
     (extreme-fits sign ks ps (h .1))
 
 -- a digit is a character whatever the word
+
+nibble-below : (shift c : ℕ) → nibble shift c < 16
+unfolding nibble
+nibble-below shift c = mod-lt _ (lit< {m = 0} {n = 16} tt)
+
+digit-below : (v : ℕ) → v < 16 → hexDigit v ≤ 65535
+unfolding hexDigit
+digit-below v h = of-cond (λ n. n ≤ 65535) (ltb v 10) (48 + v) (55 + v) (λ _. omega arith) (λ _. omega arith)
+
 digit-character : (p shift : ℕ) (w : List ℕ) → IsCharacter (value (digit p shift) w)
-unfolding value nibble hexDigit
+unfolding value
 digit-character p shift w =
-    let v = getD w p 0 / 2 ^ shift % 16 in
-    let small : v < 16 = mod-lt (getD w p 0 / 2 ^ shift) (lit< {m = 0} {n = 16} tt) in
-    let n = cond (ltb v 10) (48 + v) (55 + v) in
-    let below : n ≤ 65535 = of-cond (λ m. m ≤ 65535) (ltb v 10) (48 + v) (55 + v) (λ _. omega arith) (λ _. omega arith) in
-    record { low = record { le = le→leb 0 n (omega arith) }; high = record { le = le→leb n 65535 below } }
+    let v = nibble shift (getD w p 0) in
+    let n = hexDigit v in
+    record { low = record { le = le→leb 0 n (omega arith) }; high = record { le = le→leb n 65535 (digit-below v (nibble-below shift (getD w p 0))) } }
 
 pub safe-every : (ps : List (List Range)) (o : Output) → T (safeOutput ps o) → SafeOutput ps o
 unfolding safeOutput SafeOutput value
