@@ -11,6 +11,7 @@ pub mod Places
 pub mod Blocks
 pub mod Alike
 pub mod Write
+pub mod OneOnly
 pub mod Words
 pub mod Sound
 pub mod Compile

@@ -50,13 +50,14 @@ wordSum v [] w = v
 wordSum v (a ∷ ks) [] = v
 wordSum v (a ∷ ks) (c ∷ w) = wordSum ((v + a * c) % 65536) ks w
 
--- what entry j of a block writes for a word: the sum of its constant and its coefficients below K times the characters; or the digit that its
--- constant as shift gives of that sum without the constant, which with one coefficient of 1 is the character at its position
+-- what an entry writes for a word, by its sort, its constant and its coefficients below K: the sum of the constant and the coefficients times
+-- the characters; or the digit that the constant as shift gives of that sum without it, which with one coefficient of 1 is a character
+abbrev pub valueBy : ℕ → ℕ → List ℕ → List ℕ → ℕ
+valueBy sort constant ks w = cond (eqb sort 0) (wordSum constant ks w) (hexDigit (nibble constant (wordSum 0 ks w)))
+
+-- what entry j of a block writes for a word
 unfoldable pub entryValue : List ℕ → ℕ → List ℕ → ℕ
-entryValue b j w =
-    let constant = at b (4 + entrySize * j) in
-    let coefficients = take (at b 0) (drop (5 + entrySize * j) b) in
-    cond (eqb (at b (3 + entrySize * j)) 0) (wordSum constant coefficients w) (hexDigit (nibble constant (wordSum 0 coefficients w)))
+entryValue b j w = valueBy (at b (3 + entrySize * j)) (at b (4 + entrySize * j)) (take (at b 0) (drop (5 + entrySize * j) b)) w
 
 -- what a block writes for a word
 unfoldable pub blockOutput : List ℕ → List ℕ → List ℕ

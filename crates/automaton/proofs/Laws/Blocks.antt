@@ -1,5 +1,5 @@
 -- The words of a table hold its groups' blocks, whatever follows them.
--- The parts before the blocks have 17222 words, those before the default's block 2400 more, and each block has 75.
+-- The blocks follow the parts before them, the default's the 32 of the rules, and all are of one size.
 use mathlib.Core.List.{List, [], _∷_, _++_}
 use mathlib.Core.Option.{some}
 use mathlib.Core.Path.{_≡_, ap, _∙_}

@@ -5,32 +5,58 @@ use mathlib.Core.List.{List, [], _∷_, _++_}
 use mathlib.Core.Logic.{_≢_}
 use mathlib.Core.Option.{Option, none, some}
 use mathlib.Core.Path.{_≡_, refl, sym, ap, subst, _∙_}
-use Prim.Native.Nat.{ℕ, suc, pred, _+_, _≤_, _<_}
+use Prim.Native.Nat.{ℕ, suc, pred, _+_, _-_, _*_, _≤_, _<_}
+use native.Mathlib.Nat.{add-zero}
 use native.Mathlib.Omega.{arith}
-use lib.Dec.{T, not-T, eqb, le→leb, lt→ltb, eqb→eq}
-use lib.ListN.{length, getD, length-append}
+use lib.Dec.{T, not-T, eqb, le→leb, lt→ltb, eqb→eq, lit<}
+use lib.IntN.{pos}
+use lib.ListN.{length, getD, take, drop, length-append, length-take}
+use lib.Seq.{getD-take, getD-drop}
 use Rattle.lists.specs.Lists.{Each, isSome}
 use Rattle.lists.specs.Decide.{implies}
 use Rattle.lists.proofs.Laws.Tests.{of-not, and-left, and-right, of-cond, to-implies, to-allOf, to-below, eq→eqb, neqb→ne, ne→neqb, to-between}
-use Rattle.meaning.specs.Table.{Group, Table, ruleAt, defaultNumber, longest, expansion}
-use Rattle.meaning.specs.Block.{at, bit, block, blockSize}
-use Rattle.meaning.proofs.Laws.Shape.{ShapedDefault, Shaped}
+use Rattle.lists.proofs.Laws.Each.{each-getD}
+use Rattle.lists.proofs.Laws.Parts.{getD-pad}
+use Rattle.meaning.specs.Table.{Output, sum, digit, Group, Table, ruleAt, defaultNumber, longest, expansion}
+use Rattle.meaning.specs.Block.{at, bit, entry, block, blockSize, entrySize}
+use Rattle.meaning.proofs.Laws.Shape.{Within, ShapedDefault, Shaped}
 use Rattle.meaning.proofs.Laws.Groups.{rule-shaped, default-each, group-rule, group-default, longest-le, longest-small, longest-positive, group-short, expansion-small}
-use Rattle.meaning.proofs.Laws.Exact.{block-size, block-anchored, block-count}
+use Rattle.meaning.proofs.Laws.Exact.{oneAt, one-here, one-elsewhere, block-size, block-anchored, block-count, block-entry}
 use Rattle.automaton.specs.Classes.{starts}
 use Rattle.automaton.specs.States.{State, initial, acceptAtEndOf, acceptOf, states, targetOf}
 use Rattle.automaton.specs.Layout.{wordCount, words, classesFrom}
-use Rattle.automaton.specs.Sound.{classCount, longestWord, ruleCount, stateCount, depthWord, targetWord, blockAt, between, used, soundHeader, soundStarts, soundBlock, soundBlocks, namesRule, soundTarget, soundState, sound}
+use Rattle.automaton.specs.Sound.{classCount, longestWord, ruleCount, stateCount, depthWord, targetWord, blockAt, between, used, oneOnly, soundEntry, soundHeader, soundStarts, soundBlock, soundBlocks, namesRule, soundTarget, soundState, sound}
 use Rattle.automaton.proofs.Laws.Good.{stateAt}
 use Rattle.automaton.proofs.Laws.First.{first-cases, first-none}
 use Rattle.automaton.proofs.Laws.Classes.{classed}
 use Rattle.automaton.proofs.Laws.Levels.{numbered}
+use Rattle.automaton.proofs.Laws.OneOnly.{place-one}
 use Rattle.automaton.proofs.Laws.Blocks.{block-word, default-word}
 use Rattle.automaton.proofs.Laws.Places.{length-words, layout-states, layout-classes, layout-longest, layout-expansion, layout-rules, layout-default, layout-start, layout-depth, layout-acceptAtEnd, layout-accept, layout-target}
 
 bit-small : (b : Bool) → bit b ≤ 1
 bit-small true = omega arith
 bit-small false = omega arith
+
+-- words that agree with an output character's entry are a sound entry
+entry-sound : (o : Output) (b : List ℕ) (j k : ℕ) → at b 0 ≡ k → k ≤ 8 → Within k o → ((i : ℕ) → i < entrySize → at b (3 + entrySize * j + i) ≡ at (entry o) i) → T (soundEntry b j)
+unfolding soundEntry entry
+entry-sound (sum c ks) b j k e small within is = rw (rw add-zero at (is 0 (lit< tt))) (to-allOf _ (tt, (tt, tt)))
+entry-sound (digit p shift) b j k e small within is =
+    let n = 5 + entrySize * j in
+    let xs = take k (drop n b) in
+    let sort : at b (3 + entrySize * j) ≡ 1 = rw add-zero at (is 0 (lit< tt)) in
+    let constant : at b (4 + entrySize * j) ≡ shift = ap (at b) (omega arith) ∙ is 1 (lit< tt) in
+    let coefficient : (i : ℕ) → i < k → at xs i ≡ at (oneAt p) i =
+    λ i h.
+    getD-take k (drop n b) i 0 h
+    ∙ getD-drop n b i 0
+    ∙ ap (at b) (omega arith)
+    ∙ is (suc (suc i)) (omega arith)
+    ∙ getD-pad (entrySize - 2) (oneAt p) i (omega arith) in
+    let one : T (oneOnly xs) =
+    place-one xs p (coefficient p (within .0) ∙ one-here p) (λ i h n. coefficient i (omega (arith, length-take k (drop (5 + entrySize * j) b))) ∙ one-elsewhere p i n) in
+    rw (sort, constant, e) (to-allOf _ (tt, (to-allOf _ (within .1, (one, tt)), tt)))
 
 module _ (t : Table) (rest : List ℕ) (shaped : Shaped t) (narrow : length (starts t) ≤ 64) (few : length (states t) ≤ 256) where
   abbrev w : List ℕ
@@ -63,17 +89,27 @@ module _ (t : Table) (rest : List ℕ) (shaped : Shaped t) (narrow : length (sta
 
   -- block number n holds the group g
   group-sound : (n : ℕ) (g : Group) (most anchored : ℕ) → ((j : ℕ) → j < blockSize → at (blockAt w n) j ≡ at (block g) j) →
-      1 ≤ g .size → g .size ≤ most → bit (g .anchored) ≤ anchored → length (g .outputs) ≤ expansion t → T (soundBlock w n most anchored)
+      1 ≤ g .size → g .size ≤ most → bit (g .anchored) ≤ anchored → length (g .outputs) ≤ expansion t →
+      g .size ≤ 8 → length (g .outputs) ≤ 8 → Each (Within (g .size)) (g .outputs) → T (soundBlock w n most anchored)
   unfolding soundBlock
-  group-sound n g most anchored is low high a outs =
+  group-sound n g most anchored is low high a outs small eight within =
       rw (is 0 (omega arith) ∙ block-size g, is 1 (omega arith) ∙ block-anchored g, is 2 (omega arith) ∙ block-count g, layout-expansion t rest)
-      (to-allOf _ (to-between 1 most (g .size) low high, (le→leb (bit (g .anchored)) anchored a, (le→leb (length (g .outputs)) (expansion t) outs, tt))))
+      (to-allOf _ (to-between 1 most (g .size) low high, (le→leb (bit (g .anchored)) anchored a, (le→leb (length (g .outputs)) (expansion t) outs, (to-below (length (g .outputs)) (soundEntry (blockAt w n)) entries, tt)))))
+    where
+      entries : (j : ℕ) → j < length (g .outputs) → T (soundEntry (blockAt w n) j)
+      entries j h =
+          let d = sum (pos 0) [] in
+          entry-sound (getD (g .outputs) j d) (blockAt w n) j (g .size) (is 0 (omega arith) ∙ block-size g) small
+          (each-getD (Within (g .size)) (g .outputs) j d within h)
+          (λ i k. is (3 + entrySize * j + i) (omega arith) ∙ block-entry g j i d eight h k)
 
   rule-sound : (r : ℕ) → r < length (t .rules) → T (soundBlock w r (longestWord w) 1)
   rule-sound r b =
+      let shape = rule-shaped t shaped r b in
       let fits : ruleAt t r .size ≤ longestWord w = rw (layout-longest t rest) (longest-le t r b) in
       let outputs : length (ruleAt t r .outputs) ≤ expansion t = subst (λ g. length (g .outputs) ≤ expansion t) (group-rule t r shaped b) (group-short t r) in
-      group-sound r (ruleAt t r) (longestWord w) 1 (block-word t rest shaped r b) (rule-shaped t shaped r b .positive) fits (bit-small (ruleAt t r .anchored)) outputs
+      group-sound r (ruleAt t r) (longestWord w) 1 (block-word t rest shaped r b) (shape .positive) fits (bit-small (ruleAt t r .anchored)) outputs
+      (shape .small) (shape .outputs) (shape .reaches)
 
   default-sound : (d : Option Group) → t .default ≡ d → at w 5 ≡ 1 → T (soundBlock w defaultNumber 1 0)
   default-sound none e h = let no-default : at w 5 ≡ 0 = layout-default t rest ∙ ap (λ d. bit (isSome d)) e in absurd (omega arith)
@@ -83,6 +119,7 @@ module _ (t : Table) (rest : List ℕ) (shaped : Shaped t) (narrow : length (sta
       let size = sg .size in
       let free : bit (g .anchored) ≡ 0 = ap bit (sg .anchored) in
       group-sound defaultNumber g 1 0 (default-word t rest g e) (omega arith) (omega arith) (omega arith) outputs
+      (omega arith) (sg .outputs) (subst (λ k. Each (Within k) (g .outputs)) (sym size) (sg .reaches))
 
   blocks-sound : T (soundBlocks w)
   unfolding soundBlocks

@@ -3,7 +3,7 @@
 use mathlib.Core.Bool.{or-false}
 use mathlib.Core.List.{List, [], _∷_, _++_}
 use mathlib.Core.Option.{some}
-use mathlib.Core.Path.{_≡_, sym, ap, _∙_}
+use mathlib.Core.Path.{_≡_, sym, ap, subst, _∙_}
 use Prim.Native.Nat.{ℕ, _<_}
 use native.Mathlib.Omega.{arith}
 use Rattle.lists.specs.Lists.{Each, optional}
@@ -13,7 +13,7 @@ use Rattle.meaning.specs.Table.{Group, Table, everyCharacter, ruleAt}
 use Rattle.meaning.specs.Value.{value, fitsWord, IsCharacter, SafeTable}
 use Rattle.meaning.specs.Meaning.{written}
 use Rattle.meaning.proofs.Laws.Prefix.{fitsPrefix-whole}
-use Rattle.meaning.proofs.Laws.Shape.{ShapedDefault, Shaped}
+use Rattle.meaning.proofs.Laws.Shape.{Within, ShapedDefault, Shaped}
 use Rattle.meaning.proofs.Laws.Groups.{rule-shaped, default-each, group-rule, group-default, some-default, SafeGroup, safe-group}
 use Rattle.meaning.proofs.Laws.Exact.{block-writes}
 use Rattle.automaton.specs.Layout.{words}
@@ -50,7 +50,7 @@ words-write t rest s safe =
           λ r w d.
           let shape = rule-shaped t s r (d .rule) in
           ap (λ g. written g w) (group-rule t r s (d .rule))
-          ∙ sym (block-writes (ruleAt t r) w (blockAt (words t ++ rest) r) (shape .small) (shape .outputs) (sym (d .size))
+          ∙ sym (block-writes (ruleAt t r) w (blockAt (words t ++ rest) r) (shape .small) (shape .outputs) (sym (d .size)) (shape .reaches)
           (safe-rule t w r s safe d) (block-word t rest s r (d .rule)));
       of-default =
           λ e x h.
@@ -59,5 +59,5 @@ words-write t rest s safe =
           let shape = default-each ShapedDefault t g (d .1) (s .default) in
           ap (λ a. written a (x ∷ [])) (group-default t g (d .1))
           ∙ sym (block-writes g (x ∷ []) (blockAt (words t ++ rest) 32) (omega arith) (shape .outputs) (sym (shape .size))
-          (safe-default t g x s safe (d .1) h) (default-word t rest g (d .1)));
+          (subst (λ k. Each (Within k) (g .outputs)) (sym (shape .size)) (shape .reaches)) (safe-default t g x s safe (d .1) h) (default-word t rest g (d .1)));
     }

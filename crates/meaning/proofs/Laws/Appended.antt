@@ -15,6 +15,7 @@ use Rattle.lists.proofs.Laws.Tests.{of-cond, neqb→ne}
 use Rattle.meaning.specs.Table.{Range, Output, sum, digit, Group, everyCharacter}
 use Rattle.meaning.specs.Reader.{reach, changeLatest, addRange, addTerm, changeRanges, changeOutputs}
 use Rattle.meaning.specs.Records.{ruleRecord, rangeRecord, outputRecord, Term, termRecord, defaultRecord, Joined, rangeRecords, terms, OutputRecords, RuleRecords, DefaultRecords, Records}
+use Rattle.meaning.proofs.Laws.Shape.{IsSum}
 use Rattle.meaning.proofs.Laws.Reading.{top}
 
 -- joined parts: one more, or more bytes of the last
@@ -110,11 +111,6 @@ terms-more p a ks d h =
     (terms-append 0 ks (replicate n (pos 0)) ∙ ap (λ l. terms 0 ks ++ l) (terms-zeros (0 + length ks) n) ∙ append-nil (terms 0 ks))
     ∙ ap (λ i. terms 0 ks ++ terms i (a ∷ [])) q
     ∙ ap (λ l. terms 0 ks ++ l) (term-one p a [] d)
-
--- a sum takes terms, a digit none
-abbrev pub IsSum : Output → Type 0
-IsSum (sum c ks) = Unit {0}
-IsSum (digit p shift) = ⊥
 
 pub term-sum : (p : ℕ) (a : ℤ) (o : Output) → IsSum o → IsSum (addTerm p a o)
 term-sum p a (sum c ks) i = tt

@@ -21,11 +21,11 @@ use Rattle.meaning.specs.Reader.{signed, Reading, unread, latest, reach,
 use Rattle.meaning.specs.WellFormed.{WellFormedRange, Rising, WellFormedPosition, Signed, WellFormedOutput, WellFormedRule, WellFormedDefault, WellFormed}
 use Rattle.meaning.specs.Records.{Bytes, outputRecord, Joined, OutputRecords, Records}
 use Rattle.meaning.proofs.Laws.Refusal.{by-then}
-use Rattle.meaning.proofs.Laws.Shape.{Within, ShapedGroup, ShapedDefault, Shaped}
+use Rattle.meaning.proofs.Laws.Shape.{Within, IsSum, ShapedGroup, ShapedDefault, Shaped}
 use Rattle.meaning.proofs.Laws.Reading.{atLast-length, last-each, top, read-shaped}
 use Rattle.meaning.proofs.Laws.Decoding.{FittingRecord, decode-fits}
 use Rattle.meaning.proofs.Laws.Encoding.{signed-fits, signed-named, half-16, half-32, bytesOf, encode-decode}
-use Rattle.meaning.proofs.Laws.Appended.{joined-snoc, joined-last, lastD-atLast, lastD-snoc, IsSum, term-sum, term-written, rule-outputs, default-outputs, rule-ranges, table-latest, table-rule, table-default, top-changed}
+use Rattle.meaning.proofs.Laws.Appended.{joined-snoc, joined-last, lastD-atLast, lastD-snoc, term-sum, term-written, rule-outputs, default-outputs, rule-ranges, table-latest, table-rule, table-default, top-changed}
 
 -- ranges and output characters stay well formed
 

@@ -1,23 +1,27 @@
 -- A block writes modulo 65536 what its group writes exactly, where the values are characters.
--- A sum modulo 65536 differs from the signed sum by a multiple of 65536; below 65536 that leaves one number.
-use mathlib.Core.List.{List, [], _∷_, map}
-use mathlib.Core.Path.{_≡_, refl, sym, ap, ap₂, _∙_}
-use Prim.Native.Nat.{ℕ, zero, suc, _+_, _*_, _/_, _%_, _≤_, _<_, _-_}
+-- A sum modulo 65536 differs from the signed sum by a multiple of 65536; below 65536 that leaves one number. A digit's one coefficient
+-- picks its character out, of which 16 bits are enough for the digit.
+use mathlib.Core.List.{List, [], _∷_, _++_, map}
+use mathlib.Core.Logic.{_≢_}
+use mathlib.Core.Path.{_≡_, refl, sym, ap, ap₂, subst, _∙_}
+use Prim.Native.Nat.{ℕ, zero, suc, _+_, _*_, _/_, _%_, _^_, _≤_, _<_, _-_}
 use native.Mathlib.Nat.{mul-zero, mul-suc, zero-mul, zero-add, add-zero, add-comm}
 use native.Mathlib.Omega.{arith}
 use borrow.Author.Tests.{le-ltb}
-use lib.Dec.{leb→le}
+use lib.Dec.{T, eqb, eqb→eq, leb→le}
 use lib.IntN.{ℤ, pos, negsuc, natAbs, _+ℤ_, _*ℤ_, +ℤ-idr, +ℤ-assoc, *ℤ-zero, *ℤ-comm, sucℤ-*ℤ}
-use lib.ListN.{length, getD, take, drop}
+use lib.ListN.{length, getD, take, drop, replicate}
 use lib.Seq.{getD-append-add, getD-take, getD-drop}
 use Rattle.lists.specs.Lists.{Each, flatMap, tabFrom}
+use Rattle.lists.proofs.Laws.Tests.{or-cases}
 use Rattle.lists.proofs.Laws.Each.{each-getD}
 use Rattle.lists.proofs.Laws.Parts.{length-pad, getD-pad, getD-rows}
 use Rattle.lists.proofs.Laws.Sets.{tab-map}
-use Rattle.meaning.specs.Table.{Output, sum, Group}
-use Rattle.meaning.specs.Value.{dot, value, IsCharacter}
+use Rattle.meaning.specs.Table.{Output, sum, digit, Group, isShift}
+use Rattle.meaning.specs.Value.{dot, nibble, hexDigit, value, IsCharacter}
 use Rattle.meaning.specs.Meaning.{written}
-use Rattle.meaning.specs.Block.{word, bit, entry, block, at, wordSum, entryValue, blockOutput, blockSize, entrySize}
+use Rattle.meaning.specs.Block.{word, bit, entry, block, at, wordSum, valueBy, entryValue, blockOutput, blockSize, entrySize}
+use Rattle.meaning.proofs.Laws.Shape.{Within}
 use Rattle.meaning.proofs.Laws.Seven.{sum-swap}
 
 -- z and n differ by a multiple of 65536
@@ -109,7 +113,7 @@ unfolding wordSum
 sum-step v [] c w h = rw zero-mul (omega arith)
 sum-step v (a ∷ ks) c w h = refl
 
-sum-reads : (v : ℕ) (xs ys w : List ℕ) → v < 65536 → ((j : ℕ) → j < length w → at xs j ≡ at ys j) → wordSum v xs w ≡ wordSum v ys w
+pub sum-reads : (v : ℕ) (xs ys w : List ℕ) → v < 65536 → ((j : ℕ) → j < length w → at xs j ≡ at ys j) → wordSum v xs w ≡ wordSum v ys w
 sum-reads v xs ys [] h e = sum-nil v xs ∙ sym (sum-nil v ys)
 sum-reads v xs ys (c ∷ w) h e =
     sum-step v xs c w h
@@ -118,11 +122,45 @@ sum-reads v xs ys (c ∷ w) h e =
     (λ j k. getD-drop 1 xs j 0 ∙ e (1 + j) (omega arith) ∙ sym (getD-drop 1 ys j 0))
     ∙ sym (sum-step v ys c w h)
 
+-- a digit
+
+-- the coefficients of a digit: 1 at its position
+abbrev pub oneAt : ℕ → List ℕ
+oneAt p = replicate p 0 ++ (1 ∷ [])
+
+pub one-here : (p : ℕ) → at (oneAt p) p ≡ 1
+one-here zero = refl
+one-here (suc p) = one-here p
+
+pub one-elsewhere : (p j : ℕ) → j ≢ p → at (oneAt p) j ≡ 0
+one-elsewhere zero zero n = absurd (n refl)
+one-elsewhere zero (suc j) n = refl
+one-elsewhere (suc p) zero n = refl
+one-elsewhere (suc p) (suc j) n = one-elsewhere p j (omega arith)
+
+pub sum-one : (p : ℕ) (w : List ℕ) → wordSum 0 (oneAt p) w ≡ at w p % 65536
+unfolding wordSum
+sum-one zero [] = refl
+sum-one zero (c ∷ w) = omega arith
+sum-one (suc p) [] = refl
+sum-one (suc p) (c ∷ w) = ap (λ v. wordSum v (oneAt p) w) (ap (λ v. (0 + v) % 65536) (zero-mul c)) ∙ sum-one p w
+
+-- what holds of the four shifts
+pub by-shift : (P : ℕ → Type 0) (n : ℕ) → T (isShift n) → P 0 → P 4 → P 8 → P 12 → P n
+by-shift P n t a b c d =
+    let one : (m : ℕ) → P m → T (eqb n m) → P n = λ m x e. subst P (sym (eqb→eq n m e)) x in
+    or-cases (eqb n 0) _ t (one 0 a) (λ t. or-cases (eqb n 4) _ t (one 4 b) (λ t. or-cases (eqb n 8) _ t (one 8 c) (λ t. or-cases (eqb n 12) _ t (one 12 d) (λ t. absurd t))))
+
+pub nibble-mod : (n c : ℕ) → T (isShift n) → nibble n (c % 65536) ≡ nibble n c
+unfolding nibble
+nibble-mod n c t = by-shift (λ n. c % 65536 / 2 ^ n % 16 ≡ c / 2 ^ n % 16) n t (omega arith) (omega arith) (omega arith) (omega arith)
+
 -- the words of a block
 
 pub length-entry : (o : Output) → length (entry o) ≡ entrySize
 unfolding entry
-length-entry (sum c ks) = ap suc (length-pad (entrySize - 1) (map word ks))
+length-entry (sum c ks) = ap (λ n. suc (suc n)) (length-pad (entrySize - 2) (map word ks))
+length-entry (digit p shift) = ap (λ n. suc (suc n)) (length-pad (entrySize - 2) (oneAt p))
 
 pub length-block : (g : Group) → length (block g) ≡ blockSize
 unfolding block
@@ -152,33 +190,50 @@ block-entry g i j d few h k =
     ∙ getD-append-add head (flatMap entry (g .outputs)) (entrySize * i + j) 0
     ∙ getD-rows entry entrySize length-entry (g .outputs) i j d h k
 
--- what is written by words that agree, from place n on, with an entry's
-entry-writes : (o : Output) (b w : List ℕ) (n m : ℕ) → m ≡ suc n → length w ≤ 8 → IsCharacter (value o w) →
-    ((j : ℕ) → j < entrySize → at b (n + j) ≡ at (entry o) j) → wordSum (at b n) (take (length w) (drop m b)) w ≡ natAbs (value o w)
-unfolding entry
-entry-writes (sum c ks) b w n m next few h e =
-    let xs = take (length w) (drop m b) in
-    ap (λ v. wordSum v xs w) (rw add-zero at (e 0 (omega arith)))
-    ∙ sum-reads (word c) xs (map word ks) w (word-below c)
-    (λ j k.
-    let place : m + j ≡ n + suc j = omega arith in
-    getD-take (length w) (drop m b) j 0 k
-    ∙ getD-drop m b j 0
+-- the coefficients read at a place are the entry's
+coefficients-same : (o : Output) (b w ks : List ℕ) (n : ℕ) (v : ℕ) → length w ≤ 8 → v < 65536 →
+    ((j : ℕ) → j < entrySize → at b (n + j) ≡ at (entry o) j) → ((j : ℕ) → j < 8 → at (entry o) (suc (suc j)) ≡ at ks j) →
+    wordSum v (take (length w) (drop (n + 2) b)) w ≡ wordSum v ks w
+coefficients-same o b w ks n v few small e k =
+    sum-reads v (take (length w) (drop (n + 2) b)) ks w small
+    (λ j h.
+    let place : n + 2 + j ≡ n + suc (suc j) = omega arith in
+    getD-take (length w) (drop (n + 2) b) j 0 h
+    ∙ getD-drop (n + 2) b j 0
     ∙ ap (at b) place
-    ∙ e (suc j) (omega arith)
-    ∙ getD-pad (entrySize - 1) (map word ks) j (omega arith))
-    ∙ exact c ks w h
+    ∙ e (suc (suc j)) (omega arith)
+    ∙ k j (omega arith))
 
-pub block-writes : (g : Group) (w b : List ℕ) → g .size ≤ 8 → length (g .outputs) ≤ 8 → length w ≡ g .size →
+-- what is written by words that agree, from place n on, with an entry's
+entry-writes : (o : Output) (b w : List ℕ) (n : ℕ) → length w ≤ 8 → Within (length w) o → IsCharacter (value o w) →
+    ((j : ℕ) → j < entrySize → at b (n + j) ≡ at (entry o) j) →
+    valueBy (at b n) (at b (n + 1)) (take (length w) (drop (n + 2) b)) w ≡ natAbs (value o w)
+unfolding entry value
+entry-writes (sum c ks) b w n few within h e =
+    ap₂ (λ sort v. valueBy sort v (take (length w) (drop (n + 2) b)) w) (rw add-zero at (e 0 (omega arith))) (e 1 (omega arith))
+    ∙ coefficients-same (sum c ks) b w (map word ks) n (word c) few (word-below c) e (λ j h. getD-pad (entrySize - 2) (map word ks) j h)
+    ∙ exact c ks w h
+entry-writes (digit p shift) b w n few within h e =
+    ap₂ (λ sort v. valueBy sort v (take (length w) (drop (n + 2) b)) w) (rw add-zero at (e 0 (omega arith))) (e 1 (omega arith))
+    ∙ ap (λ c. hexDigit (nibble shift c))
+    (coefficients-same (digit p shift) b w (oneAt p) n 0 few (omega arith) e (λ j h. getD-pad (entrySize - 2) (oneAt p) j h) ∙ sum-one p w)
+    ∙ ap hexDigit (nibble-mod shift (at w p) (within .1))
+
+pub block-writes : (g : Group) (w b : List ℕ) → g .size ≤ 8 → length (g .outputs) ≤ 8 → length w ≡ g .size → Each (Within (g .size)) (g .outputs) →
     Each (λ o. IsCharacter (value o w)) (g .outputs) → ((j : ℕ) → j < blockSize → at b j ≡ at (block g) j) → blockOutput b w ≡ written g w
 unfolding entryValue blockOutput written
-block-writes g w b small few size safe e =
-    let f : ℕ → ℕ → ℕ = λ k i. wordSum (at b (3 + entrySize * i)) (take k (drop (4 + entrySize * i) b)) w in
+block-writes g w b small few size within safe e =
+    let f : ℕ → ℕ → ℕ = λ k i. valueBy (at b (3 + entrySize * i)) (at b (4 + entrySize * i)) (take k (drop (5 + entrySize * i) b)) w in
     let d = sum (pos 0) [] in
     ap₂ (λ k n. tabFrom 0 n (f k)) (e 0 (omega arith) ∙ block-size g ∙ sym size) (e 2 (omega arith) ∙ block-count g)
     ∙ tab-map (f (length w)) (λ o. natAbs (value o w)) 0 (g .outputs) d
     (λ i h.
+    let n = 3 + entrySize * i in
+    let one : 4 + entrySize * i ≡ n + 1 = omega arith in
+    let two : 5 + entrySize * i ≡ n + 2 = omega arith in
     rw zero-add
-    (entry-writes (getD (g .outputs) i d) b w (3 + entrySize * i) (4 + entrySize * i) (omega arith) (omega arith)
+    (ap₂ (λ m k. valueBy (at b n) (at b m) (take (length w) (drop k b)) w) one two
+    ∙ entry-writes (getD (g .outputs) i d) b w n (omega arith)
+    (subst (λ k. Within k (getD (g .outputs) i d)) (sym size) (each-getD (Within (g .size)) (g .outputs) i d within h))
     (each-getD (λ o. IsCharacter (value o w)) (g .outputs) i d safe h)
-    (λ j k. e (3 + entrySize * i + j) (omega arith) ∙ block-entry g i j d few h k)))
+    (λ j k. e (n + j) (omega arith) ∙ block-entry g i j d few h k)))

@@ -163,7 +163,7 @@ at-most p n =
 -- The sum over the positions from k on of output character j of group g: over none, with one before, and over all.
 
 abbrev pub coefficientsFrom : List ℕ → ℕ → ℕ → ℕ → List ℤ
-coefficientsFrom loaded g j k = map (signed 16) (take (at loaded (blockSize * g) - k) (drop (blockSize * g + 4 + entrySize * j + k) loaded))
+coefficientsFrom loaded g j k = map (signed 16) (take (at loaded (blockSize * g) - k) (drop (blockSize * g + 5 + entrySize * j + k) loaded))
 
 abbrev pub sumFrom : Bool → List ℕ → ℕ → ℕ → ℕ → ℤ
 sumFrom sign loaded g j k =
@@ -175,14 +175,14 @@ module _ (sign : Bool) (loaded : List ℕ) (g j : ℕ) where
   unfolding dot
   sum-last = let e : at loaded (blockSize * g) - at loaded (blockSize * g) ≡ 0 = omega arith in rw e refl
 
-  pub sum-before : (k : ℕ) → 0 < k → k ≤ at loaded (blockSize * g) → blockSize * g + 4 + entrySize * j + at loaded (blockSize * g) ≤ length loaded →
-      let a = signed 16 (at loaded (blockSize * g + 4 + entrySize * j + (k - 1))) in
+  pub sum-before : (k : ℕ) → 0 < k → k ≤ at loaded (blockSize * g) → blockSize * g + 5 + entrySize * j + at loaded (blockSize * g) ≤ length loaded →
+      let a = signed 16 (at loaded (blockSize * g + 5 + entrySize * j + (k - 1))) in
       let rs = rangesAt loaded (8 * g + (k - 1)) in
       sumFrom sign loaded g j (k - 1)
       ≡ a *ℤ pos (cond (Bool·beq (nonNeg a) sign) (lowestOf rs) (highestOf rs)) +ℤ sumFrom sign loaded g j k
   unfolding dot extreme
   sum-before k h l fit =
-      let base = blockSize * g + 4 + entrySize * j in
+      let base = blockSize * g + 5 + entrySize * j in
       let n = at loaded (blockSize * g) in
       let e : n - (k - 1) ≡ suc (n - k) = omega arith in
       let d : suc (base + (k - 1)) ≡ base + k = omega arith in
@@ -192,14 +192,14 @@ module _ (sign : Bool) (loaded : List ℕ) (g j : ℕ) where
       rw (row, tab-before (λ p. rangesAt loaded (8 * g + p)) k n h l) refl
 
   pub sum-whole : (k : ℕ) → k ≤ 0 →
-      let ks = map (signed 16) (take (at loaded (blockSize * g)) (drop (blockSize * g + 4 + entrySize * j) loaded)) in
+      let ks = map (signed 16) (take (at loaded (blockSize * g)) (drop (blockSize * g + 5 + entrySize * j) loaded)) in
       sumFrom sign loaded g j k ≡ dot ks (extreme sign ks (patternAt loaded g (at loaded (blockSize * g))))
   unfolding patternAt
   sum-whole k h =
       let n = at loaded (blockSize * g) in
       let e : n - k ≡ n = omega arith in
-      let d : blockSize * g + 4 + entrySize * j + k ≡ blockSize * g + 4 + entrySize * j = omega arith in
-      let ks : coefficientsFrom loaded g j k ≡ map (signed 16) (take n (drop (blockSize * g + 4 + entrySize * j) loaded)) = rw (e, d) refl in
+      let d : blockSize * g + 5 + entrySize * j + k ≡ blockSize * g + 5 + entrySize * j = omega arith in
+      let ks : coefficientsFrom loaded g j k ≡ map (signed 16) (take n (drop (blockSize * g + 5 + entrySize * j) loaded)) = rw (e, d) refl in
       rw (ks, tab-whole (λ p. rangesAt loaded (8 * g + p)) k n h) refl
 
 -- refusal 7's test of an output character by the two differences

@@ -89,7 +89,7 @@ pub set-past : (xs ys : List ℕ) (i v : ℕ) → set (xs ++ ys) (length xs + i)
 set-past [] ys i v = ap (λ k. set ys k v) (zero-add i)
 set-past (x ∷ xs) ys i v = ap (λ k. set (x ∷ (xs ++ ys)) k v) (suc-add (length xs) i) ∙ ap (λ l. x ∷ l) (set-past xs ys i v)
 
-stores-past : (xs ys : List ℕ) (cs : List (ℕ × ℕ)) → stores (xs ++ ys) (shift (length xs) cs) ≡ xs ++ stores ys cs
+pub stores-past : (xs ys : List ℕ) (cs : List (ℕ × ℕ)) → stores (xs ++ ys) (shift (length xs) cs) ≡ xs ++ stores ys cs
 stores-past xs ys [] = refl
 stores-past xs ys (c ∷ cs) = ap (λ l. stores l (shift (length xs) cs)) (set-past xs ys (c .0) (c .1)) ∙ stores-past xs (set ys (c .0) (c .1)) cs
 
@@ -103,7 +103,7 @@ shift-none : (cs : List (ℕ × ℕ)) → shift 0 cs ≡ cs
 shift-none [] = refl
 shift-none (c ∷ cs) = λ i. (zero-add (c .0) i, c .1) ∷ shift-none cs i
 
-shift-more : (k m : ℕ) (cs : List (ℕ × ℕ)) → shift k (shift m cs) ≡ shift (k + m) cs
+pub shift-more : (k m : ℕ) (cs : List (ℕ × ℕ)) → shift k (shift m cs) ≡ shift (k + m) cs
 shift-more k m [] = refl
 shift-more k m (c ∷ cs) = let e : k + (m + c .0) ≡ k + m + c .0 = sym (add-assoc k m (c .0)) in λ i. (e i, c .1) ∷ shift-more k m cs i
 

@@ -1,12 +1,12 @@
 -- Refusal 7's test on the array of a table is the table's own test.
--- What is read back of the array is the table, its coefficients filled up with zeros, which change no value.
+-- What is read back of the array is the table, its coefficients filled up with zeros, which change no value; a digit is known by its sort.
 use mathlib.Core.Bool.{Bool, true, false, _&&_, cond}
 use mathlib.Core.List.{List, [], _∷_, _++_, map}
 use mathlib.Core.Option.{Option, none, some}
 use mathlib.Core.Path.{_≡_, refl, sym, ap, ap₂, subst, _∙_}
 use Prim.Native.Nat.{ℕ, zero, suc, _+_, _*_, _/_, _≤_, _<_, _-_}
 use native.Mathlib.Omega.{arith}
-use lib.Dec.{T, lit<}
+use lib.Dec.{T, eqb, lit<}
 use lib.IntN.{ℤ, pos, _+ℤ_, zero-*ℤ}
 use lib.ListN.{length, getD, take, drop, length-map, length-drop, List·getD-map}
 use lib.Seq.{length-take-le, getD-take, getD-drop, ext-getD}
@@ -15,12 +15,12 @@ use Rattle.lists.specs.Decide.{forBelow, implies}
 use Rattle.lists.proofs.Laws.Tests.{test-eq, below, to-below, and-true, and-assoc}
 use Rattle.lists.proofs.Laws.Each.{each-front, each-back, each-getD, all-each, each-all}
 use Rattle.lists.proofs.Laws.Parts.{getD-pad, getD-rows}
-use Rattle.meaning.specs.Table.{Range, Output, sum, Group, Table, everyCharacter, ruleAt}
-use Rattle.meaning.specs.Reader.{reach, signed}
+use Rattle.meaning.specs.Table.{Range, Output, sum, digit, Group, Table, everyCharacter, ruleAt}
+use Rattle.meaning.specs.Reader.{signed}
 use Rattle.meaning.specs.Block.{at, word, bit, entry, block, blockSize, entrySize}
 use Rattle.meaning.specs.Value.{dot, value, extreme, safeOutput, safe}
-use Rattle.meaning.specs.bridge.Flat.{bits, highOf, highWords, loadedWords, highsFrom, patternAt, groupAt, tableAt, outputAt, safeGroupAt, safeAt}
-use Rattle.meaning.proofs.Laws.Shape.{ShapedGroup, ShapedDefault, Shaped}
+use Rattle.meaning.specs.bridge.Flat.{bits, highOf, highWords, loadedWords, highsFrom, patternAt, groupAt, tableAt, sumAt, safeOutputAt, safeGroupAt, safeAt}
+use Rattle.meaning.proofs.Laws.Shape.{Within, ShapedGroup, ShapedDefault, Shaped}
 use Rattle.meaning.proofs.Laws.Exact.{length-entry}
 use Rattle.meaning.proofs.Laws.Narrow.{Bits, NarrowOutput, NarrowGroup, Narrow}
 use Rattle.meaning.proofs.Laws.Rows.{fill, length-fill, rowsOf, rows-at, rowsOf-rule, rowsOf-default}
@@ -48,12 +48,9 @@ dot-filled sign zero (a ∷ ks) ps h = absurd (omega arith)
 dot-filled sign (suc n) (a ∷ ks) [] h = refl
 dot-filled sign (suc n) (a ∷ ks) (rs ∷ ps) h = rw (dot-filled sign n ks ps (omega arith)) refl
 
-abbrev widen : ℕ → Output → Output
-widen n (sum c ks) = sum c (zeros n ks)
-
-widen-safe : (ps : List (List Range)) (n : ℕ) (o : Output) → reach o ≤ n → safeOutput ps (widen n o) ≡ safeOutput ps o
+widen-safe : (ps : List (List Range)) (n : ℕ) (c : ℤ) (ks : List ℤ) → length ks ≤ n → safeOutput ps (sum c (zeros n ks)) ≡ safeOutput ps (sum c ks)
 unfolding safeOutput value
-widen-safe ps n (sum c ks) h = rw (dot-filled true n ks ps h, dot-filled false n ks ps h) refl
+widen-safe ps n c ks h = rw (dot-filled true n ks ps h, dot-filled false n ks ps h) refl
 
 -- numbers of 16 and of 32 bits, read back
 
@@ -71,17 +68,11 @@ signed-words [] (suc n) (suc i) b h = signed-words [] n i tt (omega arith)
 signed-words (a ∷ ks) (suc n) zero b h = signed-word a (b .0)
 signed-words (a ∷ ks) (suc n) (suc i) b h = signed-words ks n i (b .1) (omega arith)
 
-abbrev wordsOf : Output → List ℕ
-wordsOf (sum c ks) = map word ks
-
-abbrev lowOf : Output → ℕ
-lowOf (sum c ks) = word c
-
-read-output : (n base low high : ℕ) (loaded : List ℕ) (o : Output) → NarrowOutput o → low ≡ lowOf o → high ≡ highOf o →
-    ((i : ℕ) → i < n → at loaded (base + i) ≡ at (wordsOf o) i) → base + n ≤ length loaded →
-    sum (signed 32 (low + 65536 * high)) (map (signed 16) (take n (drop base loaded))) ≡ widen n o
+read-sum : (n base low high : ℕ) (loaded : List ℕ) (c : ℤ) (ks : List ℤ) → NarrowOutput (sum c ks) → low ≡ word c → high ≡ bits c / 65536 →
+    ((i : ℕ) → i < n → at loaded (base + i) ≡ at (map word ks) i) → base + n ≤ length loaded →
+    sum (signed 32 (low + 65536 * high)) (map (signed 16) (take n (drop base loaded))) ≡ sum c (zeros n ks)
 unfolding signed
-read-output n base low high loaded (sum c ks) b d e f fit =
+read-sum n base low high loaded c ks b d e f fit =
     let row = drop base loaded in
     let room : n ≤ length row = rw length-drop (omega arith) in
     let long : length (map (signed 16) (take n row)) ≡ n = length-map (take n row) (signed 16) ∙ length-take-le n row room in
@@ -92,6 +83,21 @@ read-output n base low high loaded (sum c ks) b d e f fit =
     List·getD-map (signed 16) (take n row) i 0
     ∙ ap (signed 16) (getD-take n row i 0 l ∙ getD-drop base loaded i 0 ∙ f i l)
     ∙ signed-words ks n i (b .1) l))
+
+-- the test of what is read back of an output character's numbers: its sort, its constant's two halves, and its coefficients
+read-safe : (ps : List (List Range)) (n base sort low high : ℕ) (loaded : List ℕ) (o : Output) → NarrowOutput o → n ≤ 8 → Within n o →
+    sort ≡ at (entry o) 0 → low ≡ at (entry o) 1 → high ≡ highOf o →
+    ((i : ℕ) → i < n → at loaded (base + i) ≡ at (entry o) (suc (suc i))) → base + n ≤ length loaded →
+    implies (eqb sort 0) (safeOutput ps (sum (signed 32 (low + 65536 * high)) (map (signed 16) (take n (drop base loaded))))) ≡ safeOutput ps o
+unfolding entry safeOutput
+read-safe ps n base sort low high loaded (sum c ks) b small within s d e f fit =
+    let found = sum (signed 32 (low + 65536 * high)) (map (signed 16) (take n (drop base loaded))) in
+    ap (λ x. implies (eqb x 0) (safeOutput ps found)) s
+    ∙ ap (safeOutput ps) (read-sum n base low high loaded c ks b d e (λ i h. f i h ∙ getD-pad (entrySize - 2) (map word ks) i (omega arith)) fit)
+    ∙ widen-safe ps n c ks within
+read-safe ps n base sort low high loaded (digit p shift) b small within s d e f fit =
+    let found = sum (signed 32 (low + 65536 * high)) (map (signed 16) (take n (drop base loaded))) in
+    ap (λ x. implies (eqb x 0) (safeOutput ps found)) s
 
 -- a test of each element, by number
 
@@ -113,20 +119,12 @@ all-append p (x ∷ xs) ys = ap (λ b. p x && b) (all-append p xs ys) ∙ sym (a
 abbrev noOutput : Output
 noOutput = sum (pos 0) []
 
-entry-word : (o : Output) (i : ℕ) → i < 8 → at (entry o) (suc i) ≡ at (wordsOf o) i
-unfolding entry
-entry-word (sum c ks) i h = getD-pad (entrySize - 1) (map word ks) i (omega arith)
-
-entry-constant : (o : Output) → at (entry o) 0 ≡ lowOf o
-unfolding entry
-entry-constant (sum c ks) = refl
-
 abbrev testOf : Group → Bool
 testOf g = all (safeOutput (g .ranges)) (g .outputs)
 
 module _ (t : Table) (k : ℕ) (in-arrays : k < 33) (g : Group) (row : Row t k g)
     (same : groupAt (loadedWords t) k ≡ bareGroup g)
-    (small : g .size ≤ 8) (few : length (g .outputs) ≤ 8) (reaches : Each (λ o. reach o ≤ g .size) (g .outputs))
+    (small : g .size ≤ 8) (few : length (g .outputs) ≤ 8) (reaches : Each (Within (g .size)) (g .outputs))
     (narrow : Each NarrowOutput (g .outputs)) where
   abbrev head : List ℕ
   head = g .size ∷ bit (g .anchored) ∷ length (g .outputs) ∷ flatMap entry (g .outputs)
@@ -152,9 +150,6 @@ module _ (t : Table) (k : ℕ) (in-arrays : k < 33) (g : Group) (row : Row t k g
         ∙ ap (at head) b
         ∙ getD-rows entry entrySize length-entry (g .outputs) j i noOutput inside h
 
-    low-same : at (loadedWords t) (blockSize * k + 3 + entrySize * j) ≡ lowOf here
-    low-same = in-entry 0 (blockSize * k + 3 + entrySize * j) (omega arith) (lit< tt) ∙ entry-constant here
-
     high-same : at (loadedWords t) (highsFrom + 8 * k + j) ≡ highOf here
     unfolding highWords
     high-same =
@@ -162,25 +157,21 @@ module _ (t : Table) (k : ℕ) (in-arrays : k < 33) (g : Group) (row : Row t k g
         ∙ row 8 (λ g. map highOf (g .outputs)) j (omega arith)
         ∙ List·getD-map highOf (g .outputs) j noOutput
 
-    word-same : (i : ℕ) → i < 8 → at (loadedWords t) (blockSize * k + 4 + entrySize * j + i) ≡ at (wordsOf here) i
-    word-same i h = in-entry (suc i) (blockSize * k + 4 + entrySize * j + i) (omega arith) (omega arith) ∙ entry-word here i h
-
-    output-same : outputAt (loadedWords t) k j ≡ widen (g .size) here
-    unfolding outputAt
-    output-same =
-        let fit : blockSize * k + 4 + entrySize * j + g .size ≤ length (loadedWords t) = omega (arith, loaded-length t) in
-        rw (size-flat t k in-arrays g row)
-        (read-output (g .size) (blockSize * k + 4 + entrySize * j) _ _ (loadedWords t) here
-        (each-getD NarrowOutput (g .outputs) j noOutput narrow inside) low-same high-same (λ i h. word-same i (omega arith)) fit)
+    output-safe : safeOutputAt (loadedWords t) k j ≡ safeOutput (g .ranges) here
+    unfolding sumAt
+    output-safe =
+        let loaded = loadedWords t in
+        let base = blockSize * k + 5 + entrySize * j in
+        let fit : base + g .size ≤ length loaded = omega (arith, loaded-length t) in
+        rw (pattern-same, size-flat t k in-arrays g row)
+        (read-safe (g .ranges) (g .size) base _ _ _ loaded here (each-getD NarrowOutput (g .outputs) j noOutput narrow inside) small
+        (each-getD (Within (g .size)) (g .outputs) j noOutput reaches inside)
+        (in-entry 0 (blockSize * k + 3 + entrySize * j) (omega arith) (lit< tt)) (in-entry 1 (blockSize * k + 4 + entrySize * j) (omega arith) (lit< tt))
+        high-same (λ i h. in-entry (suc (suc i)) (base + i) (omega arith) (omega arith)) fit)
 
   group-safe : safeGroupAt (loadedWords t) k ≡ testOf g
   unfolding safeGroupAt
-  group-safe =
-      rw (in-block 2 (lit< tt), pattern-same)
-      (below-all (safeOutput (g .ranges)) (g .outputs) noOutput (λ j. safeOutput (g .ranges) (outputAt (loadedWords t) k j))
-      (λ j h.
-      ap (safeOutput (g .ranges)) (output-same j h)
-      ∙ widen-safe (g .ranges) (g .size) (here j h) (each-getD (λ o. reach o ≤ g .size) (g .outputs) j noOutput reaches h)))
+  group-safe = rw (in-block 2 (lit< tt)) (below-all (safeOutput (g .ranges)) (g .outputs) noOutput (safeOutputAt (loadedWords t) k) output-safe)
 
 pub safe-flat : (t : Table) → Shaped t → Narrow t →
     safeAt (loadedWords t) (length (t .rules)) (isSome (t .default)) ≡ safe t
@@ -212,5 +203,5 @@ safe-flat t s w =
         ∙ ap (λ o. orElse (everyCharacter []) (bareDefault o)) e in
         group-safe t 32 (lit< tt) g
         (λ n f j i. rows-at n f t 32 j (lit< tt) i ∙ ap (λ d. at (getD (rowsOf f (t .rules) d) 32 []) j) e ∙ ap (λ l. at l j) (rowsOf-default f (t .rules) g))
-        same (omega arith) (a .0 .outputs) (subst (λ m. Each (λ o. reach o ≤ m) (g .outputs)) (sym one) (a .0 .reaches)) (b .0 .narrow)
+        same (omega arith) (a .0 .outputs) (subst (λ m. Each (Within m) (g .outputs)) (sym one) (a .0 .reaches)) (b .0 .narrow)
         ∙ sym (and-true (testOf g))

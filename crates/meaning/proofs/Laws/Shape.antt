@@ -20,6 +20,11 @@ pub within-reach : (k : ℕ) (o : Output) → Within k o → reach o ≤ k
 within-reach k (sum c ks) h = h
 within-reach k (digit p shift) h = omega arith
 
+-- a sum takes terms, a digit none
+abbrev pub IsSum : Output → Type 0
+IsSum (sum c ks) = Unit {0}
+IsSum (digit p shift) = ⊥
+
 pub record ShapedGroup (g : Group) : Type 0 where
   pub positive : 1 ≤ g .size
   pub small : g .size ≤ 8

@@ -7,18 +7,20 @@ use mathlib.Core.Path.{_≡_, refl, sym, ap, ap₂, subst, _∙_}
 use Prim.Native.Nat.{ℕ, zero, suc, pred, _+_, _-_, _*_, _≤_, _<_}
 use native.Mathlib.Nat.{suc-sub-suc, sub-zero, add-zero}
 use native.Mathlib.Omega.{arith}
-use lib.Dec.{T, T-not, eqb, eqb→eq, eqb-refl}
+use lib.Dec.{T, T-not, eqb, eqb→eq, eqb-refl, lit<}
 use lib.IntN.{ℤ, pos}
 use lib.ListN.{length, getD, set, replicate, length-append}
 use lib.Seq.{append-snoc}
-use Rattle.lists.specs.Lists.{flatMap, pad, atLast, lastD}
+use Rattle.lists.specs.Lists.{Each, flatMap, pad, atLast, lastD}
 use Rattle.lists.proofs.Laws.Tests.{either}
-use Rattle.meaning.specs.Table.{Range, Output, sum, Group}
+use Rattle.meaning.specs.Table.{Range, Output, sum, digit, Group}
 use Rattle.meaning.specs.Reader.{reach, addRange, addTerm, changeRanges, changeOutputs}
 use Rattle.meaning.specs.Block.{word, bit, entry, block, blockSize, entrySize}
 use Rattle.meaning.specs.bridge.Flat.{highOf}
+use Rattle.meaning.proofs.Laws.Shape.{IsSum}
+use Rattle.meaning.proofs.Laws.Exact.{oneAt}
 use Rattle.meaning.proofs.Laws.Reading.{atLast-length}
-use Rattle.meaning.proofs.Laws.Rows.{fill, pad-fill, length-fill, fill-snoc, fill-after, fill-atLast, fill-last, map-append, length-map, set-past, joined, joined-set, pad-rows, pad-pad, flatMap-append}
+use Rattle.meaning.proofs.Laws.Rows.{fill, pad-fill, length-fill, fill-snoc, fill-after, fill-atLast, fill-last, map-append, length-map, stores, shift, set-past, stores-past, shift-more, joined, joined-set, pad-rows, pad-pad, flatMap-append}
 
 abbrev pub slotRow : Group → List ℕ
 slotRow g = map length (g .ranges)
@@ -133,13 +135,15 @@ module _ (p : ℕ) (r : Range) (g : Group) (low : p ≤ length (g .ranges)) (hig
 
 -- an output character or a term
 
--- an output character's row of nine
+-- an output character's row
 abbrev pub entryRow : Output → List ℕ
-entryRow (sum c ks) = word c ∷ map word ks
+entryRow (sum c ks) = 0 ∷ word c ∷ map word ks
+entryRow (digit p shift) = 1 ∷ shift ∷ oneAt p
 
 entry-pad : (o : Output) → entry o ≡ pad entrySize (entryRow o)
 unfolding entry pad
 entry-pad (sum c ks) = refl
+entry-pad (digit p shift) = refl
 
 entries-pad : (os : List Output) → flatMap entry os ≡ flatMap (λ o. pad entrySize (entryRow o)) os
 entries-pad [] = refl
@@ -152,26 +156,55 @@ block-parts g =
     pad-pad blockSize (g .size ∷ bit (g .anchored) ∷ length (g .outputs) ∷ flatMap entry (g .outputs))
     ∙ ap (λ l. g .size ∷ bit (g .anchored) ∷ length (g .outputs) ∷ l) (ap (pad (8 * entrySize)) (entries-pad (g .outputs)) ∙ pad-rows entryRow entrySize 8 (g .outputs))
 
-entry-single : (z : ℤ) → pad entrySize (entryRow (sum z [])) ≡ set (pad entrySize []) 0 (word z)
-unfolding pad
-entry-single z = refl
+-- one more output character, whose row stores make of an empty one
+pub block-added : (o : Output) (cs : List (ℕ × ℕ)) (g : Group) → length (g .outputs) < 8 → Each (λ c. c .0 < entrySize) cs →
+    pad entrySize (entryRow o) ≡ stores (pad entrySize []) cs →
+    pad blockSize (block (changeOutputs (λ os. os ++ (o ∷ [])) g))
+    ≡ stores (set (pad blockSize (block g)) 2 (length (g .outputs) + 1)) (shift (3 + entrySize * length (g .outputs)) cs)
+block-added o cs g h inside e =
+    let os = g .outputs in
+    let n = length os in
+    let old = fill [] 8 (map entryRow os) in
+    let head = g .size ∷ bit (g .anchored) ∷ (n + 1) ∷ [] in
+    block-parts (changeOutputs (λ os. os ++ (o ∷ [])) g)
+    ∙ ap₂ (λ n l. g .size ∷ bit (g .anchored) ∷ n ∷ l) (length-append os (o ∷ []))
+    (ap (λ l. joined entrySize (fill [] 8 l)) (map-append entryRow os (o ∷ []))
+    ∙ ap (joined entrySize) (fill-snoc [] 8 (map entryRow os) (entryRow o) (rw length-map h) ∙ ap (λ k. set old k (entryRow o)) (length-map entryRow os))
+    ∙ joined-set entrySize old n (entryRow o) cs (rw length-fill h) inside
+    (e ∙ ap (λ l. stores (pad entrySize l) cs) (sym (ap (λ k. getD old k []) (sym (length-map entryRow os)) ∙ fill-after [] 8 (map entryRow os)))))
+    ∙ sym (stores-past head (joined entrySize old) (shift (entrySize * n) cs))
+    ∙ ap (stores (head ++ joined entrySize old)) (shift-more 3 (entrySize * n) cs)
+    ∙ ap (λ l. stores (set l 2 (n + 1)) (shift (3 + entrySize * n) cs)) (sym (block-parts g))
 
 pub block-output : (z : ℤ) (g : Group) → length (g .outputs) < 8 →
     pad blockSize (block (changeOutputs (λ os. os ++ (sum z [] ∷ [])) g))
-    ≡ set (set (pad blockSize (block g)) 2 (length (g .outputs) + 1)) (3 + entrySize * length (g .outputs)) (word z)
+    ≡ set (set (pad blockSize (block g)) 2 (length (g .outputs) + 1)) (4 + entrySize * length (g .outputs)) (word z)
+unfolding pad
 block-output z g h =
-    let os = g .outputs in
-    let o = length os in
-    let rest = joined entrySize (fill [] 8 (map entryRow os)) in
-    block-parts (changeOutputs (λ os. os ++ (sum z [] ∷ [])) g)
-    ∙ ap₂ (λ n l. g .size ∷ bit (g .anchored) ∷ n ∷ l) (length-append os (sum z [] ∷ []))
-    (ap (λ l. joined entrySize (fill [] 8 l)) (map-append entryRow os (sum z [] ∷ []))
-    ∙ ap (joined entrySize) (fill-snoc [] 8 (map entryRow os) (entryRow (sum z [])) (rw length-map h) ∙ ap (λ k. set (fill [] 8 (map entryRow os)) k (entryRow (sum z []))) (length-map entryRow os))
-    ∙ joined-set entrySize (fill [] 8 (map entryRow os)) o (entryRow (sum z [])) ((0, word z) ∷ []) (rw length-fill h) (omega arith, tt)
-    (entry-single z ∙ ap (λ l. set (pad entrySize l) 0 (word z)) (sym (ap (λ k. getD (fill [] 8 (map entryRow os)) k []) (sym (length-map entryRow os)) ∙ fill-after [] 8 (map entryRow os))))
-    ∙ ap (λ k. set rest k (word z)) (add-zero (entrySize * o)))
-    ∙ sym (set-past (g .size ∷ bit (g .anchored) ∷ (o + 1) ∷ []) rest (entrySize * o) (word z))
-    ∙ ap (λ l. set (set l 2 (o + 1)) (3 + entrySize * o) (word z)) (sym (block-parts g))
+    let n = length (g .outputs) in
+    let place : 3 + entrySize * n + 1 ≡ 4 + entrySize * n = omega arith in
+    block-added (sum z []) ((1, word z) ∷ []) g h (lit< tt, tt) refl
+    ∙ ap (λ i. set (set (pad blockSize (block g)) 2 (n + 1)) i (word z)) place
+
+pad-one : (n p : ℕ) → p < n → pad n (oneAt p) ≡ set (pad n []) p 1
+unfolding pad
+pad-one zero p h = absurd (omega arith)
+pad-one (suc n) zero h = refl
+pad-one (suc n) (suc p) h = ap (λ l. 0 ∷ l) (pad-one n p (omega arith))
+
+pub block-digit : (p shift : ℕ) (g : Group) → p < 8 → length (g .outputs) < 8 →
+    let n = length (g .outputs) in
+    pad blockSize (block (changeOutputs (λ os. os ++ (digit p shift ∷ [])) g))
+    ≡ set (set (set (set (pad blockSize (block g)) 2 (n + 1)) (3 + entrySize * n) 1) (4 + entrySize * n) shift) (5 + entrySize * n + p) 1
+unfolding pad
+block-digit p shift g inside h =
+    let n = length (g .outputs) in
+    let first : 3 + entrySize * n + 0 ≡ 3 + entrySize * n = omega arith in
+    let second : 3 + entrySize * n + 1 ≡ 4 + entrySize * n = omega arith in
+    let third : 3 + entrySize * n + suc (suc p) ≡ 5 + entrySize * n + p = omega arith in
+    block-added (digit p shift) ((0, 1) ∷ (1, shift) ∷ (suc (suc p), 1) ∷ []) g h (lit< tt, (lit< tt, (omega arith, tt)))
+    (ap (λ l. 1 ∷ shift ∷ l) (pad-one (entrySize - 2) p inside))
+    ∙ rw (first, second, third)
 
 -- a term's coefficient, behind zeros for the positions between
 pad-place : (n : ℕ) (ks : List ℤ) (p : ℕ) (z : ℤ) → length ks ≤ p → p < n → pad n (map word (ks ++ replicate (p - length ks) (pos 0) ++ (z ∷ []))) ≡ set (pad n (map word ks)) p (word z)
@@ -184,13 +217,16 @@ pad-place (suc n) (c ∷ ks) zero z h k = absurd (omega arith)
 pad-place (suc n) (c ∷ ks) (suc p) z h k =
     ap (λ m. word c ∷ pad n (map word (ks ++ replicate m (pos 0) ++ (z ∷ [])))) (suc-sub-suc p (length ks)) ∙ ap (λ l. word c ∷ l) (pad-place n ks p z (omega arith) (omega arith))
 
-entry-term : (p : ℕ) (z : ℤ) (o : Output) → p < 8 → reach o ≤ p → pad entrySize (entryRow (addTerm p z o)) ≡ set (pad entrySize (entryRow o)) (suc p) (word z)
+entry-term : (p : ℕ) (z : ℤ) (o : Output) → p < 8 → IsSum o → reach o ≤ p →
+    pad entrySize (entryRow (addTerm p z o)) ≡ set (pad entrySize (entryRow o)) (suc (suc p)) (word z)
 unfolding pad
-entry-term p z (sum c ks) h k = ap (λ l. word c ∷ l) (pad-place (entrySize - 1) ks p z k (omega arith))
+entry-term p z (sum c ks) h s k = ap (λ l. 0 ∷ word c ∷ l) (pad-place (entrySize - 2) ks p z k (omega arith))
+entry-term p z (digit q shift) h s k = absurd s
 
-pub block-term : (p : ℕ) (z : ℤ) (g : Group) → p < 8 → 1 ≤ length (g .outputs) → length (g .outputs) ≤ 8 → reach (lastD (sum (pos 0) []) (g .outputs)) ≤ p →
-    pad blockSize (block (changeOutputs (atLast (addTerm p z)) g)) ≡ set (pad blockSize (block g)) (4 + entrySize * pred (length (g .outputs)) + p) (word z)
-block-term p z g h k l m =
+pub block-term : (p : ℕ) (z : ℤ) (g : Group) → p < 8 → 1 ≤ length (g .outputs) → length (g .outputs) ≤ 8 →
+    IsSum (lastD (sum (pos 0) []) (g .outputs)) → reach (lastD (sum (pos 0) []) (g .outputs)) ≤ p →
+    pad blockSize (block (changeOutputs (atLast (addTerm p z)) g)) ≡ set (pad blockSize (block g)) (5 + entrySize * pred (length (g .outputs)) + p) (word z)
+block-term p z g h k l s m =
     let os = g .outputs in
     let o = length os in
     let last = lastD (sum (pos 0) []) os in
@@ -198,22 +234,33 @@ block-term p z g h k l m =
     block-parts (changeOutputs (atLast (addTerm p z)) g)
     ∙ ap₂ (λ n l. g .size ∷ bit (g .anchored) ∷ n ∷ l) (atLast-length (addTerm p z) os)
     (ap (joined entrySize) (fill-atLast [] entryRow (addTerm p z) (sum (pos 0) []) 8 os k l)
-    ∙ joined-set entrySize (fill [] 8 (map entryRow os)) (pred o) (entryRow (addTerm p z last)) ((suc p, word z) ∷ []) (rw length-fill (omega arith)) (omega arith, tt)
-    (entry-term p z last h m ∙ ap (λ l. set (pad entrySize l) (suc p) (word z)) (sym (fill-last [] entryRow (sum (pos 0) []) 8 os k l))))
-    ∙ sym (set-past (g .size ∷ bit (g .anchored) ∷ o ∷ []) rest (entrySize * pred o + suc p) (word z))
+    ∙ joined-set entrySize (fill [] 8 (map entryRow os)) (pred o) (entryRow (addTerm p z last)) ((suc (suc p), word z) ∷ []) (rw length-fill (omega arith)) (omega arith, tt)
+    (entry-term p z last h s m ∙ ap (λ l. set (pad entrySize l) (suc (suc p)) (word z)) (sym (fill-last [] entryRow (sum (pos 0) []) 8 os k l))))
+    ∙ sym (set-past (g .size ∷ bit (g .anchored) ∷ o ∷ []) rest (entrySize * pred o + suc (suc p)) (word z))
     ∙ ap₂ (λ l i. set l i (word z)) (sym (block-parts g)) same
   where
-    same : 3 + (entrySize * pred (length (g .outputs)) + suc p) ≡ 4 + entrySize * pred (length (g .outputs)) + p
+    same : 3 + (entrySize * pred (length (g .outputs)) + suc (suc p)) ≡ 5 + entrySize * pred (length (g .outputs)) + p
     same = omega arith
 
-pub highRow-output : (z : ℤ) (g : Group) → length (g .outputs) < 8 →
-    pad 8 (highRow (changeOutputs (λ os. os ++ (sum z [] ∷ [])) g)) ≡ set (pad 8 (highRow g)) (length (g .outputs)) (highOf (sum z []))
-highRow-output z g h =
-    ap (pad 8) (map-append highOf (g .outputs) (sum z [] ∷ []))
-    ∙ pad-snoc 8 (highRow g) (highOf (sum z [])) (rw length-map h)
-    ∙ ap (λ k. set (pad 8 (highRow g)) k (highOf (sum z []))) (length-map highOf (g .outputs))
+pub highRow-added : (o : Output) (g : Group) → length (g .outputs) < 8 →
+    pad 8 (highRow (changeOutputs (λ os. os ++ (o ∷ [])) g)) ≡ set (pad 8 (highRow g)) (length (g .outputs)) (highOf o)
+highRow-added o g h =
+    ap (pad 8) (map-append highOf (g .outputs) (o ∷ []))
+    ∙ pad-snoc 8 (highRow g) (highOf o) (rw length-map h)
+    ∙ ap (λ k. set (pad 8 (highRow g)) k (highOf o)) (length-map highOf (g .outputs))
+
+-- a digit has no upper half
+pad-none-more : (n : ℕ) (xs : List ℕ) → pad n (xs ++ (0 ∷ [])) ≡ pad n xs
+unfolding pad
+pad-none-more zero xs = refl
+pad-none-more (suc n) [] = refl
+pad-none-more (suc n) (x ∷ xs) = ap (λ l. x ∷ l) (pad-none-more n xs)
+
+pub highRow-digit : (p shift : ℕ) (g : Group) → pad 8 (highRow (changeOutputs (λ os. os ++ (digit p shift ∷ [])) g)) ≡ pad 8 (highRow g)
+highRow-digit p shift g = ap (pad 8) (map-append highOf (g .outputs) (digit p shift ∷ [])) ∙ pad-none-more 8 (highRow g)
 
 pub highRow-term : (p : ℕ) (z : ℤ) (os : List Output) → map highOf (atLast (addTerm p z) os) ≡ map highOf os
 highRow-term p z [] = refl
 highRow-term p z (sum c ks ∷ []) = refl
+highRow-term p z (digit q shift ∷ []) = refl
 highRow-term p z (o ∷ (q ∷ os)) = ap (λ l. highOf o ∷ l) (highRow-term p z (q ∷ os))

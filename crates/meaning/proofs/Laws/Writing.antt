@@ -14,7 +14,7 @@ use lib.Seq.{length-take-le, take-all, take-append-seam, drop-append-add, drop-c
 use Rattle.lists.specs.Lists.{tabFrom, orElse}
 use Rattle.lists.proofs.Laws.Tests.{of-cond}
 use Rattle.meaning.specs.Table.{Table, everyCharacter, ruleAt, defaultNumber, group}
-use Rattle.meaning.specs.Block.{at, wordSum, entryValue, blockOutput, blockSize, entrySize}
+use Rattle.meaning.specs.Block.{at, wordSum, valueBy, entryValue, blockOutput, blockSize, entrySize}
 use Rattle.meaning.specs.Meaning.{best, orDefault, choose, Emission, textOf, covered, chosen, convertBy, convertFrom, convert}
 use Rattle.meaning.specs.bridge.Flat.{rangesAt, patternAt, groupAt, tableAt, flatText}
 use Rattle.meaning.specs.Refusal.{Outcome, accepted}
@@ -28,24 +28,24 @@ use Rattle.meaning.proofs.Laws.Choice.{Fits, Chosen, best-chosen}
 pub product-fits : {a c : ℕ} → a < 65536 → c < 65536 → a * c < 2 ^ 32
 product-fits {a} h k = lt-of-le-of-lt {m = a * 65536} (mul-le-mul-left a (le-of-lt k)) (omega arith)
 
--- what a sum comes to from v on, i coefficients after its first
+-- what a sum comes to from v on, i coefficients after its first, which stands at `from`
 abbrev pub sumLeft : List ℕ → ℕ → List ℕ → ℕ → ℕ → ℕ
-sumLeft blocks entry word i v = wordSum v (take (length word - i) (drop (entry + 1 + i) blocks)) (drop i word)
+sumLeft blocks from word i v = wordSum v (take (length word - i) (drop (from + i) blocks)) (drop i word)
 
-module _ (blocks : List ℕ) (entry : ℕ) (word : List ℕ) where
-  pub sum-starts : (v : ℕ) → wordSum v (take (length word) (drop (entry + 1) blocks)) word ≡ sumLeft blocks entry word 0 v
-  sum-starts v = let s : length word - 0 ≡ length word = omega arith in rw (s, add-zero (entry + 1))
+module _ (blocks : List ℕ) (from : ℕ) (word : List ℕ) where
+  pub sum-starts : (v : ℕ) → wordSum v (take (length word) (drop from blocks)) word ≡ sumLeft blocks from word 0 v
+  sum-starts v = let s : length word - 0 ≡ length word = omega arith in rw (s, add-zero from)
 
-  pub sum-goes-on : (i v : ℕ) → entry + 1 + length word ≤ length blocks → i < length word →
-      sumLeft blocks entry word i v ≡ sumLeft blocks entry word (i + 1) ((v + at blocks (entry + 1 + i) * at word i) % 65536)
+  pub sum-goes-on : (i v : ℕ) → from + length word ≤ length blocks → i < length word →
+      sumLeft blocks from word i v ≡ sumLeft blocks from word (i + 1) ((v + at blocks (from + i) * at word i) % 65536)
   unfolding wordSum
   sum-goes-on i v h l =
       let s : length word - i ≡ suc (length word - (i + 1)) = omega arith in
-      let a : entry + 1 + (i + 1) ≡ suc (entry + 1 + i) = omega arith in
-      let p : entry + 1 + i < length blocks = omega arith in
-      rw (s, a, add-one i, drop-cons blocks (entry + 1 + i) 0 p, drop-cons word i 0 l)
+      let a : from + (i + 1) ≡ suc (from + i) = omega arith in
+      let p : from + i < length blocks = omega arith in
+      rw (s, a, add-one i, drop-cons blocks (from + i) 0 p, drop-cons word i 0 l)
 
-  pub sum-ends : (v : ℕ) → sumLeft blocks entry word (length word) v ≡ v
+  pub sum-ends : (v : ℕ) → sumLeft blocks from word (length word) v ≡ v
   unfolding wordSum
   sum-ends v = let s : length word - length word ≡ 0 = omega arith in rw s
 
@@ -79,14 +79,18 @@ module _ (blocks : List ℕ) (g : ℕ) where
   pub group-count : at (drop (blockSize * g) blocks) 2 ≡ at blocks (blockSize * g + 2)
   group-count = getD-drop (blockSize * g) blocks 2 0
 
-  pub entry-sum : (j : ℕ) (w : List ℕ) (v : ℕ) → length w ≡ at blocks (blockSize * g) →
-      v ≡ wordSum (at blocks (blockSize * g + 3 + entrySize * j)) (take (length w) (drop (blockSize * g + 3 + entrySize * j + 1) blocks)) w →
-      v ≡ entryValue (drop (blockSize * g) blocks) j w
+  -- by the places of its sort, its constant and its coefficients
+  pub entry-placed : (j : ℕ) (w : List ℕ) → length w ≡ at blocks (blockSize * g) →
+      let from = blockSize * g + 3 + entrySize * j in
+      let coefficients = take (length w) (drop (from + 2) blocks) in
+      entryValue (drop (blockSize * g) blocks) j w
+      ≡ valueBy (at blocks from) (at blocks (from + 1)) coefficients w
   unfolding entryValue
-  entry-sum j w v size e =
+  entry-placed j w size =
       let c : blockSize * g + (3 + entrySize * j) ≡ blockSize * g + 3 + entrySize * j = omega arith in
-      let a : blockSize * g + (4 + entrySize * j) ≡ blockSize * g + 3 + entrySize * j + 1 = omega arith in
-      rw (getD-drop (blockSize * g) blocks (3 + entrySize * j) 0, c, getD-drop (blockSize * g) blocks 0 0, add-zero (blockSize * g), drop-drop (4 + entrySize * j) (blockSize * g) blocks, a, ← size) e
+      let d : blockSize * g + (4 + entrySize * j) ≡ blockSize * g + 3 + entrySize * j + 1 = omega arith in
+      let e : blockSize * g + (5 + entrySize * j) ≡ blockSize * g + 3 + entrySize * j + 2 = omega arith in
+      rw (getD-drop (blockSize * g) blocks (3 + entrySize * j) 0, c, getD-drop (blockSize * g) blocks (4 + entrySize * j) 0, d, getD-drop (blockSize * g) blocks 0 0, add-zero (blockSize * g), drop-drop (5 + entrySize * j) (blockSize * g) blocks, e, size)
 
 -- what a log in two parts writes and covers
 pub text-append : (write : ℕ → List ℕ → List ℕ) (a b : List Emission) → textOf write (a ++ b) ≡ textOf write a ++ textOf write b
