@@ -16,6 +16,7 @@ pub mod Appended
 pub mod Described
 pub mod Readable
 pub mod Numbered
+pub mod Digits
 pub mod Choosing
 pub mod Writing
 pub mod Extremes

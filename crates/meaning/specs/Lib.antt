@@ -9,5 +9,6 @@ pub mod Meaning
 pub mod Block
 pub mod Direct
 pub mod Claims
+pub mod Digits
 pub mod Samples
 pub mod bridge

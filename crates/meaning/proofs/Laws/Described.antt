@@ -311,6 +311,13 @@ unread-described =
       writing = λ t. absurd t;
     }
 
+all-described : (b : List ℕ) → Bytes b → length b % 8 ≡ 0 → IfRead b (readRecords (length b / 8) b unread)
+all-described b y whole = records-described (length b / 8) b unread [] (omega (arith, div-add-mod (length b) 8)) y unread-described
+
+-- a group stands where records were taken in, the last not of kind 0
+pub group-begun : (b : List ℕ) (s : Reading) → Bytes b → length b % 8 ≡ 0 → readRecords (length b / 8) b unread ≡ accepted s → s .kind ≢ 0 → 1 ≤ length (groups (s .table))
+group-begun b s y whole e = subst (IfRead b) e (all-described b y whole) .begun
+
 -- the table
 
 abbrev IfTable : List ℕ → Outcome Table → Type 0
@@ -324,7 +331,7 @@ table-described b y =
       λ _. tt,
       λ u.
           let whole : length b % 8 ≡ 0 = eqb→eq (length b % 8) 0 (not-not (eqb (length b % 8) 0) u) in
-          let all = records-described (length b / 8) b unread [] (omega (arith, div-add-mod (length b) 8)) y unread-described in
+          let all = all-described b y whole in
           by-then (IfTable b) (readRecords (length b / 8) b unread) readEnd
           (λ n e. tt)
           (λ s e.

@@ -89,7 +89,7 @@ table-refused b n e = subst (Checked b) e (checked b) .0
 rules-refused : (b : List ℕ) (n : ℕ) → readTable b ≡ refused n → n ≤ 6 → readRules b ≡ refused n
 rules-refused b n e l = subst (Checked b) e (checked b) .2 l
 
-refused-first : (b : List ℕ) (n : ℕ) → readRules b ≡ refused n → readTable b ≡ refused n
+pub refused-first : (b : List ℕ) (n : ℕ) → readRules b ≡ refused n → readTable b ≡ refused n
 unfolding readTable andThen
 refused-first b n e = rw e refl
 

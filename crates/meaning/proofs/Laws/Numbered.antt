@@ -6,7 +6,7 @@ use mathlib.Core.Option.{Option, none, some}
 use mathlib.Core.Logic.{_≢_, _↔_}
 use mathlib.Core.Path.{_≡_, refl, sym, ap, ap₂, subst, _∙_}
 use Prim.Native.Nat.{ℕ, zero, suc, _+_, _*_, _-_, _/_, _%_, _≤_, _<_}
-use native.Mathlib.Nat.{mul-suc, suc-add, add-sub-of-le, mod-lt, div-add-mod}
+use native.Mathlib.Nat.{mul-suc, zero-add, suc-add, add-sub-of-le, mod-lt, div-add-mod}
 use native.Mathlib.Omega.{arith}
 use lib.Dec.{T, eqb, eqb→eq, lit<}
 use lib.ListN.{length, getD, take, drop, length-append, length-take, length-drop, take-append-drop}
@@ -155,24 +155,26 @@ records-none (suc n) c s l y =
     later s′ h (refused k) f = tt
     later s′ h (accepted s″) f = λ z. let v = f z in let u = h (v .0) in (u .0, at-each (u .1) (v .1))
 
--- a refusal at a record is one for whatever follows
+-- records before and behind: those behind are read where those before were taken in
 
-refused-on : (n : ℕ) (c : List ℕ) (s : Reading) (k : ℕ) → length c ≡ 8 * n → readRecords n c s ≡ refused k → (m : ℕ) (more : List ℕ) →
-    readRecords (n + m) (c ++ more) s ≡ refused k
+pub records-on : (n : ℕ) (c : List ℕ) (s : Reading) → length c ≡ 8 * n → (m : ℕ) (more : List ℕ) →
+    readRecords (n + m) (c ++ more) s ≡ andThen (readRecords n c s) (λ s′. readRecords m more s′)
 unfolding readRecords andThen
-refused-on zero c s k l e m more = absurd (accepted-not s k e)
-refused-on (suc n) c s k l e m more =
+records-on zero [] s l m more = ap (λ i. readRecords i more s) (zero-add m)
+records-on zero (x ∷ c) s l m more = absurd (omega arith)
+records-on (suc n) c s l m more =
     let whole : length c ≡ 8 + 8 * n = l ∙ omega (arith, mul-suc 8 n) in
     let eight : 8 ≤ length c = omega arith in
     let rest : length (drop 8 c) ≡ 8 * n = length-drop 8 c ∙ omega arith in
     ap (λ i. readRecords i (c ++ more) s) (suc-add n m)
     ∙ ap₂ (λ r d. andThen (readOne s (decode r)) (λ s′. readRecords (n + m) d s′)) (take-append-le 8 c more eight) (drop-append-le 8 c more eight)
-    ∙ go (readOne s (decode (take 8 c))) (λ s′ q. refused-on n (drop 8 c) s′ k rest q m more) e
+    ∙ go (readOne s (decode (take 8 c))) (λ s′. records-on n (drop 8 c) s′ rest m more)
   where
-    go : (o : Outcome Reading) → ((s′ : Reading) → readRecords n (drop 8 c) s′ ≡ refused k → readRecords (n + m) (drop 8 c ++ more) s′ ≡ refused k) →
-        andThen o (λ s′. readRecords n (drop 8 c) s′) ≡ refused k → andThen o (λ s′. readRecords (n + m) (drop 8 c ++ more) s′) ≡ refused k
-    go (refused j) f q = q
-    go (accepted s′) f q = f s′ q
+    go : (o : Outcome Reading) →
+        ((s′ : Reading) → readRecords (n + m) (drop 8 c ++ more) s′ ≡ andThen (readRecords n (drop 8 c) s′) (λ s″. readRecords m more s″)) →
+        andThen o (λ s′. readRecords (n + m) (drop 8 c ++ more) s′) ≡ andThen (andThen o (λ s′. readRecords n (drop 8 c) s′)) (λ s″. readRecords m more s″)
+    go (refused k) f = refl
+    go (accepted s′) f = f s′
 
 -- the table
 
@@ -237,7 +239,7 @@ rules-for-good b k e h more t =
     let all = length (b ++ more) / 8 in
     let larger : n ≤ all = omega (arith, r .0, length-append b more, div-add-mod (length (b ++ more)) 8, mod-lt (length (b ++ more)) (lit< {m = 0} {n = 8} tt)) in
     let on : readRecords all (b ++ more) unread ≡ refused k =
-    ap (λ i. readRecords i (b ++ more) unread) (sym (add-sub-of-le larger)) ∙ refused-on n b unread k (r .0) (r .1) (all - n) more in
+    ap (λ i. readRecords i (b ++ more) unread) (sym (add-sub-of-le larger)) ∙ records-on n b unread (r .0) (all - n) more ∙ ap (λ o. andThen o (λ s. readRecords (all - n) more s)) (r .1) in
     by-cases (λ o. o ≡ accepted t → ⊥) _ _ (
       λ _ q. accepted-not t 1 (sym q),
       λ _ q. accepted-not t k (sym q ∙ ap (λ o. andThen o readEnd) on),

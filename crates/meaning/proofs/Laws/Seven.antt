@@ -3,16 +3,17 @@
 use mathlib.Core.Bool.{Bool, true, false, cond, Bool·beq}
 use mathlib.Core.List.{List, [], _∷_}
 use mathlib.Core.Path.{_≡_, sym, ap, _∙_, subst}
-use Prim.Native.Nat.{ℕ, suc, _+_, _*_, _-_, _/_, _%_, _^_, min, max, _≤_, _<_}
+use Prim.Native.Nat.{ℕ, suc, _+_, _*_, _-_, min, max, _≤_, _<_}
 use native.Mathlib.Omega.{arith}
 use native.Mathlib.Nat.{mul-add, add-sub-of-le, mod-lt}
 use native.Mathlib.Decide.{decLe}
-use lib.Dec.{T, leb, ltb, leb→le, le→leb, lit<}
+use lib.Dec.{T, leb, leb→le, le→leb, lit<}
 use lib.IntN.{ℤ, pos, negsuc, negℤ, _+ℤ_, _*ℤ_, +ℤ-idr, +ℤ-assoc, +ℤ-comm, +ℤ-invl, negℤ-+ℤ}
 use lib.ListN.{getD}
 use lib.Signed.{leZ, nonNeg}
 use Rattle.lists.specs.Lists.{all, Each}
-use Rattle.lists.proofs.Laws.Tests.{and-left, and-right, both, or-left, or-right, or-cases, of-cond, of-between, to-between}
+use Rattle.lists.specs.Decide.{forBelow}
+use Rattle.lists.proofs.Laws.Tests.{and-left, and-right, both, or-left, or-right, or-cases, of-cond, of-between, to-between, below}
 use Rattle.lists.proofs.Laws.Each.{each-both, all-each, each-all}
 use Rattle.meaning.specs.Table.{Range, Output, sum, digit, Group, Table, within, inRanges, groups}
 use Rattle.meaning.specs.Value.{dot, nibble, hexDigit, value, fitsWord, IsCharacter, SafeOutput, SafeTable, lowestOf, highestOf, extreme, safeOutput, safe}
@@ -162,14 +163,21 @@ extreme-fits sign (a ∷ ks) ((r ∷ rs) ∷ ps) h =
     (extreme-fits sign ks ps (h .1))
 
 -- a digit is a character whatever the word
+
+nibble-below : (shift c : ℕ) → nibble shift c < 16
+unfolding nibble
+nibble-below shift c = mod-lt _ (lit< {m = 0} {n = 16} tt)
+
+digit-below : (v : ℕ) → v < 16 → T (leb (hexDigit v) 65535)
+unfolding hexDigit forBelow
+digit-below v h = below 16 (λ x. leb (hexDigit x) 65535) tt v h
+
 digit-character : (p shift : ℕ) (w : List ℕ) → IsCharacter (value (digit p shift) w)
-unfolding value nibble hexDigit
+unfolding value
 digit-character p shift w =
-    let v = getD w p 0 / 2 ^ shift % 16 in
-    let small : v < 16 = mod-lt (getD w p 0 / 2 ^ shift) (lit< {m = 0} {n = 16} tt) in
-    let n = cond (ltb v 10) (48 + v) (55 + v) in
-    let below : n ≤ 65535 = of-cond (λ m. m ≤ 65535) (ltb v 10) (48 + v) (55 + v) (λ _. omega arith) (λ _. omega arith) in
-    record { low = record { le = le→leb 0 n (omega arith) }; high = record { le = le→leb n 65535 below } }
+    let v = nibble shift (getD w p 0) in
+    let n = hexDigit v in
+    record { low = record { le = le→leb 0 n (omega arith) }; high = record { le = digit-below v (nibble-below shift (getD w p 0)) } }
 
 pub safe-every : (ps : List (List Range)) (o : Output) → T (safeOutput ps o) → SafeOutput ps o
 unfolding safeOutput SafeOutput value
