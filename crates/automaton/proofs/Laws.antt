@@ -12,8 +12,10 @@ pub mod Blocks
 pub mod Alike
 pub mod Write
 pub mod OneOnly
+pub mod Entries
 pub mod Words
 pub mod Sound
+pub mod Digits
 pub mod Compile
 pub mod Sets
 pub mod Gathering

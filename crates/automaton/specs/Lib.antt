@@ -5,4 +5,5 @@ pub mod Compile
 pub mod Sound
 pub mod Automaton
 pub mod Claims
+pub mod Digits
 pub mod bridge

@@ -1,4 +1,4 @@
--- "Examples": the tables T1, T2 and T3 as bytes.
+-- "Examples": the tables T1, T2 and T3 as bytes, and two of request [1].
 use mathlib.Core.List as Core
 use mathlib.Core.List.{List, _++_}
 use Prim.Native.Char.{Char, code}
@@ -15,12 +15,16 @@ abbrev entry : ℕ → ℕ → ℕ → ℕ → ℕ → List ℕ
 entry kind b c lo hi =
     Core._∷_ kind (Core._∷_ b (Core._∷_ c (Core._∷_ 0 (Core._∷_ (lo % 256) (Core._∷_ (lo / 256) (Core._∷_ (hi % 256) (Core._∷_ (hi / 256) Core.[])))))))
 
--- a rule with K and anchored 0 or 1; a range, of one character only; an output character of a constant, of a character; a term
+-- a rule with K and anchored 0 or 1; a range, by its characters' numbers, of one character only; an output character of a constant, of a
+-- character; a term; a hexadecimal digit
 abbrev rule : ℕ → ℕ → List ℕ
 rule k a = entry 1 k a 0 0
 
+abbrev span : ℕ → ℕ → ℕ → List ℕ
+span p lowest highest = entry 2 p 0 lowest highest
+
 abbrev range : ℕ → Char → Char → List ℕ
-range p a b = entry 2 p 0 (code a) (code b)
+range p a b = span p (code a) (code b)
 
 abbrev only : ℕ → Char → List ℕ
 only p c = range p c c
@@ -33,6 +37,9 @@ says c = out (code c)
 
 abbrev term : ℕ → ℕ → List ℕ
 term p a = entry 4 p 0 a 0
+
+abbrev digit : ℕ → ℕ → List ℕ
+digit p shift = entry 6 p shift 0 0
 
 -- a default that writes c + a x0
 unfoldable pub defaultOf : ℕ → ℕ → List ℕ
@@ -63,3 +70,10 @@ t3With d =
 
 unfoldable pub t3 : List ℕ
 t3 = t3With (defaultOf 0 1)
+
+-- request [1]: "every byte as two digits", and every character as four
+unfoldable pub twoDigits : List ℕ
+twoDigits = rule 1 0 ++ span 0 0 255 ++ digit 0 4 ++ digit 0 0
+
+unfoldable pub fourDigits : List ℕ
+fourDigits = rule 1 0 ++ span 0 0 65535 ++ digit 0 12 ++ digit 0 8 ++ digit 0 4 ++ digit 0 0

@@ -1,4 +1,4 @@
--- "Examples": the eleven lines marked P, as rows, and the test of a row.
+-- "Examples": the eleven lines marked P, and two of request [1], as rows, and the test of a row.
 use mathlib.Core.Bool.{Bool, true, false}
 use mathlib.Core.List.{List, [], _∷_}
 use Prim.Native.Nat.{ℕ, _*_}
@@ -10,7 +10,7 @@ use Rattle.lists.specs.Decide.{allOf}
 use Rattle.meaning.specs.Refusal.{Outcome, refused, accepted}
 use Rattle.meaning.specs.Table.{Table}
 use Rattle.meaning.specs.Meaning.{textOf, covered, convert, meaningText, meaningPlace}
-use Rattle.meaning.specs.Samples.{characters, t1, t1With, t2, t3, t3With, defaultOf}
+use Rattle.meaning.specs.Samples.{characters, t1, t1With, t2, t3, t3With, defaultOf, twoDigits, fourDigits}
 use Rattle.automaton.specs.Classes.{starts}
 use Rattle.automaton.specs.States.{states}
 use Rattle.automaton.specs.Layout.{wordCount, words}
@@ -107,4 +107,6 @@ rows =
     ∷ refusal (t1With 529) 7
     ∷ line (t3With (defaultOf 65535 65535)) "" 12 4 3 "" Closed 0 1
     ∷ refusal (t3With (defaultOf 1 1)) 7
+    ∷ line twoDigits "IJ©ª" 4 2 2 "494AA9AA" Closed 4 9
+    ∷ line fourDigits "骩ꦚ" 6 1 2 "9AA9A99A" Closed 2 5
     ∷ []

@@ -5,58 +5,35 @@ use mathlib.Core.List.{List, [], _∷_, _++_}
 use mathlib.Core.Logic.{_≢_}
 use mathlib.Core.Option.{Option, none, some}
 use mathlib.Core.Path.{_≡_, refl, sym, ap, subst, _∙_}
-use Prim.Native.Nat.{ℕ, suc, pred, _+_, _-_, _*_, _≤_, _<_}
-use native.Mathlib.Nat.{add-zero}
+use Prim.Native.Nat.{ℕ, suc, pred, _+_, _≤_, _<_}
 use native.Mathlib.Omega.{arith}
-use lib.Dec.{T, not-T, eqb, le→leb, lt→ltb, eqb→eq, lit<}
+use lib.Dec.{T, not-T, eqb, le→leb, lt→ltb, eqb→eq}
 use lib.IntN.{pos}
-use lib.ListN.{length, getD, take, drop, length-append, length-take}
-use lib.Seq.{getD-take, getD-drop}
+use lib.ListN.{length, getD, length-append}
 use Rattle.lists.specs.Lists.{Each, isSome}
 use Rattle.lists.specs.Decide.{implies}
 use Rattle.lists.proofs.Laws.Tests.{of-not, and-left, and-right, of-cond, to-implies, to-allOf, to-below, eq→eqb, neqb→ne, ne→neqb, to-between}
 use Rattle.lists.proofs.Laws.Each.{each-getD}
-use Rattle.lists.proofs.Laws.Parts.{getD-pad}
-use Rattle.meaning.specs.Table.{Output, sum, digit, Group, Table, ruleAt, defaultNumber, longest, expansion}
-use Rattle.meaning.specs.Block.{at, bit, entry, block, blockSize, entrySize}
+use Rattle.meaning.specs.Table.{sum, Group, Table, ruleAt, defaultNumber, longest, expansion}
+use Rattle.meaning.specs.Block.{at, bit, block, blockSize}
 use Rattle.meaning.proofs.Laws.Shape.{Within, ShapedDefault, Shaped}
 use Rattle.meaning.proofs.Laws.Groups.{rule-shaped, default-each, group-rule, group-default, longest-le, longest-small, longest-positive, group-short, expansion-small}
-use Rattle.meaning.proofs.Laws.Exact.{oneAt, one-here, one-elsewhere, block-size, block-anchored, block-count, block-entry}
+use Rattle.meaning.proofs.Laws.Exact.{block-size, block-anchored, block-count}
 use Rattle.automaton.specs.Classes.{starts}
 use Rattle.automaton.specs.States.{State, initial, acceptAtEndOf, acceptOf, states, targetOf}
 use Rattle.automaton.specs.Layout.{wordCount, words, classesFrom}
-use Rattle.automaton.specs.Sound.{classCount, longestWord, ruleCount, stateCount, depthWord, targetWord, blockAt, between, used, oneOnly, soundEntry, soundHeader, soundStarts, soundBlock, soundBlocks, namesRule, soundTarget, soundState, sound}
+use Rattle.automaton.specs.Sound.{classCount, longestWord, ruleCount, stateCount, depthWord, targetWord, blockAt, between, used, soundEntry, soundHeader, soundStarts, soundBlock, soundBlocks, namesRule, soundTarget, soundState, sound}
 use Rattle.automaton.proofs.Laws.Good.{stateAt}
 use Rattle.automaton.proofs.Laws.First.{first-cases, first-none}
 use Rattle.automaton.proofs.Laws.Classes.{classed}
 use Rattle.automaton.proofs.Laws.Levels.{numbered}
-use Rattle.automaton.proofs.Laws.OneOnly.{place-one}
+use Rattle.automaton.proofs.Laws.Entries.{known-entry, known-of, group-entry}
 use Rattle.automaton.proofs.Laws.Blocks.{block-word, default-word}
 use Rattle.automaton.proofs.Laws.Places.{length-words, layout-states, layout-classes, layout-longest, layout-expansion, layout-rules, layout-default, layout-start, layout-depth, layout-acceptAtEnd, layout-accept, layout-target}
 
 bit-small : (b : Bool) → bit b ≤ 1
 bit-small true = omega arith
 bit-small false = omega arith
-
--- words that agree with an output character's entry are a sound entry
-entry-sound : (o : Output) (b : List ℕ) (j k : ℕ) → at b 0 ≡ k → k ≤ 8 → Within k o → ((i : ℕ) → i < entrySize → at b (3 + entrySize * j + i) ≡ at (entry o) i) → T (soundEntry b j)
-unfolding soundEntry entry
-entry-sound (sum c ks) b j k e small within is = rw (rw add-zero at (is 0 (lit< tt))) (to-allOf _ (tt, (tt, tt)))
-entry-sound (digit p shift) b j k e small within is =
-    let n = 5 + entrySize * j in
-    let xs = take k (drop n b) in
-    let sort : at b (3 + entrySize * j) ≡ 1 = rw add-zero at (is 0 (lit< tt)) in
-    let constant : at b (4 + entrySize * j) ≡ shift = ap (at b) (omega arith) ∙ is 1 (lit< tt) in
-    let coefficient : (i : ℕ) → i < k → at xs i ≡ at (oneAt p) i =
-    λ i h.
-    getD-take k (drop n b) i 0 h
-    ∙ getD-drop n b i 0
-    ∙ ap (at b) (omega arith)
-    ∙ is (suc (suc i)) (omega arith)
-    ∙ getD-pad (entrySize - 2) (oneAt p) i (omega arith) in
-    let one : T (oneOnly xs) =
-    place-one xs p (coefficient p (within .0) ∙ one-here p) (λ i h n. coefficient i (omega (arith, length-take k (drop (5 + entrySize * j) b))) ∙ one-elsewhere p i n) in
-    rw (sort, constant, e) (to-allOf _ (tt, (to-allOf _ (within .1, (one, tt)), tt)))
 
 module _ (t : Table) (rest : List ℕ) (shaped : Shaped t) (narrow : length (starts t) ≤ 64) (few : length (states t) ≤ 256) where
   abbrev w : List ℕ
@@ -98,10 +75,10 @@ module _ (t : Table) (rest : List ℕ) (shaped : Shaped t) (narrow : length (sta
     where
       entries : (j : ℕ) → j < length (g .outputs) → T (soundEntry (blockAt w n) j)
       entries j h =
-          let d = sum (pos 0) [] in
-          entry-sound (getD (g .outputs) j d) (blockAt w n) j (g .size) (is 0 (omega arith) ∙ block-size g) small
-          (each-getD (Within (g .size)) (g .outputs) j d within h)
-          (λ i k. is (3 + entrySize * j + i) (omega arith) ∙ block-entry g j i d eight h k)
+          let o = getD (g .outputs) j (sum (pos 0) []) in
+          let size : at (blockAt w n) 0 ≡ g .size = is 0 (omega arith) ∙ block-size g in
+          known-entry (blockAt w n) j
+          (known-of (blockAt w n) j o (rw size (each-getD (Within (g .size)) (g .outputs) j (sum (pos 0) []) within h)) (group-entry g (blockAt w n) small eight within is j h))
 
   rule-sound : (r : ℕ) → r < length (t .rules) → T (soundBlock w r (longestWord w) 1)
   rule-sound r b =

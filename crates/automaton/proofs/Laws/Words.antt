@@ -17,7 +17,7 @@ use Rattle.meaning.specs.Table.{defaultNumber}
 use Rattle.meaning.specs.Block.{at, blockOutput}
 use Rattle.automaton.specs.Classes.{classOf}
 use Rattle.automaton.specs.Layout.{wordCount, classesFrom}
-use Rattle.automaton.specs.Sound.{classCount, longestWord, expansionWord, ruleCount, stateCount, depthWord, acceptAtEndWord, acceptWord, targetWord, blockAt, between, used, soundHeader, soundBlock, soundBlocks, namesRule, soundTarget, soundState, sound}
+use Rattle.automaton.specs.Sound.{classCount, longestWord, expansionWord, ruleCount, stateCount, depthWord, acceptAtEndWord, acceptWord, targetWord, blockAt, between, used, soundEntry, soundHeader, soundBlock, soundBlocks, namesRule, soundTarget, soundState, sound}
 use Rattle.automaton.specs.Automaton.{fromWords}
 use Rattle.automaton.proofs.Laws.Good.{Good, Short}
 use Rattle.automaton.proofs.Laws.Classes.{class-below}
@@ -41,6 +41,7 @@ pub record SoundBlock (w : List ℕ) (g most : ℕ) : Type 0 where
   pub size : at (blockAt w g) 0 ≤ most
   pub anchored : at (blockAt w g) 1 ≤ 1
   pub outputs : at (blockAt w g) 2 ≤ expansionWord w
+  pub entries : (j : ℕ) → j < at (blockAt w g) 2 → T (soundEntry (blockAt w g) j)
 
 -- n is the number, + 1, of a rule whose K is the depth
 pub record Names (w : List ℕ) (depth n : ℕ) : Type 0 where
@@ -76,7 +77,13 @@ module _ (w : List ℕ) where
       let h = holds _ t in
       let size = of-between 1 most (at b 0) (h .0) in
       let second : at b 1 ≤ anchored = leb→le (at b 1) anchored (h .1 .0) in
-      record { positive = size .0; size = size .1; anchored = omega arith; outputs = leb→le (at b 2) (expansionWord w) (h .1 .1 .0) }
+      record {
+        positive = size .0;
+        size = size .1;
+        anchored = omega arith;
+        outputs = leb→le (at b 2) (expansionWord w) (h .1 .1 .0);
+        entries = below (at b 2) (soundEntry b) (h .1 .1 .1 .0);
+      }
 
   follows : (s q : ℕ) → T (allOf (not (used (acceptWord w s)) ∷ soundTarget w s q ∷ [])) → Follows w s q
   unfolding soundTarget

@@ -1,4 +1,4 @@
--- The eleven lines of document 01 marked P hold, from the tables' bytes, by Definition 7 and on both automata.
+-- The eleven lines of document 01 marked P, and two of request [1], hold, from the tables' bytes, by Definition 7 and on both automata.
 -- They are computed.
 use lib.Dec.{T}
 use Rattle.lists.specs.Lists.{all}
