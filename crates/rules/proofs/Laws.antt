@@ -3,7 +3,9 @@ pub mod Represents
 pub mod Taken
 pub mod TakenGroup
 pub mod TakenRange
+pub mod TakenAdded
 pub mod TakenOutput
+pub mod TakenDigit
 pub mod TakenTerm
 pub mod Admitted
 pub mod Flattened

@@ -52,7 +52,7 @@ pub fn expansion(loaded: &[u16], rules: usize, defaulted: bool) -> usize
 }
 
 // The conversion of an input by a loaded table, where each group has characters and the text has room.
-pub fn convert_flat(
+fn convert_flat(
     loaded: &[u16],
     rules: usize,
     defaulted: bool,

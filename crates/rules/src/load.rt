@@ -23,7 +23,7 @@ pub enum Load {
 }
 
 // Every record of the table in turn, "each by 2, 3, 4, 6".
-pub fn load_records(table: &[u8], loaded: &mut [u16]) -> Step
+fn load_records(table: &[u8], loaded: &mut [u16]) -> Step
     requires { ⌜ length (now table) % 8 ≡ 0 ⌝ }
     requires { ⌜ length (now loaded) ≡ loadedSize ⌝ }
     ensures answer { λ r. ⌜ stepOf r ≡ takeRecords (length (now (table .entry)) / 8) (now (table .entry)) started (now (loaded .entry)) .answer ⌝ }

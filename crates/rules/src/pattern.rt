@@ -65,7 +65,7 @@ fn positions_fit(loaded: &[u16], place: usize, size: usize, input: &[u16], from:
 }
 
 // The group fits the input from `at` on.
-pub fn fits_at(loaded: &[u16], group: usize, input: &[u16], at: usize) -> bool
+fn fits_at(loaded: &[u16], group: usize, input: &[u16], at: usize) -> bool
     requires { ⌜ Flat (now loaded) ⌝ }
     requires { ⌜ (group < 33) × (at ≤ length (now input)) ⌝ }
     ensures { λ r. ⌜ r ≡ fits (groupAt (now (loaded .entry)) group) (drop at (now (input .entry))) ⌝ }

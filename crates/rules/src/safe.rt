@@ -42,7 +42,7 @@ fn range_end(loaded: &[u16], place: usize, k: usize, lowest: bool) -> u16
 }
 
 // The lowest or the highest character of a place's ranges, 0 where there is none.
-pub fn place_end(loaded: &[u16], place: usize, lowest: bool) -> u16
+fn place_end(loaded: &[u16], place: usize, lowest: bool) -> u16
     requires { ⌜ (place < 33 * 8) × (length (now loaded) ≡ loadedSize) × (at (now loaded) (slotsFrom + place) ≤ 4) ⌝ }
     ensures { λ r. ⌜ r ≡ cond lowest (lowestOf (rangesAt (now (loaded .entry)) place)) (highestOf (rangesAt (now (loaded .entry)) place)) ⌝ }
 {
@@ -148,7 +148,7 @@ fn constant_of(loaded: &[u16], group: usize, number: usize) -> u32
 }
 
 // The values of an output character are characters at every word that fits. A digit's are.
-pub fn output_safe(loaded: &[u16], group: usize, number: usize) -> bool
+fn output_safe(loaded: &[u16], group: usize, number: usize) -> bool
     requires { ⌜ Flat (now loaded) × (group < 33) × (number < 8) ⌝ }
     ensures { λ r.
         ⌜ r ≡ safeOutputAt (now (loaded .entry)) group number ⌝ }
@@ -165,7 +165,7 @@ pub fn output_safe(loaded: &[u16], group: usize, number: usize) -> bool
     greatest.plus <= greatest.minus + 65535
 }
 
-pub fn group_safe(loaded: &[u16], group: usize) -> bool
+fn group_safe(loaded: &[u16], group: usize) -> bool
     requires { ⌜ Flat (now loaded) × (group < 33) ⌝ }
     ensures { λ r. ⌜ r ≡ safeGroupAt (now (loaded .entry)) group ⌝ }
 {

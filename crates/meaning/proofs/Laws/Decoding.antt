@@ -3,7 +3,7 @@
 use mathlib.Core.Bool.{Bool, true, false}
 use mathlib.Core.List.{List, [], _∷_}
 use mathlib.Core.Option.{Option, none, some}
-use mathlib.Core.Logic.{_≢_}
+use mathlib.Core.Logic.{_≢_, _⊎_, inl, inr}
 use mathlib.Core.Path.{_≡_, refl, sym, ap, subst, _∙_}
 use Prim.Native.Nat.{ℕ, zero, suc, _+_, _*_, _^_, _≤_, _<_}
 use native.Mathlib.Nat.{add-zero, add-suc}
@@ -96,6 +96,20 @@ pub decode-unknown : (kind : ℕ) (rest : List ℕ) → kind ≢ 1 → kind ≢ 
 unfolding decode select allOf
 decode-unknown kind rest h1 h2 h3 h4 h5 h6 =
     simp (ne-eqb kind 1 h1, ne-eqb kind 2 h2, ne-eqb kind 3 h3, ne-eqb kind 4 h4, ne-eqb kind 5 h5, ne-eqb kind 6 h6)
+
+-- a shift, by a choice of four
+abbrev pub FourShifts : ℕ → Type 0
+FourShifts n = (n ≡ 0) ⊎ ((n ≡ 4) ⊎ ((n ≡ 8) ⊎ (n ≡ 12)))
+
+pub shift-known : (n : ℕ) → FourShifts n → isShift n ≡ true
+shift-known n (inl e) = rw e refl
+shift-known n (inr (inl e)) = rw e refl
+shift-known n (inr (inr (inl e))) = rw e refl
+shift-known n (inr (inr (inr e))) = rw e refl
+
+pub shift-unknown : (n : ℕ) → (FourShifts n → ⊥) → isShift n ≡ false
+shift-unknown n h =
+    simp (ne-eqb n 0 (λ e. h (inl e)), ne-eqb n 4 (λ e. h (inr (inl e))), ne-eqb n 8 (λ e. h (inr (inr (inl e)))), ne-eqb n 12 (λ e. h (inr (inr (inr e)))))
 
 -- the fields of a decoded record
 

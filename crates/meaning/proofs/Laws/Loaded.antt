@@ -1,15 +1,16 @@
 -- The array of a loaded table: what stands at a place of each of its parts, and what a number put there changes.
 -- A part begins where the parts before it end.
-use mathlib.Core.List.{List, _++_}
-use mathlib.Core.Path.{_≡_, sym, ap, _∙_}
+use mathlib.Core.List.{List, [], _∷_, _++_}
+use mathlib.Core.Path.{_≡_, refl, sym, ap, _∙_}
 use Prim.Native.Nat.{ℕ, _+_, _*_, _<_}
 use native.Mathlib.Omega.{arith}
 use lib.ListN.{length, take, set, length-append, length-set, List·getD-append}
 use lib.Seq.{getD-append-add, take-append-seam, set-append-left}
+use Rattle.lists.specs.Lists.{Each}
 use Rattle.meaning.specs.Table.{Table}
 use Rattle.meaning.specs.Block.{at, blockSize, blocksSize}
 use Rattle.meaning.specs.bridge.Flat.{slotWords, rangeWords, blockWords, highWords, joinedWords, loadedWords, slotsFrom, rangesFrom, highsFrom, loadedSize, blocksOf}
-use Rattle.meaning.proofs.Laws.Rows.{length-rows, set-past}
+use Rattle.meaning.proofs.Laws.Rows.{length-rows, set-past, stores, shift, stores-within}
 
 -- the parts have their lengths
 pub record Sized (b s r h : List ℕ) : Type 0 where
@@ -85,6 +86,25 @@ module _ {b s r h : List ℕ} (sized : Sized b s r h) (i v : ℕ) where
 
   pub sized-range : Sized b s (set r i v) h
   sized-range = record { blocks = sized .blocks; slots = sized .slots; ranges = length-set r i v ∙ sized .ranges; highs = sized .highs }
+
+  pub sized-high : Sized b s r (set h i v)
+  sized-high = record { blocks = sized .blocks; slots = sized .slots; ranges = sized .ranges; highs = length-set h i v ∙ sized .highs }
+
+-- numbers put into the blocks, and into the upper halves
+pub stores-block : {b s r h : List ℕ} → Sized b s r h → (cs : List (ℕ × ℕ)) → Each (λ c. c .0 < blocksSize) cs →
+    stores (joinedWords b s r h) cs ≡ joinedWords (stores b cs) s r h
+stores-block {b} {s} {r} {h} sized cs inside = stores-within blocksSize b (s ++ (r ++ h)) cs (sized .blocks) inside
+
+pub sized-stores : {b s r h : List ℕ} → Sized b s r h → (cs : List (ℕ × ℕ)) → Sized (stores b cs) s r h
+sized-stores sized [] = sized
+sized-stores sized (c ∷ cs) = sized-stores (sized-block sized (c .0) (c .1)) cs
+
+pub stores-high : {b s r h : List ℕ} → Sized b s r h → (k : ℕ) (cs : List (ℕ × ℕ)) →
+    stores (joinedWords b s r h) (shift (highsFrom + k) cs) ≡ joinedWords b s r (stores h (shift k cs))
+stores-high sized k [] = refl
+stores-high sized k (c ∷ cs) =
+    ap (λ l. stores l (shift (highsFrom + k) cs)) (set-high sized (highsFrom + k + c .0) (k + c .0) (c .1) (omega arith))
+    ∙ stores-high (sized-high sized (k + c .0) (c .1)) k cs
 
 pub joined-same : {b b′ s s′ r r′ h h′ : List ℕ} → b ≡ b′ → s ≡ s′ → r ≡ r′ → h ≡ h′ → joinedWords b s r h ≡ joinedWords b′ s′ r′ h′
 joined-same p q u v = λ i. joinedWords (p i) (q i) (u i) (v i)

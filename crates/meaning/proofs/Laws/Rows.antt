@@ -93,11 +93,16 @@ pub stores-past : (xs ys : List ℕ) (cs : List (ℕ × ℕ)) → stores (xs ++ 
 stores-past xs ys [] = refl
 stores-past xs ys (c ∷ cs) = ap (λ l. stores l (shift (length xs) cs)) (set-past xs ys (c .0) (c .1)) ∙ stores-past xs (set ys (c .0) (c .1)) cs
 
-stores-within : (n : ℕ) (xs ys : List ℕ) (cs : List (ℕ × ℕ)) → length xs ≡ n → Each (λ c. c .0 < n) cs → stores (xs ++ ys) cs ≡ stores xs cs ++ ys
+pub stores-within : (n : ℕ) (xs ys : List ℕ) (cs : List (ℕ × ℕ)) → length xs ≡ n → Each (λ c. c .0 < n) cs → stores (xs ++ ys) cs ≡ stores xs cs ++ ys
 stores-within n xs ys [] e h = refl
 stores-within n xs ys (c ∷ cs) e h =
     ap (λ l. stores l cs) (set-append-left xs ys (c .0) (c .1) (subst (λ m. c .0 < m) (sym e) (h .0)))
     ∙ stores-within n (set xs (c .0) (c .1)) ys cs (length-set xs (c .0) (c .1) ∙ e) (h .1)
+
+-- places below m are below k + m further on
+pub each-shift : (k m n : ℕ) (cs : List (ℕ × ℕ)) → k + m ≤ n → Each (λ c. c .0 < m) cs → Each (λ c. c .0 < n) (shift k cs)
+each-shift k m n [] l h = tt
+each-shift k m n (c ∷ cs) l h = let below : c .0 < m = h .0 in (omega arith, each-shift k m n cs l (h .1))
 
 shift-none : (cs : List (ℕ × ℕ)) → shift 0 cs ≡ cs
 shift-none [] = refl

@@ -2,18 +2,21 @@
 -- Each law is one turn of a loop: a sum by one coefficient, an output by one character, a conversion by one group.
 use mathlib.Core.Bool.{Bool, true, false}
 use mathlib.Core.List.{List, [], _∷_, _++_, append-assoc, append-nil}
+use mathlib.Core.Logic.{_≢_}
 use mathlib.Core.Option.{Option, none, some}
 use mathlib.Core.Path.{_≡_, refl, sym, ap, ap₂, subst, _∙_}
 use Prim.Native.Nat.{ℕ, zero, suc, pred, _+_, _-_, _*_, _%_, _^_, _≤_, _<_}
 use native.Mathlib.Nat.{lt-of-le-of-lt, le-of-lt, mul-le-mul-left, add-zero, zero-add, add-assoc}
 use native.Mathlib.Numerals.{add-one}
 use native.Mathlib.Omega.{arith}
+use borrow.Author.Tests.{eq-eqb, ne-eqb}
 use lib.Dec.{eqb, eqb→eq}
 use lib.ListN.{length, getD, take, drop, set, length-append, length-take, length-drop}
 use lib.Seq.{length-take-le, take-all, take-append-seam, drop-append-add, drop-cons, getD-drop, drop-drop, paste, paste-suc}
 use Rattle.lists.specs.Lists.{tabFrom, orElse}
 use Rattle.lists.proofs.Laws.Tests.{of-cond}
 use Rattle.meaning.specs.Table.{Table, everyCharacter, ruleAt, defaultNumber, group}
+use Rattle.meaning.specs.Value.{nibble, hexDigit}
 use Rattle.meaning.specs.Block.{at, wordSum, valueBy, entryValue, blockOutput, blockSize, entrySize}
 use Rattle.meaning.specs.Meaning.{best, orDefault, choose, Emission, textOf, covered, chosen, convertBy, convertFrom, convert}
 use Rattle.meaning.specs.bridge.Flat.{rangesAt, patternAt, groupAt, tableAt, flatText}
@@ -80,17 +83,27 @@ module _ (blocks : List ℕ) (g : ℕ) where
   group-count = getD-drop (blockSize * g) blocks 2 0
 
   -- by the places of its sort, its constant and its coefficients
-  pub entry-placed : (j : ℕ) (w : List ℕ) → length w ≡ at blocks (blockSize * g) →
-      let from = blockSize * g + 3 + entrySize * j in
-      let coefficients = take (length w) (drop (from + 2) blocks) in
-      entryValue (drop (blockSize * g) blocks) j w
-      ≡ valueBy (at blocks from) (at blocks (from + 1)) coefficients w
-  unfolding entryValue
-  entry-placed j w size =
-      let c : blockSize * g + (3 + entrySize * j) ≡ blockSize * g + 3 + entrySize * j = omega arith in
-      let d : blockSize * g + (4 + entrySize * j) ≡ blockSize * g + 3 + entrySize * j + 1 = omega arith in
-      let e : blockSize * g + (5 + entrySize * j) ≡ blockSize * g + 3 + entrySize * j + 2 = omega arith in
-      rw (getD-drop (blockSize * g) blocks (3 + entrySize * j) 0, c, getD-drop (blockSize * g) blocks (4 + entrySize * j) 0, d, getD-drop (blockSize * g) blocks 0 0, add-zero (blockSize * g), drop-drop (5 + entrySize * j) (blockSize * g) blocks, e, size)
+  module _ (j : ℕ) (w : List ℕ) (size : length w ≡ at blocks (blockSize * g)) where
+    abbrev from : ℕ
+    from = blockSize * g + 3 + entrySize * j
+
+    abbrev coefficients : List ℕ
+    coefficients = take (length w) (drop (from + 2) blocks)
+
+    entry-placed : entryValue (drop (blockSize * g) blocks) j w ≡ valueBy (at blocks from) (at blocks (from + 1)) coefficients w
+    unfolding entryValue
+    entry-placed =
+        let c : blockSize * g + (3 + entrySize * j) ≡ blockSize * g + 3 + entrySize * j = omega arith in
+        let d : blockSize * g + (4 + entrySize * j) ≡ blockSize * g + 3 + entrySize * j + 1 = omega arith in
+        let e : blockSize * g + (5 + entrySize * j) ≡ blockSize * g + 3 + entrySize * j + 2 = omega arith in
+        rw (getD-drop (blockSize * g) blocks (3 + entrySize * j) 0, c, getD-drop (blockSize * g) blocks (4 + entrySize * j) 0, d, getD-drop (blockSize * g) blocks 0 0, add-zero (blockSize * g), drop-drop (5 + entrySize * j) (blockSize * g) blocks, e, size)
+
+    pub entry-sum : (v : ℕ) → at blocks from ≡ 0 → v ≡ wordSum (at blocks (from + 1)) coefficients w → v ≡ entryValue (drop (blockSize * g) blocks) j w
+    entry-sum v sort e = rw (entry-placed, eq-eqb (at blocks from) 0 sort) e
+
+    pub entry-digit : (v : ℕ) → at blocks from ≢ 0 → v ≡ hexDigit (nibble (at blocks (from + 1)) (wordSum 0 coefficients w)) →
+        v ≡ entryValue (drop (blockSize * g) blocks) j w
+    entry-digit v sort e = rw (entry-placed, ne-eqb (at blocks from) 0 sort) e
 
 -- what a log in two parts writes and covers
 pub text-append : (write : ℕ → List ℕ → List ℕ) (a b : List Emission) → textOf write (a ++ b) ≡ textOf write a ++ textOf write b

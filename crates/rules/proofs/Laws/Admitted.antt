@@ -1,5 +1,6 @@
 -- A record of the table check as it is run: refused alike, or taken in with the summary and the array of the table as it then is.
--- The tests are those of the definition; what each kind of record changes is shown in `TakenGroup`, `TakenRange`, `TakenOutput` and `TakenTerm`.
+-- The tests are those of the definition; what each kind of record changes is shown in `TakenGroup`, `TakenRange`, `TakenOutput`,
+-- `TakenDigit` and `TakenTerm`.
 use mathlib.Core.Bool.{Bool, true, false, _&&_, _||_, not}
 use mathlib.Core.List.{List, [], _∷_}
 use mathlib.Core.Option.{some}
@@ -12,7 +13,7 @@ use Rattle.lists.specs.Lists.{Each, lastD}
 use Rattle.lists.specs.Decide.{select}
 use Rattle.meaning.specs.Refusal.{Outcome, refused, accepted}
 use Rattle.meaning.specs.Table.{Range}
-use Rattle.meaning.specs.Record.{Record, rule, range, output, term, default}
+use Rattle.meaning.specs.Record.{Record, rule, range, output, term, default, hexadecimal}
 use Rattle.meaning.specs.Reader.{Reading, latest, latestReach, ranging, unfilled, misplaced, skipping, tooMany, taken, readOne}
 use Rattle.rules.specs.bridge.Summary.{rangesRead, next, admit, loadedBy}
 use Rattle.meaning.specs.bridge.Flat.{loadedWords}
@@ -24,6 +25,7 @@ use Rattle.rules.proofs.Laws.Taken.{Taken}
 use Rattle.rules.proofs.Laws.TakenGroup.{rule-taken, default-taken}
 use Rattle.rules.proofs.Laws.TakenRange.{range-taken}
 use Rattle.rules.proofs.Laws.TakenOutput.{output-taken}
+use Rattle.rules.proofs.Laws.TakenDigit.{digit-taken}
 use Rattle.rules.proofs.Laws.TakenTerm.{term-taken}
 
 -- what the check as run says, beside what the definition says
@@ -92,3 +94,4 @@ admit-right s (range p r) h f =
 admit-right s (output c) h f = alike s (output c) (output-taken s c h f)
 admit-right s (term p a) h f = alike s (term p a) (term-taken s p a h f)
 admit-right s default h f = alike s default (default-taken s h)
+admit-right s (hexadecimal p shift) h f = alike s (hexadecimal p shift) (digit-taken s p shift h f)

@@ -28,7 +28,7 @@ use Rattle.meaning.specs.bridge.Flat.{blockWords, loadedWords, expansionFrom, e
 use Rattle.rules.specs.bridge.Readings.{LoadedBy}
 use Rattle.rules.specs.declared.load.Load.{Load}
 use Rattle.rules.specs.declared.load.Load.the-variants as Load
-use Rattle.meaning.proofs.Laws.Shape.{ShapedDefault, Shaped}
+use Rattle.meaning.proofs.Laws.Shape.{Within, ShapedDefault, Shaped}
 use Rattle.meaning.proofs.Laws.Narrow.{Narrow}
 use Rattle.meaning.proofs.Laws.Groups.{rule-shaped, default-each, group-rule, group-default, some-default, SafeGroup, safe-group}
 use Rattle.meaning.proofs.Laws.Choice.{Fits, fits-room, Chosen, best-chosen}
@@ -178,10 +178,10 @@ module _ (t : Table) (s : Shaped t) where
 
   module _ (safe : SafeTable t) where
     group-writes : (g : Group) (n : ℕ) (w : List ℕ) → group t n ≡ g → ((j : ℕ) → j < blockSize → at (loadedWords t) (blockSize * n + j) ≡ at (block g) j) →
-        g .size ≤ 8 → length (g .outputs) ≤ 8 → length w ≡ g .size → T (fitsWord (g .ranges) w) → SafeGroup g →
+        g .size ≤ 8 → length (g .outputs) ≤ 8 → Each (Within (g .size)) (g .outputs) → length w ≡ g .size → T (fitsWord (g .ranges) w) → SafeGroup g →
         blockOutput (drop (blockSize * n) (loadedWords t)) w ≡ writes t n w
-    group-writes g n w named row small few size takes safe =
-        block-writes g w (drop (blockSize * n) (loadedWords t)) small few size (safe-group g w takes safe) (λ j h. getD-drop (blockSize * n) (loadedWords t) j 0 ∙ row j h)
+    group-writes g n w named row small few within size takes safe =
+        block-writes g w (drop (blockSize * n) (loadedWords t)) small few size within (safe-group g w takes safe) (λ j h. getD-drop (blockSize * n) (loadedWords t) j 0 ∙ row j h)
         ∙ ap (λ a. written a w) (sym named)
 
     chosen-writes : (n : ℕ) (c : ℕ) (rest : List ℕ) → c < 65536 → choose t (c ∷ rest) ≡ some n →
@@ -195,7 +195,7 @@ module _ (t : Table) (s : Shaped t) where
         let named : group t n ≡ g = group-rule t n s h in
         let w = take (g .size) (c ∷ rest) in
         subst (λ k. let w = take k (c ∷ rest) in blockOutput (drop (blockSize * n) (loadedWords t)) w ≡ writes t n w) (sym (ap (λ a. a .size) named))
-        (group-writes g n w named (loaded-rule n h) (shape .small) (shape .outputs) (length-take-le (g .size) (c ∷ rest) (fits-room t n (c ∷ rest) s h f)) (f .match)
+        (group-writes g n w named (loaded-rule n h) (shape .small) (shape .outputs) (shape .reaches) (length-take-le (g .size) (c ∷ rest) (fits-room t n (c ∷ rest) s h f)) (f .match)
         (each-getD SafeGroup (t .rules) n (everyCharacter []) (each-front SafeGroup (t .rules) (optional (t .default)) safe) h)))
         (λ z d.
         let o = some-default (t .default) d in
@@ -205,7 +205,7 @@ module _ (t : Table) (s : Shaped t) where
         let named : group t defaultNumber ≡ g = group-default t g (o .1) in
         subst (λ m. let w = take (group t m .size) (c ∷ rest) in blockOutput (drop (blockSize * m) (loadedWords t)) w ≡ writes t m w) (sym z)
         (subst (λ k. let w = take k (c ∷ rest) in blockOutput (drop (blockSize * 32) (loadedWords t)) w ≡ writes t 32 w) (sym (ap (λ a. a .size) named ∙ one))
-        (group-writes g 32 (c ∷ []) named (loaded-default g (o .1)) (omega arith) (shape .outputs) (sym one) (every-fits g c shape small)
+        (group-writes g 32 (c ∷ []) named (loaded-default g (o .1)) (omega arith) (shape .outputs) (subst (λ k. Each (Within k) (g .outputs)) (sym one) (shape .reaches)) (sym one) (every-fits g c shape small)
         (default-each SafeGroup t g (o .1) (each-back SafeGroup (t .rules) (optional (t .default)) safe)))))
 
     text-from : (skip : ℕ) (rest : List ℕ) → Characters rest → flatText (loadedWords t) (convertFrom t skip rest .log) ≡ textOf (writes t) (convertFrom t skip rest .log)

@@ -14,7 +14,7 @@ use Rattle.lists.specs.Lists.{Each, isSome, pad}
 use Rattle.lists.specs.Decide.{select}
 use Rattle.lists.proofs.Laws.Each.{each-front, each-back}
 use Rattle.meaning.specs.Refusal.{Outcome, refused, accepted, andThen}
-use Rattle.meaning.specs.Record.{Record, rule, range, output, term, default, decode}
+use Rattle.meaning.specs.Record.{Record, rule, range, output, term, default, hexadecimal, decode}
 use Rattle.rules.specs.bridge.Summary.{started, gap, admitted, ifTaken, Taken, takeOn, takeRecords, Fitting}
 use Rattle.rules.specs.declared.reader.Reader.{Reader}
 use Rattle.rules.specs.declared.load.Load.{Load}
@@ -54,6 +54,7 @@ small (range p c) f = tt
 small (output c) f = tt
 small (term p a) f = tt
 small default f = tt
+small (hexadecimal p shift) f = tt
 
 fitting-on : (r r′ : Reader) (b : List ℕ) (x : Option Record) → Each (λ c. c < 256) b → decode b ≡ x → Fitting r → admitted r x ≡ accepted r′ → Fitting r′
 fitting-on r r′ b none e d f p = absurd (accepted-not r′ 2 (sym p))

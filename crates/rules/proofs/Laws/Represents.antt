@@ -18,6 +18,7 @@ use Rattle.rules.specs.bridge.Summary.{Fitting}
 use Rattle.rules.specs.declared.reader.Reader.{Reader}
 use Rattle.rules.specs.declared.reader.Last.{Last}
 use Rattle.meaning.proofs.Laws.Reading.{Begun, Plain, Ended, KeptReading, top, atLast-length, last-each, unread-kept}
+use Rattle.meaning.proofs.Laws.Shape.{Within, within-reach, IsSum}
 use Rattle.meaning.proofs.Laws.Narrow.{NarrowGroup, Narrow}
 use Rattle.meaning.proofs.Laws.Rows.{Grouped}
 use Rattle.meaning.proofs.Laws.Stored.{last-atLast}
@@ -49,7 +50,8 @@ pub record Read (s : Reading) : Type 0 where
   pub kept : KeptReading s
   pub narrow : Narrow (s .table)
   pub grouped : T (not (eqb (s .kind) 0)) → Grouped (s .table .rules) (s .table .default)
-  pub writing : T (eqb (s .kind) 3 || eqb (s .kind) 4) → 1 ≤ length (latestOf (s .table) .outputs)
+  pub writing : T (eqb (s .kind) 3 || eqb (s .kind) 4) →
+      (1 ≤ length (latestOf (s .table) .outputs)) × IsSum (lastD (sum (pos 0) []) (latestOf (s .table) .outputs))
 
 pub unread-read : Read unread
 unfolding unread
@@ -121,7 +123,8 @@ read-fitting s h =
     let b = latest-begun s h in
     let small : g .size ≤ 8 = b .small in
     let places : length (g .ranges) ≤ g .size = b .places in
-    let reaches : reach (lastD (sum (pos 0) []) (g .outputs)) ≤ g .size = each-last (λ o. reach o ≤ g .size) (sum (pos 0) []) (g .outputs) (omega arith) (b .outputs .1) in
+    let last = lastD (sum (pos 0) []) (g .outputs) in
+    let reaches : reach last ≤ g .size = within-reach (g .size) last (each-last (Within (g .size)) (sum (pos 0) []) (g .outputs) (omega arith) (b .outputs .1)) in
     record {
       rules = h .kept .few;
       last = record {
@@ -133,7 +136,7 @@ read-fitting s h =
       };
       ranging = λ t. let e = without s h t in (there (s .table .rules) (s .table .default) (h .grouped (kind-there (s .kind) 1 2 t tt tt)) e, e);
       grouped = λ t. there (s .table .rules) (s .table .default) (h .grouped t);
-      writing = h .writing;
+      writing = λ t. h .writing t .0;
     }
   where
     there : (rs : List Group) (d : Option Group) → Grouped rs d → isSome d ≡ false → 1 ≤ length rs

@@ -8,12 +8,12 @@ use mathlib.Core.Path.{_≡_, refl, sym, ap, subst}
 use Prim.Native.Nat.{ℕ, pred, _+_, _≤_, _<_}
 use native.Mathlib.Omega.{arith}
 use borrow.Author.Tests.{eqb-false, eq-eqb}
-use lib.Dec.{T, eqb, leb, ltb, nleb→lt, nltb→le, eqb→eq}
+use lib.Dec.{T, T-not, eqb, leb, ltb, nleb→lt, nltb→le, eqb→eq}
 use lib.ListN.{length, length-set}
 use Rattle.lists.proofs.Laws.Tests.{of-not, not-not, or-none, or-cases, of-cond, by-cases, neqb→ne}
 use Rattle.meaning.specs.Refusal.{Outcome, refused, accepted}
-use Rattle.meaning.specs.Record.{Record, rule, range, output, term, default}
-use Rattle.rules.specs.bridge.Summary.{everyLast, started, rangesRead, admit, groupNumber, slotNumber, loadedBy, afterwards, ifTaken, FittingLast, Fitting}
+use Rattle.meaning.specs.Record.{Record, rule, range, output, term, default, hexadecimal}
+use Rattle.rules.specs.bridge.Summary.{everyLast, started, rangesRead, admit, groupNumber, slotNumber, summedTo, loadedBy, afterwards, ifTaken, FittingLast, Fitting}
 use Rattle.rules.specs.declared.reader.Reader.{Reader}
 
 pub fails : (b : Bool) → b ≡ false → T (not b)
@@ -34,6 +34,7 @@ loadedBy-length r (rule k a) l = simp length-set
 loadedBy-length r (range p c) l = simp length-set
 loadedBy-length r (output c) l = simp length-set
 loadedBy-length r (term p a) l = simp length-set
+loadedBy-length r (hexadecimal p shift) l = simp length-set
 loadedBy-length r default l = simp length-set
 
 pub ifTaken-length : (r : Reader) (x : Option Record) (l : List ℕ) → length (ifTaken r x l) ≡ length l
@@ -102,6 +103,19 @@ term-comes r p h =
       inside = nleb→lt (r .last .size) p (u .1);
     }
 
+-- a digit that may come: of a group that has begun, at one of its positions
+
+abbrev pub digitMisplaced : Reader → ℕ → Bool
+digitMisplaced r p = eqb (r .kind) 0 || leb (r .last .size) p
+
+pub record DigitComes (r : Reader) (p : ℕ) : Type 0 where
+  pub begun : T (not (eqb (r .kind) 0))
+  pub inside : p < r .last .size
+
+pub digit-comes : (r : Reader) (p : ℕ) → T (not (digitMisplaced r p)) → DigitComes r p
+digit-comes r p h =
+    let u = or-none (eqb (r .kind) 0) (leb (r .last .size) p) h in record { begun = u .0; inside = nleb→lt (r .last .size) p (u .1) }
+
 pub group-below : (r : Reader) → r .rules ≤ 32 → groupNumber r < 33
 group-below r n = of-cond (λ k. k < 33) (r .defaulted) 32 (pred (r .rules)) (λ _. omega arith) (λ _. omega arith)
 
@@ -113,6 +127,7 @@ SmallRecord (range p c) = Unit {0}
 SmallRecord (output c) = Unit {0}
 SmallRecord (term p a) = Unit {0}
 SmallRecord default = Unit {0}
+SmallRecord (hexadecimal p shift) = Unit {0}
 
 every-fitting : FittingLast everyLast
 every-fitting = record { size = omega arith; positions = omega arith; slots = omega arith; outputs = omega arith; reach = omega arith }
@@ -125,6 +140,19 @@ started-fitting =
       ranging = λ t. absurd t;
       grouped = λ t. absurd t;
       writing = λ t. absurd t;
+    }
+
+-- one more output character, of a kind that is no range's
+added-fitting : (r : Reader) (kind : ℕ) → Fitting r → T (not (eqb (r .kind) 0)) → r .last .outputs ≢ 8 → T (not (eqb kind 1 || eqb kind 2)) →
+    Fitting (summedTo r kind (r .last .outputs + 1) 0)
+added-fitting r kind f begun other past =
+    let few : r .last .outputs ≤ 8 = f .last .outputs in
+    record {
+      rules = f .rules;
+      last = record { size = f .last .size; positions = f .last .positions; slots = f .last .slots; outputs = omega arith; reach = omega arith };
+      ranging = λ t. absurd (T-not (eqb kind 1 || eqb kind 2) past t);
+      grouped = λ _. f .grouped begun;
+      writing = λ _. omega arith;
     }
 
 abbrev Fit : Outcome Reader → Type 0
@@ -176,25 +204,11 @@ admit-fit r (range p c) f s =
         ),
       ),
     )
-admit-fit r (output c) f s =
+admit-fit r (output c) f s = by-cases Fit _ _ (λ _. tt, λ d. (λ _. tt, λ g. (λ _. tt, λ n. added-fitting r 3 f d (neqb→ne (r .last .outputs) 8 n) tt)))
+admit-fit r (hexadecimal p shift) f s =
     by-cases Fit _ _ (
       λ _. tt,
-      λ d. (
-        λ _. tt,
-        λ g. (
-          λ _. tt,
-          λ n.
-              let few : r .last .outputs ≤ 8 = f .last .outputs in
-              let other : r .last .outputs ≢ 8 = neqb→ne (r .last .outputs) 8 n in
-              record {
-                rules = f .rules;
-                last = record { size = f .last .size; positions = f .last .positions; slots = f .last .slots; outputs = omega arith; reach = omega arith };
-                ranging = λ t. absurd t;
-                grouped = λ _. f .grouped d;
-                writing = λ _. omega arith;
-              },
-        ),
-      ),
+      λ d. (λ _. tt, λ g. (λ _. tt, λ n. added-fitting r 6 f (digit-comes r p d .begun) (neqb→ne (r .last .outputs) 8 n) tt)),
     )
 admit-fit r (term p a) f s =
     by-cases Fit _ _ (

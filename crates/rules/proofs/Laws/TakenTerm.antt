@@ -1,5 +1,5 @@
 -- A term, taken in by the check as it is run.
--- The last entry gets one more coefficient, which changes its row as `Stored` shows.
+-- The last entry is a sum's and gets one more coefficient, which changes its row as `Stored` shows.
 use mathlib.Core.Bool.{_||_, not}
 use mathlib.Core.List.{[], _∷_, _++_}
 use mathlib.Core.Path.{_≡_, refl, sym, ap, ap₂, subst, _∙_}
@@ -11,25 +11,27 @@ use lib.ListN.{length, set, replicate, length-append, length-replicate}
 use Rattle.lists.specs.Lists.{Each, pad, atLast, lastD, isSome}
 use Rattle.lists.proofs.Laws.Tests.{not-not, or-none}
 use Rattle.lists.proofs.Laws.Each.{each-append, each-atLast}
-use Rattle.meaning.specs.Table.{Output, sum}
+use Rattle.meaning.specs.Table.{Output, sum, digit}
 use Rattle.meaning.specs.Record.{term}
 use Rattle.meaning.specs.Reader.{signed, Reading, latest, reach, latestReach, misplaced, skipping, tooMany, addTerm, changeOutputs, taken}
-use Rattle.meaning.specs.Block.{word, block, blockSize, entrySize}
+use Rattle.meaning.specs.Block.{word, blockSize, entrySize}
 use Rattle.rules.specs.bridge.Summary.{summedTo, next, loadedBy}
-use Rattle.meaning.specs.bridge.Flat.{slotWords, rangeWords, blockWords, highWords, loadedWords}
+use Rattle.meaning.specs.bridge.Flat.{loadedWords}
+use Rattle.meaning.proofs.Laws.Shape.{IsSum}
+use Rattle.meaning.proofs.Laws.Appended.{term-sum}
 use Rattle.meaning.proofs.Laws.Reading.{taken-kept, atLast-length}
 use Rattle.meaning.proofs.Laws.Narrow.{Bits, NarrowOutput}
 use Rattle.meaning.proofs.Laws.Numbers.{word-signed}
-use Rattle.meaning.proofs.Laws.Rows.{Grouped, numberOf, rows-latest}
-use Rattle.meaning.proofs.Laws.Loaded.{table-sized, set-block, joined-same}
-use Rattle.meaning.proofs.Laws.Stored.{slotRow, rangeRow, highRow, last-atLast, block-term, highRow-term}
+use Rattle.meaning.proofs.Laws.Rows.{Grouped, numberOf}
+use Rattle.meaning.proofs.Laws.Stored.{last-atLast, block-term, highRow-term}
 use Rattle.rules.proofs.Laws.Represents.{summaryOf, latestOf, summary, Read, latest-begun, kind-there, latest-changed, grouped-changed, summary-changed, narrow-changed}
 use Rattle.meaning.proofs.Laws.Decoding.{FittingRecord}
-use Rattle.rules.proofs.Laws.Stepping.{group-below}
 use Rattle.rules.proofs.Laws.Taken.{Taken}
+use Rattle.rules.proofs.Laws.TakenAdded.{outputs-stored}
 
-term-reach : (p a : ℕ) (o : Output) → reach o ≤ p → reach (addTerm p (signed 16 a) o) ≡ p + 1
-term-reach p a (sum c ks) l = rw (length-append, length-append, length-replicate) (omega arith)
+term-reach : (p a : ℕ) (o : Output) → IsSum o → reach o ≤ p → reach (addTerm p (signed 16 a) o) ≡ p + 1
+term-reach p a (sum c ks) i l = rw (length-append, length-append, length-replicate) (omega arith)
+term-reach p a (digit q shift) i l = absurd i
 
 -- no coefficient for the positions between
 bits-none : Bits 16 (pos 0)
@@ -47,6 +49,7 @@ term-narrow p a (sum c ks) f h = (
       (each-append (Bits 16) ks (replicate (p - length ks) (pos 0)) (h .1) (each-replicate (Bits 16) (p - length ks) (pos 0) bits-none))
       (record { number = a; below = f; same = refl }, tt),
 )
+term-narrow p a (digit q shift) f h = h
 
 term-tests : (s : Reading) (p a : ℕ) → T (not (misplaced s (term p a))) →
     T (eqb (s .kind) 3 || eqb (s .kind) 4) × (p < latestOf (s .table) .size) × (reach (lastD (sum (pos 0) []) (latestOf (s .table) .outputs)) ≤ p)
@@ -60,42 +63,37 @@ term-tests s p a m =
     (not-not kinds (u .0), nleb→lt (g .size) p (u .1), nltb→le p last (t .1))
 
 module _ (s : Reading) (p a : ℕ) (h : Read s) where
-  term-summary : Grouped (s .table .rules) (s .table .default) → 1 ≤ length (latestOf (s .table) .outputs) →
-      reach (lastD (sum (pos 0) []) (latestOf (s .table) .outputs)) ≤ p → next (summary s) (term p a) ≡ summary (taken s (term p a))
+  -- the last output character, which is a sum
+  abbrev last : Output
+  last = lastD (sum (pos 0) []) (latestOf (s .table) .outputs)
+
+  term-summary : Grouped (s .table .rules) (s .table .default) → 1 ≤ length (latestOf (s .table) .outputs) → IsSum last → reach last ≤ p →
+      next (summary s) (term p a) ≡ summary (taken s (term p a))
   unfolding taken
-  term-summary grouped some-output before =
+  term-summary grouped some-output is-sum before =
       let g = latestOf (s .table) in
       let os = g .outputs in
       let z = signed 16 a in
       let F = changeOutputs (atLast (addTerm p z)) in
       let outputs : length os ≡ length (atLast (addTerm p z) os) = sym (atLast-length (addTerm p z) os) in
       let reached : p + 1 ≡ reach (lastD (sum (pos 0) []) (atLast (addTerm p z) os)) =
-      sym (ap reach (last-atLast (addTerm p z) (sum (pos 0) []) os some-output) ∙ term-reach p a (lastD (sum (pos 0) []) os) before) in
+      sym (ap reach (last-atLast (addTerm p z) (sum (pos 0) []) os some-output) ∙ term-reach p a last is-sum before) in
       let same : next (summary s) (term p a) ≡ summaryOf 4 (length (s .table .rules)) (isSome (s .table .default)) (F g) =
       ap₂ (summedTo (summary s) 4) outputs reached in
       same ∙ sym (summary-changed F 4 (s .table .rules) (s .table .default) grouped)
 
   term-loaded : Grouped (s .table .rules) (s .table .default) → p < 8 → 1 ≤ length (latestOf (s .table) .outputs) → length (latestOf (s .table) .outputs) ≤ 8 →
-      reach (lastD (sum (pos 0) []) (latestOf (s .table) .outputs)) ≤ p → a < 65536 →
-      loadedBy (summary s) (term p a) (loadedWords (s .table)) ≡ loadedWords (taken s (term p a) .table)
-  unfolding taken loadedWords slotWords rangeWords blockWords highWords
-  term-loaded grouped inside some-output most before fits =
+      IsSum last → reach last ≤ p → a < 65536 → loadedBy (summary s) (term p a) (loadedWords (s .table)) ≡ loadedWords (taken s (term p a) .table)
+  unfolding taken
+  term-loaded grouped inside some-output most is-sum before fits =
       let g = latestOf (s .table) in
-      let rs = s .table .rules in
-      let d = s .table .default in
       let z = signed 16 a in
-      let F = changeOutputs (atLast (addTerm p z)) in
       let o = length (g .outputs) in
-      let n = numberOf rs d in
-      let below : n < 33 = group-below (summary s) (h .kept .few) in
-      let place : blockSize * n + 4 + entrySize * pred o + p ≡ blockSize * n + (4 + entrySize * pred o + p) = omega arith in
-      set-block (table-sized (s .table)) (blockSize * n + 4 + entrySize * pred o + p) a (omega arith)
-      ∙ joined-same
-      (ap₂ (λ i v. set (blockWords (s .table)) i v) place (sym (word-signed a fits))
-      ∙ sym (rows-latest blockSize block ((4 + entrySize * pred o + p, word z) ∷ []) (omega arith, tt) rs d F (h .kept .few) grouped (block-term p z g inside some-output most before)))
-      (sym (rows-latest 8 slotRow [] tt rs d F (h .kept .few) grouped refl))
-      (sym (rows-latest 64 rangeRow [] tt rs d F (h .kept .few) grouped refl))
-      (sym (rows-latest 8 highRow [] tt rs d F (h .kept .few) grouped (ap (pad 8) (highRow-term p z (g .outputs)))))
+      let n = numberOf (s .table .rules) (s .table .default) in
+      let place : blockSize * n + 5 + entrySize * pred o + p ≡ blockSize * n + (5 + entrySize * pred o + p) = omega arith in
+      ap₂ (set (loadedWords (s .table))) place (sym (word-signed a fits))
+      ∙ outputs-stored s h grouped (atLast (addTerm p z)) ((5 + entrySize * pred o + p, word z) ∷ []) [] (omega arith, tt) tt
+      (block-term p z g inside some-output most is-sum before) (ap (pad 8) (highRow-term p z (g .outputs)))
 
   pub term-taken : FittingRecord (term p a) → T (not (misplaced s (term p a))) → T (not (skipping s (term p a))) → T (not (tooMany s (term p a))) → Taken s (term p a)
   unfolding taken
@@ -106,13 +104,19 @@ module _ (s : Reading) (p a : ℕ) (h : Read s) where
       let F = changeOutputs (atLast (addTerm p (signed 16 a))) in
       let t = term-tests s p a m in
       let grouped = h .grouped (kind-there (s .kind) 3 4 (t .0) tt tt) in
-      let some-output : 1 ≤ length (g .outputs) = h .writing (t .0) in (
-        term-summary grouped some-output (t .2),
-        term-loaded grouped (omega arith) some-output (latest-begun s h .outputs .0) (t .2) (f .2),
+      let some-output : 1 ≤ length (g .outputs) = h .writing (t .0) .0 in
+      let is-sum : IsSum last = h .writing (t .0) .1 in
+      let after = sym (latest-changed F rs d grouped) in (
+        term-summary grouped some-output is-sum (t .2),
+        term-loaded grouped (omega arith) some-output (latest-begun s h .outputs .0) is-sum (t .2) (f .2),
         record {
           kept = taken-kept s (term p a) tt m n o (h .kept);
           narrow = narrow-changed F rs d (λ b. record { few = b .few; narrow = each-atLast NarrowOutput (addTerm p (signed 16 a)) (g .outputs) (λ q. term-narrow p a q (f .2)) (b .narrow) }) (h .narrow);
           grouped = λ _. grouped-changed F rs d grouped;
-          writing = λ _. subst (λ q. 1 ≤ length (q .outputs)) (sym (latest-changed F rs d grouped)) (rw atLast-length some-output);
+          writing = λ _. (
+            subst (λ q. 1 ≤ length (q .outputs)) after (rw atLast-length some-output),
+            subst (λ q. IsSum (lastD (sum (pos 0) []) (q .outputs))) after
+                (subst IsSum (sym (last-atLast (addTerm p (signed 16 a)) (sum (pos 0) []) (g .outputs) some-output)) (term-sum p (signed 16 a) last is-sum)),
+          );
         },
       )

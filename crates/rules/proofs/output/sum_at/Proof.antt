@@ -11,26 +11,17 @@ use Rattle.rules.proofs.output.sum_at.Statement.{statement}
 use Rattle.rules.proofs.output.sum_at.Tie as tie
 
 abbrev Inv-loop : tie.InvT-loop
-Inv-loop blocks from word sum₀ i₀ sum i =
-    (i ≤ length word) × (sumLeft blocks from word 0 (at blocks from) ≡ sumLeft blocks from word i sum)
+Inv-loop constant blocks from word sum₀ i₀ sum i =
+    (i ≤ length word) × (sumLeft blocks from word 0 constant ≡ sumLeft blocks from word i sum)
 
 abbrev μ-loop : tie.MeasureT-loop
-μ-loop blocks from word sum₀ i₀ sum i = length word - i
-
-mul-sum : tie.Need-mul-sum Inv-loop μ-loop
-mul-sum c = search needs
-
-shared-slice-read-sum : tie.Need-shared-slice-read-sum Inv-loop μ-loop
-shared-slice-read-sum c = search needs
+μ-loop constant blocks from word sum₀ i₀ sum i = length word - i
 
 loop-holds : tie.Need-loop-holds Inv-loop μ-loop
 loop-holds c = (search needs, refl)
 
 add-wrapping-product : tie.Need-add-wrapping-product Inv-loop μ-loop
 add-wrapping-product c = search needs
-
-add-wrapping-product-2 : tie.Need-add-wrapping-product-2 Inv-loop μ-loop
-add-wrapping-product-2 c = search needs
 
 mul-wrapping-product : tie.Need-mul-wrapping-product Inv-loop μ-loop
 mul-wrapping-product c = search needs
@@ -60,13 +51,13 @@ loop-less c = search needs
 loop-again : tie.Need-loop-again Inv-loop μ-loop
 loop-again c =
     let head = c .before .before .before .before .before in
-    let start = head .before .before .before .before in
+    let start = head .before .before .before in
     let a = start .args in
     let b = a .blocks .now in
     let w = a .word .now in
     let i = head .loop .i in
     let sum = head .loop .sum in
-    let x = at b (a .from + 1 + i) in
+    let x = at b (a .from + i) in
     let e : c .wrapping-add-u16 .result ≡ (sum + x * at w i) % 65536 =
     c .wrapping-add-u16 .ensures ∙ ap (λ z. (sum + z) % 65536) (c .before .wrapping-product .ensures) ∙ add-mod-mod sum (x * at w i) 65536 in (
       search needs,
@@ -75,13 +66,13 @@ loop-again c =
 
 returns : tie.Need-returns Inv-loop μ-loop
 returns c =
-    let a = c .before .before .before .before .before .args in
+    let a = c .before .before .before .before .args in
     let b = a .blocks .now in
     let w = a .word .now in
     let i = c .before .loop .i in
     let e : i ≡ length w = search needs in
     sym
-    (sum-starts b (a .from) w (at b (a .from))
+    (sum-starts b (a .from) w (a .constant)
     ∙ c .before .loop .inv .1
     ∙ ap (λ n. sumLeft b (a .from) w n (c .before .loop .sum)) e
     ∙ sum-ends b (a .from) w (c .before .loop .sum))
@@ -92,11 +83,8 @@ sum-at-spec =
     (tie.spec
     Inv-loop
     μ-loop
-    mul-sum
-    shared-slice-read-sum
     loop-holds
     add-wrapping-product
-    add-wrapping-product-2
     mul-wrapping-product
     shared-slice-read-wrapping-product
     mul-wrapping-product-2

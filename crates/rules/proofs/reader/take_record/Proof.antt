@@ -35,6 +35,12 @@ enum-told c = search needs
 on-default-requires : tie.Need-on-default-requires
 on-default-requires c κs = search needs
 
+enum-known-record-5 : tie.Need-enum-known-record-5
+enum-known-record-5 c = search needs
+
+on-hexadecimal-requires : tie.Need-on-hexadecimal-requires
+on-hexadecimal-requires c κs = search needs
+
 enum-told-2 : tie.Need-enum-told-2
 enum-told-2 c = search needs
 
@@ -68,8 +74,14 @@ same-length-5 c = search needs
 returns-5 : tie.Need-returns-5
 returns-5 c = simp (c .before .before .before .before .enum-told .given .1) (c .before .before .on-default .ensures)
 
+same-length-6 : tie.Need-same-length-6
+same-length-6 c = search needs
+
 returns-6 : tie.Need-returns-6
-returns-6 c = simp (c .enum-told2 .given .1) (refl, refl)
+returns-6 c = simp (c .before .before .before .before .before .record5 .given .1) (c .before .before .on-hexadecimal .ensures)
+
+returns-7 : tie.Need-returns-7
+returns-7 c = simp (c .enum-told2 .given .1) (refl, refl)
 
 pub take-record-spec : {M : Type 1} → statement M
 take-record-spec =
@@ -85,6 +97,8 @@ take-record-spec =
     on-term-requires
     enum-told
     on-default-requires
+    enum-known-record-5
+    on-hexadecimal-requires
     enum-told-2
     same-length
     returns
@@ -96,4 +110,6 @@ take-record-spec =
     returns-4
     same-length-5
     returns-5
-    returns-6)
+    same-length-6
+    returns-6
+    returns-7)

@@ -26,9 +26,14 @@ returns-5 : tie.Need-returns-5
 returns-5 c = c .default-record .ensures ∙ sym (decode-at _ _ _ (entry (c .before .before) .pre) (c .before .match .keys5))
 
 returns-6 : tie.Need-returns-6
-returns-6 c =
+returns-6 c = c .hexadecimal-record .ensures ∙ sym (decode-at _ _ _ (entry (c .before .before) .pre) (c .before .match .keys6))
+
+returns-7 : tie.Need-returns-7
+returns-7 c =
     let n = c .match .rest in
-    sym (decode-at _ _ _ (entry (c .before) .pre) refl ∙ decode-unknown _ _ (n .0 .0 .0 .0 .1) (n .0 .0 .0 .1) (n .0 .0 .1) (n .0 .1) (n .1))
+    sym
+    (decode-at _ _ _ (entry (c .before) .pre) refl
+    ∙ decode-unknown _ _ (n .0 .0 .0 .0 .0 .1) (n .0 .0 .0 .0 .1) (n .0 .0 .0 .1) (n .0 .0 .1) (n .0 .1) (n .1))
 
 pub record-at-spec : {M : Type 1} → statement M
 record-at-spec =
@@ -37,5 +42,5 @@ record-at-spec =
     (λ c. search needs) (λ c. search needs) (λ c. search needs) (λ c. search needs) (λ c. search needs) (λ c. search needs)
     (λ c. search needs) (λ c. search needs) (λ c. search needs) (λ c. search needs) (λ c. search needs) (λ c. search needs)
     (λ c. search needs) (λ c. search needs) (λ c. search needs) (λ c κs. search needs) (λ c κs. search needs)
-    (λ c κs. search needs) (λ c κs. search needs) (λ c κs. search needs) returns returns-2 returns-3 returns-4 returns-5
-    returns-6)
+    (λ c κs. search needs) (λ c κs. search needs) (λ c κs. search needs) (λ c κs. search needs) returns returns-2 returns-3
+    returns-4 returns-5 returns-6 returns-7)

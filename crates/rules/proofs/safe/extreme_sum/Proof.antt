@@ -90,9 +90,9 @@ loop-again c =
     let a = s .args in
     let here = c .before .before .before .before .loop in
     let turn = c .before .before .before .loop-test .taken in
-    let fit : blockSize * a .group + 4 + entrySize * a .number + at (now (a .loaded)) (blockSize * a .group) ≤ length (now (a .loaded)) = omega (arith, size s, s .pre .0 .long) in
+    let fit : blockSize * a .group + 5 + entrySize * a .number + at (now (a .loaded)) (blockSize * a .group) ≤ length (now (a .loaded)) = omega (arith, size s, s .pre .0 .long) in
     let step = sum-before (a .least) (now (a .loaded)) (a .group) (a .number) (here .p) (omega (arith, turn)) (here .inv .0) fit in
-    let coefficient = signed 16 (at (now (a .loaded)) (blockSize * a .group + 4 + entrySize * a .number + (here .p - 1))) in
+    let coefficient = signed 16 (at (now (a .loaded)) (blockSize * a .group + 5 + entrySize * a .number + (here .p - 1))) in
     let sum = c .with-product .ensures .0 ∙ ap₂ (λ x y. coefficient *ℤ pos x +ℤ y) (c .before .end-of .ensures) (here .inv .3) ∙ sym step in
     let more = c .with-product .ensures .1 in
     (omega (arith, here .inv .0), omega (arith, turn, here .inv .1, more .0), omega (arith, turn, here .inv .2, more .1), sum)

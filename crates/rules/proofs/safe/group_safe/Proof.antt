@@ -1,24 +1,19 @@
 -- `group_safe` meets its contract: the loop keeps that each output character before has passed.
 -- The measure is the number of the output characters left.
 use mathlib.Core.Bool.{Bool, true}
-use mathlib.Core.List.{List}
 use mathlib.Core.Path.{_≡_, sym, ap, _∙_}
 use Prim.Native.Nat.{ℕ, _+_, _*_, _-_, _≤_}
 use native.Mathlib.Omega.{arith}
 use denote.Ref.{now}
 use Rattle.lists.specs.Decide.{forBelow}
 use Rattle.meaning.specs.Block.{at, blockSize}
-use Rattle.meaning.specs.Value.{safeOutput}
-use Rattle.meaning.specs.bridge.Flat.{patternAt, outputAt, safeGroupAt}
+use Rattle.meaning.specs.bridge.Flat.{safeOutputAt, safeGroupAt}
 use Rattle.meaning.proofs.Laws.Extremes.{none-below, below-again, below-fails}
 use Rattle.rules.proofs.safe.group_safe.Statement.{statement}
 use Rattle.rules.proofs.safe.group_safe.Tie as tie
 
-abbrev test : List ℕ → ℕ → ℕ → Bool
-test loaded group j = safeOutput (patternAt loaded group (at loaded (blockSize * group))) (outputAt loaded group j)
-
 abbrev Inv-loop : tie.InvT-loop
-Inv-loop loaded group outputs number₀ number = (number ≤ outputs) × (forBelow number (test loaded group) ≡ true)
+Inv-loop loaded group outputs number₀ number = (number ≤ outputs) × (forBelow number (safeOutputAt loaded group) ≡ true)
 
 abbrev μ-loop : tie.MeasureT-loop
 μ-loop loaded group outputs number₀ number = outputs - number
@@ -28,7 +23,7 @@ few s = s .pre .0 .outputs (s .args .group) (s .pre .1)
 
 -- the test of one output character, by the arguments
 abbrev tested : tie.Start Inv-loop μ-loop → ℕ → Bool
-tested s = let a = s .args in test (now (a .loaded)) (a .group)
+tested s = let a = s .args in safeOutputAt (now (a .loaded)) (a .group)
 
 mul-outputs : tie.Need-mul-outputs Inv-loop μ-loop
 mul-outputs c = omega arith
