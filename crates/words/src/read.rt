@@ -5,10 +5,10 @@ use crate::numbers::StateNo;
 ghost use mathlib.Core.Path.{_≡_};
 ghost use mathlib.Core.Bool.{_&&_};
 ghost use mathlib.Core.List.{_++_};
-ghost use Prim.Native.Nat.{_+_, _*_, _≤_, _<_};
+ghost use Prim.Native.Nat.{_+_, _≤_, _<_};
 ghost use lib.Dec.{T, eqb};
 ghost use lib.ListN.{length, take, drop};
-ghost use Rattle.meaning.specs.Block.{at, entryValue, blockOutput, blockSize, entrySize};
+ghost use Rattle.meaning.specs.Block.{at, entryValue, blockOutput, blockSize};
 ghost use Rattle.automaton.specs.Classes.{classOf};
 ghost use Rattle.automaton.specs.Layout.{wordCount, classesFrom};
 ghost use Rattle.automaton.specs.Sound.{stateCount, classCount, ruleCount, longestWord, expansionWord, depthWord, acceptAtEndWord, acceptWord, targetWord, blockAt, used, sound};
@@ -26,7 +26,6 @@ use crate::layout::STATE_COUNT;
 use crate::layout::STATES_FROM;
 use crate::layout::TARGETS_FROM;
 use rules::layout::BLOCK;
-use rules::layout::ENTRY;
 
 // The rule that a state accepts, or nothing.
 pub enum Accept {
@@ -241,14 +240,6 @@ pub fn group_outputs(words: &[u16], rule: RuleNo) -> usize
     ensures { λ r. ⌜ r ≡ at (blockAt (now (words .entry)) (rule .0)) 2 ⌝ }
 {
     size(block_word(words, rule, 2))
-}
-
-// Word `i` of an entry of a rule: its sort, its constant, or a coefficient.
-pub fn entry_word(words: &[u16], rule: RuleNo, entry: usize, i: usize) -> u16
-    requires { ⌜ (wordCount ≤ length (now words)) × (rule .0 < 33) × (entry < 8) × (i < entrySize) ⌝ }
-    ensures { λ r. ⌜ r ≡ at (blockAt (now (words .entry)) (rule .0)) (3 + entrySize * entry + i) ⌝ }
-{
-    block_word(words, rule, 3 + ENTRY * entry + i)
 }
 
 // What an entry of a rule writes for the rule's characters.

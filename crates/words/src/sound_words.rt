@@ -4,12 +4,13 @@ ghost use mathlib.Core.List.{[], _∷_};
 ghost use mathlib.Core.Path.{_≡_};
 ghost use Prim.Native.Nat.{suc, pred, _+_, _*_, _≤_, _<_};
 ghost use lib.Dec.{eqb};
-ghost use lib.ListN.{length, take, drop};
+ghost use lib.ListN.{length};
 ghost use Rattle.lists.specs.Decide.{allOf, forBelow, implies};
 ghost use Rattle.meaning.specs.Table.{isShift};
-ghost use Rattle.meaning.specs.Block.{at, entrySize};
+ghost use Rattle.meaning.specs.Block.{at, blockSize, entrySize};
 ghost use Rattle.automaton.specs.Sound.{stateCount, classCount, ruleCount, longestWord, expansionWord, depthWord, acceptAtEndWord, acceptWord, targetWord, blockAt, between, used, oneOnly, soundEntry, soundHeader, soundStarts, soundBlock, soundBlocks, namesRule, soundTarget, soundState, sound};
 ghost use Rattle.automaton.specs.Layout.{wordCount};
+use crate::layout::BLOCKS_FROM;
 use crate::layout::WORDS;
 use crate::numbers::ClassNo;
 use crate::numbers::DEFAULT_RULE;
@@ -22,7 +23,6 @@ use crate::read::class_count;
 use crate::read::class_start;
 use crate::read::default_word;
 use crate::read::depth_word;
-use crate::read::entry_word;
 use crate::read::expansion;
 use crate::read::group_anchored;
 use crate::read::group_outputs;
@@ -32,6 +32,8 @@ use crate::read::longest;
 use crate::read::rule_count;
 use crate::read::state_count;
 use crate::read::target;
+use rules::layout::BLOCK;
+use rules::layout::ENTRY;
 
 fn within(low: usize, high: usize, x: usize) -> bool
     ensures { λ r. ⌜ r ≡ between low high x ⌝ }
@@ -94,45 +96,68 @@ fn is_shift(word: u16) -> bool
     }
 }
 
-// Of the first `size` coefficients of an entry just one is not 0, and it is 1: that is, they add up to 1.
-fn one_only(words: &[u16], rule: RuleNo, entry: usize, size: usize) -> bool
-    requires { ⌜ (wordCount ≤ length (now words)) × (rule .0 ≤ 32) × (entry < 8) × (size ≤ 8) ⌝ }
-    ensures { λ r. ⌜ r ≡ oneOnly (take size (drop (5 + entrySize * entry) (blockAt (now (words .entry)) (rule .0)))) ⌝ }
+// Of an entry's coefficients just one is not 0, and it is 1: that is, they add up to 1.
+fn one_only(coefficients: &[u16]) -> bool
+    ensures { λ r. ⌜ r ≡ oneOnly (now (coefficients .entry)) ⌝ }
 {
     let mut total: usize = 0;
     let mut p = 0;
-    while p < size {
-        total += entry_word(words, rule, entry, 2 + p) as usize;
+    while p < coefficients.len() {
+        total += coefficients[p] as usize;
+        if 1 < total {
+            return false;
+        }
         p += 1;
     }
     total == 1
 }
 
 // "a known sort, and a digit entry has one of the four shifts and just one coefficient, of 1, below K"
-fn entry_sound(words: &[u16], rule: RuleNo, entry: usize) -> bool
-    requires { ⌜ (wordCount ≤ length (now words)) × (rule .0 ≤ 32) × (entry < 8) × (at (blockAt (now words) (rule .0)) 0 ≤ 8) ⌝ }
-    ensures { λ r. ⌜ r ≡ soundEntry (blockAt (now (words .entry)) (rule .0)) entry ⌝ }
+fn entry_sound(block: &[u16], entry: usize) -> bool
+    requires { ⌜ (blockSize ≤ length (now block)) × (entry < 8) × (at (now block) 0 ≤ 8) ⌝ }
+    ensures { λ r. ⌜ r ≡ soundEntry (now (block .entry)) entry ⌝ }
 {
-    match entry_word(words, rule, entry, 0) {
-        0 => true,
-        1 => {
-            if !is_shift(entry_word(words, rule, entry, 1)) {
-                return false;
-            }
-            one_only(words, rule, entry, group_size(words, rule))
-        }
-        _ => false,
+    let from = 3 + ENTRY * entry;
+    let sort = block[from];
+    if sort == 0 {
+        return true;
     }
+    if sort != 1 {
+        return false;
+    }
+    if !is_shift(block[from + 1]) {
+        return false;
+    }
+    let size = block[0] as usize;
+    one_only(&block[from + 2..from + 2 + size])
 }
 
-// The entries in use, `count` of them.
-fn entries_sound(words: &[u16], rule: RuleNo, count: usize) -> bool
-    requires { ⌜ (wordCount ≤ length (now words)) × (rule .0 ≤ 32) × (count ≤ 8) × (at (blockAt (now words) (rule .0)) 0 ≤ 8) ⌝ }
-    ensures { λ r. ⌜ r ≡ forBelow count (soundEntry (blockAt (now (words .entry)) (rule .0))) ⌝ }
+// The first `count` entries are sums. This is quickly seen, and most blocks write no digit.
+fn only_sums(block: &[u16], count: usize) -> bool
+    requires { ⌜ (blockSize ≤ length (now block)) × (count ≤ 8) ⌝ }
+    ensures { λ r. ⌜ r ≡ forBelow count (λ j. eqb (at (now (block .entry)) (3 + entrySize * j)) 0) ⌝ }
 {
     let mut entry = 0;
     while entry < count {
-        if !entry_sound(words, rule, entry) {
+        if block[3 + ENTRY * entry] != 0 {
+            return false;
+        }
+        entry += 1;
+    }
+    true
+}
+
+// The entries in use, `count` of them.
+fn entries_sound(block: &[u16], count: usize) -> bool
+    requires { ⌜ (blockSize ≤ length (now block)) × (count ≤ 8) × (at (now block) 0 ≤ 8) ⌝ }
+    ensures { λ r. ⌜ r ≡ forBelow count (soundEntry (now (block .entry))) ⌝ }
+{
+    if only_sums(block, count) {
+        return true;
+    }
+    let mut entry = 0;
+    while entry < count {
+        if !entry_sound(block, entry) {
             return false;
         }
         entry += 1;
@@ -155,7 +180,8 @@ fn block_sound(words: &[u16], rule: RuleNo, most: usize, anchored: usize) -> boo
     if outputs > expansion(words) {
         return false;
     }
-    entries_sound(words, rule, outputs)
+    let block = rule.0 as usize;
+    entries_sound(&words[BLOCKS_FROM + BLOCK * block..], outputs)
 }
 
 fn rule_blocks_sound(words: &[u16]) -> bool

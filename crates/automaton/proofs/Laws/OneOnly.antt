@@ -1,14 +1,15 @@
 -- Of some coefficients just one is not 0, and it is 1: exactly if their total is 1, and exactly if one place has 1 and every other 0.
 -- By recursion on the coefficients: a total of 1 is 1 and then 0, or 0 and then 1.
-use mathlib.Core.Bool.{cond}
+use mathlib.Core.Bool.{false, cond}
 use mathlib.Core.List.{List, [], _∷_}
 use mathlib.Core.Logic.{_≢_}
 use mathlib.Core.Path.{_≡_, refl, sym, ap, subst, _∙_}
-use Prim.Native.Nat.{ℕ, zero, suc, _+_, _<_}
+use Prim.Native.Nat.{ℕ, zero, suc, _+_, _≤_, _<_}
 use native.Mathlib.Nat.{zero-add}
 use native.Mathlib.Omega.{arith}
+use borrow.Author.Tests.{ne-eqb}
 use lib.Dec.{T, eqb, eqb→eq}
-use lib.ListN.{length}
+use lib.ListN.{length, take}
 use Rattle.lists.specs.Lists.{any, count, Each}
 use Rattle.lists.proofs.Laws.Tests.{of-T, or-cases, test-eq, holds, to-allOf, eq→eqb, ne→neqb}
 use Rattle.meaning.specs.Block.{at}
@@ -75,6 +76,21 @@ one-total ks =
     test-eq (oneOnly ks) (eqb (total ks) 1)
     (λ t. let h = holds _ t in eq→eqb (total ks) 1 (to-total ks (eqb→eq (count used ks) 1 (h .0)) (h .1 .0)))
     (λ t. let r = of-total ks (eqb→eq (total ks) 1 t) in to-allOf _ (eq→eqb (count used ks) 1 (r .0), (r .1, tt)))
+
+-- the total of the first so many: with one more, and where it is above 1 already
+pub total-next : (p : ℕ) (ks : List ℕ) → total (take (suc p) ks) ≡ total (take p ks) + at ks p
+total-next zero [] = refl
+total-next zero (k ∷ ks) = omega arith
+total-next (suc p) [] = refl
+total-next (suc p) (k ∷ ks) = omega (arith, total-next p ks)
+
+total-part : (p : ℕ) (ks : List ℕ) → total (take p ks) ≤ total ks
+total-part zero ks = omega arith
+total-part (suc p) [] = omega arith
+total-part (suc p) (k ∷ ks) = omega (arith, total-part p ks)
+
+pub more-total : (p : ℕ) (ks : List ℕ) → 1 < total (take p ks) → oneOnly ks ≡ false
+more-total p ks h = one-total ks ∙ ne-eqb (total ks) 1 (λ e. absurd (omega (arith, total-part p ks)))
 
 -- the place that has 1
 pub record One (ks : List ℕ) : Type 0 where

@@ -75,6 +75,15 @@ module _ (w : List ℕ) (g : ℕ) where
   blocks-block =
       ap (drop (blockSize * g)) (take-all (length w - blocksFrom) (drop blocksFrom w) (omega (arith, length-drop blocksFrom w))) ∙ drop-drop (blockSize * g) blocksFrom w
 
+  -- the words from the block's place on
+  pub from-block : take (length w - (blocksFrom + blockSize * g)) (drop (blocksFrom + blockSize * g) w) ≡ blockAt w g
+  from-block =
+      let place = blocksFrom + blockSize * g in
+      take-all (length w - place) (drop place w) (omega (arith, length-drop place w))
+
+  pub block-long : wordCount ≤ length w → g ≤ 32 → blockSize ≤ length (blockAt w g)
+  block-long h k = omega (arith, length-drop (blocksFrom + blockSize * g) w)
+
   -- a word of the block, by its place p among the blocks' words
   blocks-at : (i p : ℕ) → p ≡ blockSize * g + i → at (blocksOf w) p ≡ at (blockAt w g) i
   blocks-at i p e = ap (at (blocksOf w)) e ∙ sym (getD-drop (blockSize * g) (blocksOf w) i 0) ∙ ap (λ b. at b i) blocks-block

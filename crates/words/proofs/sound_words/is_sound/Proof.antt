@@ -7,7 +7,7 @@ use borrow.Author.Tests.{le-leb, lt-leb}
 use denote.Ref.{now}
 use Rattle.lists.specs.Decide.{allOf, forBelow}
 use Rattle.lists.proofs.Laws.Tests.{passed, failed, all-stops, all-next, all-last}
-use Rattle.automaton.specs.Sound.{stateCount, classCount, ruleCount, soundStarts, soundBlocks, soundState, sound}
+use Rattle.automaton.specs.Sound.{stateCount, classCount, longestWord, expansionWord, ruleCount, soundStarts, soundBlocks, soundState, sound}
 use Rattle.automaton.proofs.Laws.Checking.{header-small}
 use borrow.Author.Needs.{needs}
 use Rattle.words.proofs.sound_words.is_sound.Statement.{statement}
@@ -20,7 +20,8 @@ w2 c = now (c .before .before .before .before .args .words)
 abbrev w3 : tie.Else3 → List ℕ
 w3 c = w2 (c .before .before)
 
-small : (c : tie.Else2) → (stateCount (w2 c) ≤ 256) × (classCount (w2 c) ≤ 64) × (ruleCount (w2 c) ≤ 32)
+small : (c : tie.Else2) →
+    (stateCount (w2 c) ≤ 256) × (classCount (w2 c) ≤ 64) × (longestWord (w2 c) ≤ 8) × (expansionWord (w2 c) ≤ 8) × (ruleCount (w2 c) ≤ 32)
 small c = header-small (w2 c) (passed (c .before .header-sound .ensures) (c .if2 .left))
 
 past-header : (c : tie.Else2) → sound (w2 c) ≡ allOf (soundStarts (w2 c) ∷ soundBlocks (w2 c) ∷ forBelow (stateCount (w2 c)) (soundState (w2 c)) ∷ [])
@@ -48,7 +49,10 @@ returns-3 : tie.Need-returns-3
 returns-3 c = sym (past-header (c .before .before) ∙ all-stops _ (failed (c .before .starts-sound .ensures) (c .if3 .taken)))
 
 blocks-sound-requires : tie.Need-blocks-sound-requires
-blocks-sound-requires c κs = let e = c .before .before in (e .before .before .if1 .left, small e .2)
+blocks-sound-requires c κs =
+    let e = c .before .before in
+    let s = small e in
+    ((e .before .before .if1 .left, s .4), (s .2, s .3))
 
 returns-4 : tie.Need-returns-4
 returns-4 c = sym (past-starts (c .before .before) ∙ all-stops _ (failed (c .before .blocks-sound .ensures) (c .if4 .taken)))
@@ -57,7 +61,7 @@ states-sound-requires : tie.Need-states-sound-requires
 states-sound-requires c κs =
     let e = c .before .before .before .before in
     let s = small e in
-    (e .before .before .if1 .left, s .0, s .1, s .2)
+    (e .before .before .if1 .left, s .0, s .1, s .4)
 
 returns-5 : tie.Need-returns-5
 returns-5 c =
