@@ -30,11 +30,12 @@
 #include <stddef.h>
 #include <stdint.h>
 
-/* The version of this header and its library: session layout, answers, functions. */
+/* The version of this header and its library: record kinds, word and session
+ * layout, answers, functions. Words of 0.2, which has no digits, are not for 0.3. */
 #define COBBLETWILL_VERSION_MAJOR 0
-#define COBBLETWILL_VERSION_MINOR 2
+#define COBBLETWILL_VERSION_MINOR 3
 #define COBBLETWILL_VERSION_PATCH 0
-#define COBBLETWILL_VERSION "0.2.0"
+#define COBBLETWILL_VERSION "0.3.0"
 
 #ifdef __cplusplus
 extern "C" {
@@ -152,7 +153,8 @@ static inline const char *cobbletwill_refusal_text(uint32_t answer) {
 }
 
 /*
- * The table check. `table` has `table_length` bytes, in records of 8.
+ * The table check. `table` has `table_length` bytes, in records of 8, of the kinds
+ * 1 to 6.
  *
  * Answers 0 for a table that direct conversion accepts, else the first refusal
  * of 1 to 7 in document 01's order.
@@ -263,7 +265,7 @@ typedef struct cobbletwill_session {
 #define COBBLETWILL_HOLDS(condition) _Static_assert(condition, #condition)
 #endif
 #ifdef COBBLETWILL_HOLDS
-COBBLETWILL_HOLDS(COBBLETWILL_WORDS == 6 + 64 + 3 * 256 + 64 * 256 + 33 * (3 + 8 * 9));
+COBBLETWILL_HOLDS(COBBLETWILL_WORDS == 6 + 64 + 3 * 256 + 64 * 256 + 33 * (3 + 8 * 10));
 COBBLETWILL_HOLDS(sizeof(cobbletwill_tally) == 16);
 COBBLETWILL_HOLDS(offsetof(cobbletwill_tally, produced) == 0);
 COBBLETWILL_HOLDS(offsetof(cobbletwill_tally, steps) == 8);

@@ -31,3 +31,9 @@ pub const fn term(position: u8, coefficient: i16) -> Record {
 
 /// Kind 5: the default.
 pub const DEFAULT: Record = [5, 0, 0, 0, 0, 0, 0, 0];
+
+/// Kind 6: an output character that is a hexadecimal digit of the character at a
+/// position, the one that stands above so many bits: 0, 4, 8 or 12.
+pub const fn digit(position: u8, shift: u8) -> Record {
+    [6, position, shift, 0, 0, 0, 0, 0]
+}

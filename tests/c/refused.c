@@ -28,9 +28,9 @@ struct lent {
 static struct lent *lent;
 static int made;
 
-/* `ab` writes two characters, `acc` at the input's end none; the default writes what it took. */
+/* `ab` writes X and the upper digit of b, `acc` at the input's end nothing; the default writes what it took. */
 static const uint8_t table[] = {
-    RULE(2, 0), RANGE(0, 'a', 'a'), RANGE(1, 'b', 'b'), OUTPUT('X'), OUTPUT('Y'),
+    RULE(2, 0), RANGE(0, 'a', 'a'), RANGE(1, 'b', 'b'), OUTPUT('X'), DIGIT(1, 4),
     RULE(3, 1), RANGE(0, 'a', 'a'), RANGE(1, 'c', 'c'), RANGE(2, 'c', 'c'),
     DEFAULT,    OUTPUT(0),          TERM(0, 1),
 };
@@ -133,6 +133,31 @@ static void test_unsound_sessions(void) {
 #undef UNSOUND
 }
 
+/* Each refusal by 11 has the words of the table with one of the digit's changed. Block 0 stands at 17,222, the digit is
+ * its second entry of 10 words, K is 2 and E is 2. */
+static void test_unsound_digits(void) {
+    enum { SORT = 17222 + 3 + 10, SHIFT, POSITION_0, POSITION_1, POSITION_2, UNUSED = SORT + 10 };
+    static const struct {
+        int at;
+        uint16_t word;
+    } damages[] = {
+        {SORT, 2},       {SORT, UINT16_MAX},       {SHIFT, 1},      {SHIFT, 16},      {SHIFT, UINT16_MAX},
+        {POSITION_0, 1}, {POSITION_0, UINT16_MAX}, {POSITION_1, 0}, {POSITION_1, 2},
+    };
+    for (size_t i = 0; i < sizeof damages / sizeof damages[0]; i++) {
+        lend(fresh);
+        lent->words[damages[i].at] = damages[i].word;
+        EXPECT(cobbletwill_is_sound(lent->words, COBBLETWILL_WORDS) == 0);
+        refused(&feed, COBBLETWILL_UNSOUND_WORDS);
+        refused(&finish, COBBLETWILL_UNSOUND_WORDS);
+    }
+    /* Coefficients from K on and entries beyond the output count are not looked at. */
+    lend(fresh);
+    lent->words[POSITION_2] = 1;
+    lent->words[UNUSED] = 2;
+    EXPECT(cobbletwill_is_sound(lent->words, COBBLETWILL_WORDS) == 1);
+}
+
 static void test_sessions(void) {
     const cobbletwill_session open = fed();
 
@@ -194,6 +219,14 @@ static void test_tables(void) {
         OUTPUT(5),  OUTPUT(6),          OUTPUT(7), OUTPUT(8), OUTPUT(9),
     };
     static const uint8_t value[] = {RULE(1, 0), RANGE(0, 'a', 'a'), OUTPUT(65536)};
+    static const uint8_t shift[] = {RULE(1, 0), RANGE(0, 'a', 'a'), DIGIT(0, 5)};
+    static const uint8_t digit_place[] = {RULE(1, 0), RANGE(0, 'a', 'a'), DIGIT(1, 4)};
+    static const uint8_t digit_term[] = {RULE(1, 0), RANGE(0, 'a', 'a'), DIGIT(0, 4), TERM(0, 1)};
+    static const uint8_t digit_unfilled[] = {RULE(1, 0), DIGIT(0, 4)};
+    static const uint8_t digits[] = {
+        RULE(1, 0),  RANGE(0, 'a', 'a'), OUTPUT(1),   DIGIT(0, 4), DIGIT(0, 0), OUTPUT(4),
+        DIGIT(0, 8), DIGIT(0, 12),       DIGIT(0, 4), OUTPUT(8),   DIGIT(0, 0),
+    };
     table_refused(table, sizeof table - 1, COBBLETWILL_TABLE_LENGTH);
     table_refused(field, sizeof field, COBBLETWILL_FIELD);
     table_refused(place, sizeof place, COBBLETWILL_PLACE);
@@ -201,6 +234,11 @@ static void test_tables(void) {
     table_refused(no_rule, sizeof no_rule, COBBLETWILL_NO_RULE);
     table_refused(too_many, sizeof too_many, COBBLETWILL_TOO_MANY);
     table_refused(value, sizeof value, COBBLETWILL_VALUE);
+    table_refused(shift, sizeof shift, COBBLETWILL_FIELD);
+    table_refused(digit_place, sizeof digit_place, COBBLETWILL_PLACE);
+    table_refused(digit_term, sizeof digit_term, COBBLETWILL_PLACE);
+    table_refused(digit_unfilled, sizeof digit_unfilled, COBBLETWILL_UNFILLED);
+    table_refused(digits, sizeof digits, COBBLETWILL_TOO_MANY);
 
     uint8_t large[LARGE_MOST];
     table_refused(large, put_large(large, 1, 7), COBBLETWILL_CLASSES);
@@ -233,6 +271,7 @@ int main(void) {
     test_inputs();
     test_sessions();
     test_unsound_sessions();
+    test_unsound_digits();
     printf("refused: %d calls\n", made);
     return 0;
 }

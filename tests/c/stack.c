@@ -113,16 +113,16 @@ static void measure(void) {
     note(5, depth_finish(), COBBLETWILL_OK);
 }
 
-/* 64 classes and 256 states, and a default that writes eight characters. */
+/* 64 classes and 256 states, and a default that writes eight characters, four of them digits. */
 static void put_table(void) {
     table_length = put_large(table, 0, 7);
     const uint8_t head[] = {DEFAULT};
     memcpy(table + table_length, head, sizeof head);
     table_length += sizeof head;
-    for (int i = 0; i < 8; i++) {
-        const uint8_t character[] = {OUTPUT('A')};
-        memcpy(table + table_length, character, sizeof character);
-        table_length += sizeof character;
+    for (int i = 0; i < 4; i++) {
+        const uint8_t characters[] = {OUTPUT('A'), DIGIT(0, 4)};
+        memcpy(table + table_length, characters, sizeof characters);
+        table_length += sizeof characters;
     }
 }
 

@@ -15,6 +15,7 @@
 #define OUTPUT(constant) 3, 0, 0, 0, LOW(constant), HIGH(constant), LOW((constant) >> 16), HIGH((constant) >> 16)
 #define TERM(position, coefficient) 4, (position), 0, 0, LOW(coefficient), HIGH(coefficient), 0, 0
 #define DEFAULT 5, 0, 0, 0, 0, 0, 0, 0
+#define DIGIT(position, shift) 6, (position), (shift), 0, 0, 0, 0, 0
 
 enum { RECORD = 8, LARGE_RULES = 32, LARGE_MOST = RECORD * LARGE_RULES * (1 + 8) };
 

@@ -69,7 +69,19 @@ fn describe(record: &Record) -> String {
             format!("plus {coefficient} times x{first}")
         }
         5 => "default".to_owned(),
+        6 => format!("writes {} of x{first}, shift {second}", digit(second)),
         _ => format!("unknown kind {kind}"),
+    }
+}
+
+/// Which hexadecimal digit of a character a shift says.
+fn digit(shift: u8) -> &'static str {
+    match shift {
+        0 => "the lowest hexadecimal digit",
+        4 => "the second lowest hexadecimal digit",
+        8 => "the second highest hexadecimal digit",
+        12 => "the highest hexadecimal digit",
+        _ => "a hexadecimal digit",
     }
 }
 

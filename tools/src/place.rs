@@ -58,9 +58,9 @@ pub fn opens_group(record: &Record) -> bool {
     opens_rule(record) || record[0] == 5
 }
 
-/// Whether a record is an output character.
+/// Whether a record is an output character: a sum's, or a digit.
 fn is_output(record: &Record) -> bool {
-    record[0] == 3
+    matches!(record[0], 3 | 6)
 }
 
 /// The first output character that is refused by 7 in a table of its group's
@@ -94,6 +94,7 @@ mod tests {
     use cobbletwill::record::BYTES;
 
     const TABLE: &[u8] = include_bytes!("../../tables/html-decimal/rules.tab");
+    const DIGITS: &[u8] = include_bytes!("../../tables/hex-bytes/rules.tab");
 
     /// The record at which a table is refused by 2, 3 or 6, which no end of a
     /// table answers: the last of the shortest beginning that is refused so.
@@ -104,9 +105,10 @@ mod tests {
         Place::Record(shortest / BYTES - 1)
     }
 
-    #[test]
-    fn every_change_of_one_byte() {
-        let mut table = TABLE.to_vec();
+    /// How many of the tables that differ in one byte are refused by each number;
+    /// each place is found.
+    fn refused_by_one_byte(whole: &[u8]) -> [usize; 8] {
+        let mut table = whole.to_vec();
         let mut refused = [0; 8];
         for at in 0..table.len() {
             for byte in 0..=255 {
@@ -122,14 +124,29 @@ mod tests {
                     }
                 }
             }
-            table[at] = TABLE[at];
+            table[at] = whole[at];
         }
+        refused
+    }
+
+    #[test]
+    fn every_change_of_one_byte() {
+        let refused = refused_by_one_byte(TABLE);
         assert!(refused[2] > 20_000 && refused[3] > 50, "{refused:?}");
         assert!(refused[4] > 20 && refused[7] > 1_000, "{refused:?}");
     }
 
     #[test]
+    fn every_change_of_one_byte_of_digits() {
+        let refused = refused_by_one_byte(DIGITS);
+        assert!(refused[2] > 5_000 && refused[3] > 20, "{refused:?}");
+        assert_eq!((refused[5], refused[6], refused[7]), (0, 0, 0));
+    }
+
+    #[test]
     fn all_records_of_an_accepted_table_pass() {
-        assert_eq!(refused_record(TABLE.as_chunks().0), None);
+        for table in [TABLE, DIGITS] {
+            assert_eq!(refused_record(table.as_chunks().0), None);
+        }
     }
 }

@@ -110,11 +110,16 @@ impl Reader {
         self.peek().is_none()
     }
 
-    /// Reads a symbol if it comes next, after blanks and line ends.
-    pub fn takes(&mut self, symbol: &str) -> bool {
+    /// Whether a symbol comes next, after blanks and line ends.
+    pub fn comes(&mut self, symbol: &str) -> bool {
         self.skip();
         let rest = self.units[self.at..].iter().copied();
-        let comes = symbol.encode_utf16().eq(rest.take(symbol.len()));
+        symbol.encode_utf16().eq(rest.take(symbol.len()))
+    }
+
+    /// Reads a symbol if it comes next, after blanks and line ends.
+    pub fn takes(&mut self, symbol: &str) -> bool {
+        let comes = self.comes(symbol);
         if comes {
             self.at += symbol.len();
         }

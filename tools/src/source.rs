@@ -1,10 +1,11 @@
 //! Tables from their sources: the text of change request 4, with two helps for
 //! the bench. A line that begins with `#` is a comment, and in quotes the control
-//! pictures ␀ to ␡ stand for the characters that they name.
+//! pictures ␀ to ␡ stand for the characters that they name. Beside its expressions
+//! there is `hex(x0, 4)`, a hexadecimal digit of a character, by its shift.
 
-use cobbletwill::record::{output, range, rule, term, Record, DEFAULT};
+use cobbletwill::record::{digit, output, range, rule, term, Record, DEFAULT};
 
-use crate::expression::{sum, Linear};
+use crate::expression::{expression, Expression, Linear};
 use crate::place::{opens_rule, Place};
 use crate::reader::Reader;
 pub use crate::reader::{At, Fault};
@@ -178,8 +179,10 @@ fn character(reader: &mut Reader, in_brackets: bool) -> Result<u16, Fault> {
 fn outputs(reader: &mut Reader, source: &mut Source) -> Result<(), Fault> {
     loop {
         let at = reader.symbol();
-        let value = sum(reader, 0)?;
-        write(reader, at, value, source)?;
+        match expression(reader)? {
+            Expression::Sum(value) => write(reader, at, value, source)?,
+            Expression::Digit { position, shift } => source.push(at, digit(position, shift)),
+        }
         if !reader.takes(",") {
             return reader.expect("]", "`,` or `]` has to come here");
         }

@@ -43,6 +43,14 @@ fn ranges_and_positions() {
         "\"a\" ==> [\n  65,\n  x0 + x1];",
         &format!("line 3, column 3: {place}\nat record 5, in rule 0"),
     );
+    refused(
+        "\"a\" ==> [hex(x0, 4),\n  hex(x1, 0)];",
+        &format!("line 2, column 3: {place}\nat record 3, in rule 0"),
+    );
+    refused(
+        "\"a\" ==> [];\nelse ==> [hex(x1, 12)];",
+        &format!("line 2, column 11: {place}\nat record 3, in the default"),
+    );
 }
 
 #[test]
@@ -60,6 +68,10 @@ fn counts() {
         &format!("line 3, column 2: {TOO_MANY}\nat record 10, in rule 0"),
     );
     refused(
+        "\"b\" ==> [1, hex(x0, 4), 3, hex(x0, 0), 5,\n 6, 7, 8, hex(x0, 8)];",
+        &format!("line 2, column 11: {TOO_MANY}\nat record 10, in rule 0"),
+    );
+    refused(
         "else ==> [];\n",
         "line 2, column 1: refused 5: no rule\nat the table's end, after the default",
     );
@@ -70,6 +82,10 @@ fn values() {
     refused(
         "\"a\" ==> [65];\nelse ==> [x0,\n    x0 + 1];",
         &format!("line 3, column 5: {VALUE}\nat record 6, in the default"),
+    );
+    refused(
+        "\"a\" ==> [hex(x0, 4)];\nelse ==> [hex(x0, 0), x0,\n  hex(x0, 12), x0 + 1];",
+        &format!("line 3, column 16: {VALUE}\nat record 8, in the default"),
     );
 }
 

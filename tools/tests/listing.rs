@@ -1,6 +1,6 @@
 //! Listings, written by hand: of an accepted table and of one for each refusal.
 
-use cobbletwill::record::{output, range, rule, term, Record, DEFAULT};
+use cobbletwill::record::{digit, output, range, rule, term, Record, DEFAULT};
 use tools::listing::{listing, verdict};
 use tools::source;
 
@@ -57,6 +57,104 @@ fn an_accepted_table() {
             "   9  05 00 00 00 00 00 00 00  default",
             "  10  03 00 00 00 3f 00 00 00  writes 63 '?'",
             "accepted: rules 2, a default, classes 9, states 4, L 2, E 1",
+        ],
+    );
+}
+
+#[test]
+fn digits() {
+    lists(
+        &[
+            rule(3, false),
+            range(0, 0, 255),
+            range(1, 48, 57),
+            range(2, 0, 65535),
+            digit(0, 4),
+            digit(1, 0),
+            output(1),
+            term(1, 2),
+            DEFAULT,
+            digit(0, 12),
+            digit(0, 8),
+        ],
+        &[
+            "rule 0",
+            "   0  01 03 00 00 00 00 00 00  rule of length 3",
+            "   1  02 00 00 00 00 00 ff 00  position 0 takes 0 to 255",
+            "   2  02 01 00 00 30 00 39 00  position 1 takes 48 '0' to 57 '9'",
+            "   3  02 02 00 00 00 00 ff ff  position 2 takes 0 to 65535",
+            "   4  06 00 04 00 00 00 00 00  \
+             writes the second lowest hexadecimal digit of x0, shift 4",
+            "   5  06 01 00 00 00 00 00 00  \
+             writes the lowest hexadecimal digit of x1, shift 0",
+            "   6  03 00 00 00 01 00 00 00  writes 1",
+            "   7  04 01 00 00 02 00 00 00  plus 2 times x1",
+            "default",
+            "   8  05 00 00 00 00 00 00 00  default",
+            "   9  06 00 0c 00 00 00 00 00  \
+             writes the highest hexadecimal digit of x0, shift 12",
+            "  10  06 00 08 00 00 00 00 00  \
+             writes the second highest hexadecimal digit of x0, shift 8",
+            "accepted: rules 1, a default, classes 4, states 4, L 3, E 3",
+        ],
+    );
+}
+
+#[test]
+fn digits_that_are_refused() {
+    let a = [rule(1, false), range(0, 97, 97)];
+    let head = [
+        "rule 0",
+        "   0  01 01 00 00 00 00 00 00  rule of length 1",
+        "   1  02 00 00 00 61 00 61 00  position 0 takes 97 'a'",
+    ];
+    let after = |records: &[Record], expected: &[&str]| {
+        lists(&[&a, records].concat(), &[&head, expected].concat());
+    };
+    after(
+        &[digit(0, 5)],
+        &[
+            "   2  06 00 05 00 00 00 00 00  writes a hexadecimal digit of x0, shift 5  <- refused 2",
+            FIELD,
+            "at record 2, in rule 0",
+        ],
+    );
+    after(
+        &[digit(0, 0), term(0, 1)],
+        &[
+            "   2  06 00 00 00 00 00 00 00  writes the lowest hexadecimal digit of x0, shift 0",
+            "   3  04 00 00 00 01 00 00 00  plus 1 times x0  <- refused 3",
+            PLACE,
+            "at record 3, in rule 0",
+        ],
+    );
+    after(
+        &[digit(1, 0)],
+        &[
+            "   2  06 01 00 00 00 00 00 00  \
+             writes the lowest hexadecimal digit of x1, shift 0  <- refused 3",
+            PLACE,
+            "at record 2, in rule 0",
+        ],
+    );
+    lists(
+        &[rule(1, false), digit(0, 0)],
+        &[
+            "rule 0",
+            "   0  01 01 00 00 00 00 00 00  rule of length 1",
+            "   1  06 00 00 00 00 00 00 00  \
+             writes the lowest hexadecimal digit of x0, shift 0  <- refused 4",
+            UNFILLED,
+            "at record 1, in rule 0",
+        ],
+    );
+    lists(
+        &[digit(0, 0)],
+        &[
+            "   0  06 00 00 00 00 00 00 00  \
+             writes the lowest hexadecimal digit of x0, shift 0  <- refused 3",
+            PLACE,
+            "at record 0, in no group",
         ],
     );
 }
@@ -183,6 +281,8 @@ fn refusal_6() {
     says("\"[acegi]\" ==> [];", &[TOO_MANY, "at record 5, in rule 0"]);
     let nine = "\"a\" ==> [1]; \"b\" ==> [1, 2, 3, 4, 5, 6, 7, 8, 9];";
     says(nine, &[TOO_MANY, "at record 13, in rule 1"]);
+    let digits = format!("\"a\" ==> [1, {}2];", "hex(x0, 4), ".repeat(7));
+    says(&digits, &[TOO_MANY, "at record 10, in rule 0"]);
     let rules = "\"a\" ==> [];".repeat(33);
     says(&rules, &[TOO_MANY, "at record 64, in rule 32"]);
 }
@@ -196,6 +296,8 @@ fn refusal_7_in_a_rule_and_in_the_default() {
     says(t1, &[VALUE, "at record 17, in rule 1"]);
     let t3 = "\"ab\" ==> [49]; \"aba\" ==> [50]; else ==> [x0, x0 + 1];";
     says(t3, &[VALUE, "at record 12, in the default"]);
+    let digits = "\"[a-z]\" ==> [hex(x0, 4), x0, hex(x0, 0), x0 - 98];";
+    says(digits, &[VALUE, "at record 6, in rule 0"]);
 }
 
 /// 32 rules of a length, every second character first from one on, then any.

@@ -1,6 +1,6 @@
-//! The source form: request 4's grammar, and the helps of the bench.
+//! The source form: request 4's grammar, the helps of the bench, and digits.
 
-use cobbletwill::record::{output, range, rule, term, Record, DEFAULT};
+use cobbletwill::record::{digit, output, range, rule, term, Record, DEFAULT};
 use tools::source::table;
 
 /// A source gives these records.
@@ -20,6 +20,12 @@ fn faulty(source: &str, line: usize, column: usize) {
         (line, column),
         "{source}: {fault}"
     );
+}
+
+/// A source is faulty at a line and column for this reason.
+fn faulty_by(source: &str, line: usize, column: usize, what: &str) {
+    faulty(source, line, column);
+    assert_eq!(table(source).expect_err(source).what, what, "{source}");
 }
 
 /// The records of a rule that takes `a` and writes an expression.
@@ -89,6 +95,80 @@ fn expressions() {
     written("x0 - x0 + 1", &[output(1)]);
     written("(x1 - x1 + 2) * x0", &[output(0), term(0, 2)]);
     gives("else ==> [x0];", &[DEFAULT, output(0), term(0, 1)]);
+}
+
+#[test]
+fn digits() {
+    for shift in [0, 4, 8, 12] {
+        for position in 0..8 {
+            let source = format!("hex(x{position}, {shift})");
+            written(&source, &[digit(position, shift)]);
+        }
+    }
+    written(
+        "hex(x0, 4), x0 + 1, hex(x0, 0), 7",
+        &[digit(0, 4), output(1), term(0, 1), digit(0, 0), output(7)],
+    );
+    written("hex(x0,4)", &[digit(0, 4)]);
+    written("\n hex\r\n( x0 \n, 012 ) ", &[digit(0, 12)]);
+    gives("else ==> [hex(x0, 8)];", &[DEFAULT, digit(0, 8)]);
+    // In quotes it is a text as any other.
+    let letters = [one(0, b'h'), one(1, b'e'), one(2, b'x')];
+    gives(
+        "\"hex\" ==> [];",
+        &[&[rule(3, false)], &letters[..]].concat(),
+    );
+}
+
+#[test]
+fn a_digit_stands_alone() {
+    let alone = "a hexadecimal digit stands alone, in no sum, product or parentheses";
+    faulty_by("else ==> [hex(x0, 4) + 1];", 1, 22, alone);
+    faulty_by("else ==> [hex(x0, 4)\n- 1];", 2, 1, alone);
+    faulty_by("else ==> [hex(x0, 4)*2];", 1, 21, alone);
+    faulty_by("else ==> [1 + hex(x0, 4)];", 1, 15, alone);
+    faulty_by("else ==> [1 -\n hex(x0, 4)];", 2, 2, alone);
+    faulty_by("else ==> [2 * hex(x0, 4)];", 1, 15, alone);
+    faulty_by("else ==> [(hex(x0, 4))];", 1, 12, alone);
+    faulty_by("else ==> [hex(x0, 4) + hex(x0, 0)];", 1, 22, alone);
+    let behind = "`,` or `]` has to come here";
+    faulty_by("else ==> [hex(x0, 4) 1];", 1, 22, behind);
+    faulty_by("else ==> [hex(x0, 4) hex(x0, 0)];", 1, 22, behind);
+    faulty_by("else ==> [x0 hex(x0, 4)];", 1, 14, behind);
+}
+
+#[test]
+fn texts_that_are_no_digit() {
+    let shift = "a shift has to come here: 0, 4, 8 or 12";
+    for wrong in ["1", "3", "5", "16", "256", "65536", "99999999999999999999"] {
+        faulty_by(&format!("else ==> [hex(x0, {wrong})];"), 1, 19, shift);
+    }
+    faulty_by("else ==> [hex(x0, )];", 1, 19, shift);
+    faulty_by("else ==> [hex(x0, x1)];", 1, 19, shift);
+    faulty_by("else ==> [hex(x0, -4)];", 1, 19, shift);
+    faulty_by("else ==> [hex(x0, (4))];", 1, 19, shift);
+    faulty_by("else ==> [hex(x0, 4 + 4)];", 1, 21, "`)` has to come here");
+    faulty_by("else ==> [hex(x0, 4, 0)];", 1, 20, "`)` has to come here");
+    faulty_by("else ==> [hex(x0, 4", 1, 20, "`)` has to come here");
+    let comma = "`,` and a shift have to come here";
+    faulty_by("else ==> [hex(x0)];", 1, 17, comma);
+    faulty_by("else ==> [hex(x0 + 1, 4)];", 1, 18, comma);
+    faulty_by("else ==> [hex(x0 4)];", 1, 18, comma);
+    let character = "`x` with a digit 0 to 7 has to come here";
+    faulty_by("else ==> [hex(65, 4)];", 1, 15, character);
+    faulty_by("else ==> [hex(4, x0)];", 1, 15, character);
+    faulty_by("else ==> [hex((x0), 4)];", 1, 15, character);
+    faulty_by("else ==> [hex(x8, 4)];", 1, 16, character);
+    faulty_by("else ==> [hex(x 0, 4)];", 1, 16, character);
+    faulty_by("else ==> [hex()];", 1, 15, character);
+    faulty_by("else ==> [hex x0, 4];", 1, 15, "`(` has to come here");
+    faulty_by("else ==> [hex];", 1, 14, "`(` has to come here");
+    // One symbol, in small letters.
+    faulty("else ==> [h ex(x0, 4)];", 1, 11);
+    faulty("else ==> [HEX(x0, 4)];", 1, 11);
+    faulty("hex(x0, 4) ==> [];", 1, 1);
+    // Without its word it is an expression in parentheses.
+    faulty_by("else ==> [(x0, 4)];", 1, 14, "`)` has to come here");
 }
 
 #[test]

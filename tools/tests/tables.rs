@@ -11,7 +11,7 @@ use tools::source;
 /// The tables of river stations, whose numbers are kept.
 const STATION: [&str; 5] = ["centimetres", "decimal-comma", "nmea", "sdi12", "shef"];
 /// The tables that write other numbers than they read.
-const OTHER: [&str; 1] = ["html-decimal"];
+const OTHER: [&str; 2] = ["hex-bytes", "html-decimal"];
 
 /// The folder of the tables.
 fn folder() -> PathBuf {
@@ -114,6 +114,22 @@ fn sessions_give_the_expected_text_however_the_input_is_cut() {
         }
         let single: Vec<&[u16]> = input.chunks(1).collect();
         assert_eq!(fed(&machine, &single, &expected), steps, "{name}");
+    }
+}
+
+/// Every byte gives its two digits, and nothing above it has any.
+#[test]
+fn bytes_are_two_hexadecimal_digits() {
+    let (table, machine) = (file("hex-bytes", "rules.tab"), machine("hex-bytes"));
+    for byte in 0..=255 {
+        let digits: Vec<u16> = format!("{byte:02X}").encode_utf16().collect();
+        assert_eq!(direct(&table, &[byte]), digits);
+        fed(&machine, &[&[byte]], &digits);
+    }
+    let mut output = [0; 2];
+    for character in [256, 0x4b4b, u16::MAX] {
+        let answer = convert(&table, &[character], &mut output).expect("accepted");
+        assert_eq!((answer.ending, answer.written), (Ending::Stopped, 0));
     }
 }
 

@@ -18,6 +18,7 @@ pub mod Readable
 pub mod Numbered
 pub mod Digits
 pub mod Choosing
+pub mod Sums
 pub mod Writing
 pub mod Extremes
 pub mod Rows

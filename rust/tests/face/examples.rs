@@ -1,7 +1,8 @@
 //! Document 01's examples through the safe interface, with the answers copied
-//! from the document: direct, in one feed, in two pieces and one by one.
+//! from the document: direct, in one feed, in two pieces and one by one. Digits
+//! likewise, with answers from the source's Examples 2 and 3 or worked out by hand.
 
-use crate::tables::{t1, t1_with, t2, t3, t3_with};
+use crate::tables::{four_digits, mixed, t1, t1_with, t2, t3, t3_with, two_digits};
 use cobbletwill::{check, convert, run, Ending, Machine, Refusal, Session, Status, MOST_OUTPUTS};
 
 /// The characters of a text.
@@ -42,7 +43,8 @@ fn expect(table: &[u8], input: &str, text: &str, ending: Ending, place: usize, s
 
 /// An input that is converted to its end.
 fn closed(table: &[u8], input: &str, text: &str, steps: u64) {
-    expect(table, input, text, Ending::Closed, input.len(), steps);
+    let place = units(input).len();
+    expect(table, input, text, Ending::Closed, place, steps);
 }
 
 #[test]
@@ -64,6 +66,40 @@ fn the_lines_marked_p_about_values() {
     assert_eq!(Machine::compile(&t1_with(-529)), Err(Refusal::Value));
     assert_eq!(check(&t3_with(65535, -1)), Ok(()));
     assert_eq!(check(&t3_with(1, 1)), Err(Refusal::Value));
+}
+
+/// Each byte is a take and an emit, and the end a close.
+#[test]
+fn bytes_as_two_digits() {
+    closed(&two_digits(), "K", "4B", 3);
+    closed(&two_digits(), "ok", "6F6B", 5);
+    closed(
+        &two_digits(),
+        "\0\t\n\u{99}\u{9a}\u{a9}\u{ff}",
+        "00090A999AA9FF",
+        15,
+    );
+    let stopped = Ending::Stopped;
+    expect(&two_digits(), "o\u{100}k", "6F", stopped, 1, 4);
+}
+
+/// Each character goes back, is taken and emitted, and the end closes.
+#[test]
+fn characters_as_four_digits() {
+    closed(&four_digits(), "\u{9a}", "009A", 4);
+    closed(
+        &four_digits(),
+        "\u{90af}_\u{a90f}\u{ffff}",
+        "90AFA90FFFFF",
+        3 + 2 + 3 + 3 + 1,
+    );
+}
+
+/// Three takes and an emit for the rule; `%9` at the input's end goes back twice.
+#[test]
+fn digits_beside_sums() {
+    closed(&mixed(), "%K\u{a9}", "4\u{aa}9", 5);
+    closed(&mixed(), "%\u{9f}~%9", "9\u{7f}E%9", 4 + 2 + 3 + 3 + 1);
 }
 
 #[test]

@@ -1,4 +1,4 @@
-//! The safe interface: document 01's examples and refusals.
+//! The safe interface: document 01's examples and refusals, and those of digits.
 
 mod examples;
 mod refusals;

@@ -1,7 +1,7 @@
 //! Each refusal through the safe interface, and that it changes nothing.
 
-use crate::tables::{default, plain, t1, t2};
-use cobbletwill::record::{output, range, rule, Record};
+use crate::tables::{default, mixed, plain, t1, t2};
+use cobbletwill::record::{digit, output, range, rule, term, Record, DEFAULT};
 use cobbletwill::{check, convert, raw, Machine, Refusal, Session, Status, WORDS};
 
 /// A rule that takes any characters, of a first character and a length.
@@ -45,6 +45,87 @@ fn tables_by_1_to_7() {
         assert_eq!(Machine::compile(table), Err(refusal));
         assert_eq!(convert(table, &[97], &mut [7; 8]), Err(refusal));
     }
+}
+
+/// Records after a rule that takes `a` are refused so.
+fn refused_after_a(records: &[Record], refusal: Refusal) {
+    let table = [plain("a", false, ""), records.to_vec()].concat().concat();
+    assert_eq!(check(&table), Err(refusal), "{records:?}");
+    assert_eq!(Machine::compile(&table), Err(refusal), "{records:?}");
+}
+
+/// "One is refused by 3": a term after a digit. "Refusals 4 and 6 treat it as
+/// kind 3."
+#[test]
+fn digits_by_2_to_6() {
+    for shift in (0..=255).filter(|shift| ![0, 4, 8, 12].contains(shift)) {
+        refused_after_a(&[digit(0, shift)], Refusal::Field);
+    }
+    refused_after_a(&[digit(8, 0)], Refusal::Field);
+    for at in 3..8 {
+        let mut record = digit(0, 4);
+        record[at] = 1;
+        refused_after_a(&[record], Refusal::Field);
+    }
+    refused_after_a(&[digit(1, 0)], Refusal::Place);
+    refused_after_a(&[digit(0, 0), term(0, 1)], Refusal::Place);
+    refused_after_a(&[digit(0, 0), range(0, 98, 98)], Refusal::Place);
+    refused_after_a(&[DEFAULT, digit(1, 0)], Refusal::Place);
+    assert_eq!(check(&digit(0, 0)), Err(Refusal::Place));
+    refused_after_a(&[rule(1, false), digit(0, 0)], Refusal::Unfilled);
+
+    let eight = [[digit(0, 4); 4], [output(49); 4]].concat();
+    let table = [plain("a", false, ""), eight.clone()].concat().concat();
+    assert_eq!(check(&table), Ok(()));
+    for ninth in [digit(0, 0), output(49)] {
+        refused_after_a(&[&eight[..], &[ninth]].concat(), Refusal::TooMany);
+    }
+}
+
+/// The machine words of [`mixed`] with one word changed.
+fn damaged(at: usize, word: u16) -> Result<Machine, Refusal> {
+    let machine = Machine::compile(&mixed()).expect("compiles");
+    let mut words = machine.words().to_vec();
+    words[at] = word;
+    Machine::from_words(&words)
+}
+
+/// "Sound words have a known sort, and a digit entry has one of the four shifts
+/// and just one coefficient, of 1, below K." Block 0 stands at 17,222, its
+/// entries of 10 words from 3 on, and K is 3.
+#[test]
+fn damaged_digits_by_11() {
+    let entry = |number: usize| 17_222 + 3 + 10 * number;
+    let unsound = |at, word| assert_eq!(damaged(at, word), Err(Refusal::UnsoundWords));
+    let sound = |at, word| assert!(damaged(at, word).is_ok(), "word {at} as {word}");
+    for number in 0..3 {
+        unsound(entry(number), 2);
+        unsound(entry(number), 65535);
+    }
+    let first = entry(0);
+    for shift in [1, 3, 5, 16, 65535] {
+        unsound(first + 1, shift);
+    }
+    for shift in [0, 4, 8, 12] {
+        sound(first + 1, shift);
+    }
+    // Its coefficient is that of position 1.
+    for coefficient in [0, 2, 65535] {
+        unsound(first + 2 + 1, coefficient);
+    }
+    for position in [0, 2] {
+        unsound(first + 2 + position, 1);
+        unsound(first + 2 + position, 65535);
+    }
+    for position in 3..8 {
+        sound(first + 2 + position, 1);
+    }
+    // As a sum a digit's entry is sound too. The sum with a coefficient of 1 and
+    // the constant 1 is no digit's, for 1 is no shift.
+    sound(first, 0);
+    unsound(entry(1), 1);
+    // Entry 3 is not in use.
+    sound(entry(3), 2);
 }
 
 #[test]

@@ -1,6 +1,6 @@
-//! The example tables of document 01.
+//! The example tables of document 01, and encoders that write digits.
 
-use cobbletwill::record::{output, range, rule, term, Record, DEFAULT};
+use cobbletwill::record::{digit, output, range, rule, term, Record, DEFAULT};
 
 /// One character at each position from 0.
 fn spelled(text: &str) -> Vec<Record> {
@@ -65,4 +65,28 @@ pub fn t3_with(constant: i32, coefficient: i16) -> Vec<u8> {
 /// T3.
 pub fn t3() -> Vec<u8> {
     t3_with(0, 1)
+}
+
+/// Each byte as two hexadecimal digits: Example 2 of the source.
+pub fn two_digits() -> Vec<u8> {
+    let head = [rule(1, false), range(0, 0, 255)];
+    [&head[..], &[digit(0, 4), digit(0, 0)]].concat().concat()
+}
+
+/// Each character as four hexadecimal digits; `_` writes nothing.
+pub fn four_digits() -> Vec<u8> {
+    let digits = [12, 8, 4, 0].map(|shift| digit(0, shift));
+    [plain("_", false, ""), vec![DEFAULT], digits.to_vec()]
+        .concat()
+        .concat()
+}
+
+/// `%` and two characters: the first one's upper digit, the second one's
+/// successor, the second one's lower digit. The default writes what it took.
+pub fn mixed() -> Vec<u8> {
+    let pattern = [range(0, 37, 37), range(1, 0, 255), range(2, 0, 255)];
+    let written = [digit(1, 4), output(1), term(2, 1), digit(2, 0)];
+    [&[rule(3, false)], &pattern[..], &written, &default(0, 1)]
+        .concat()
+        .concat()
 }

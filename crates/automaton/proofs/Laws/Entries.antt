@@ -1,6 +1,6 @@
 -- A block's entries: the sound ones said in numbers, those of a table's output characters, and what a digit's writes.
 -- The test is taken apart into its clauses; the words of an entry are read at their places.
-use mathlib.Core.List.{List, [], _∷_, map}
+use mathlib.Core.List.{List, [], map}
 use mathlib.Core.Path.{_≡_, refl, sym, ap, subst, _∙_}
 use Prim.Native.Nat.{ℕ, suc, _+_, _-_, _*_, _%_, _≤_, _<_}
 use native.Mathlib.Decide.{ℕ-discrete}
