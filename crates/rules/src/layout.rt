@@ -1,5 +1,5 @@
-// The sizes of a group's numbers, each beside the definition of that name in `meaning`: an entry (a sort, a constant and eight coefficients), a block (K,
-// anchored, output count, eight entries), and the 33 blocks of 32 rules and the default.
+// The sizes of a group's numbers, each beside the definition of that name in `meaning`: an entry (a sort, a constant and eight coefficients), a
+// block (K, anchored, output count, eight entries), and the 33 blocks of 32 rules and the default.
 pub const ENTRY: usize = 10;
 
 pub const BLOCK: usize = 3 + 8 * ENTRY;

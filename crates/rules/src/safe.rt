@@ -147,11 +147,10 @@ fn constant_of(loaded: &[u16], group: usize, number: usize) -> u32
     )
 }
 
-// The values of an output character are characters at every word that fits. A digit's are.
+// The values of an output character are characters at every word that fits. A digit's always are.
 fn output_safe(loaded: &[u16], group: usize, number: usize) -> bool
     requires { ⌜ Flat (now loaded) × (group < 33) × (number < 8) ⌝ }
-    ensures { λ r.
-        ⌜ r ≡ safeOutputAt (now (loaded .entry)) group number ⌝ }
+    ensures { λ r. ⌜ r ≡ safeOutputAt (now (loaded .entry)) group number ⌝ }
 {
     if loaded[BLOCK * group + 3 + ENTRY * number] != 0 {
         return true;

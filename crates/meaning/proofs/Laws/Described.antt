@@ -212,7 +212,7 @@ taken-described s (output c) f m n o b w =
 taken-described s (hexadecimal p shift) f m n o b w =
     let k = top (s .table .rules) (s .table .default) .size in
     let u = or-none (eqb (s .kind) 0) (leb k p) m in
-    added-described s (digit p shift) 6 _ (neqb→ne (s .kind) 0 (u .0)) (λ t. t) (λ t. t) refl (record { below = nleb→lt k p (u .1); shifts = f .1 }) b w
+    added-described s (digit p shift) _ _ (neqb→ne (s .kind) 0 (u .0)) (λ t. t) (λ t. t) refl (record { below = nleb→lt k p (u .1); shifts = f .1 }) b w
 taken-described s (term p a) f m n o b w =
     let rs = s .table .rules in
     let d = s .table .default in

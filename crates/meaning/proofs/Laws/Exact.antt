@@ -153,7 +153,7 @@ by-shift P n t a b c d =
 
 pub nibble-mod : (n c : ℕ) → T (isShift n) → nibble n (c % 65536) ≡ nibble n c
 unfolding nibble
-nibble-mod n c t = by-shift (λ n. c % 65536 / 2 ^ n % 16 ≡ c / 2 ^ n % 16) n t (omega arith) (omega arith) (omega arith) (omega arith)
+nibble-mod n c t = by-shift (λ n. nibble n (c % 65536) ≡ nibble n c) n t (omega arith) (omega arith) (omega arith) (omega arith)
 
 -- the words of a block
 
