@@ -8,7 +8,7 @@
 use std::mem::offset_of;
 
 /// The machine words of a table: 19,961 of 16 bits.
-pub const WORDS: usize = 19_697;
+pub const WORDS: usize = 19_961;
 
 /// The answer for a table that is accepted or compiled, and for a conversion or
 /// a session that closed.
