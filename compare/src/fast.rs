@@ -28,15 +28,7 @@ enum Action {
 }
 
 /// The hexadecimal digits.
-const DIGITS: [u16; 16] = {
-    let mut digits = [0; 16];
-    let mut v = 0;
-    while v < 16 {
-        digits[v] = b"0123456789ABCDEF"[v] as u16;
-        v += 1;
-    }
-    digits
-};
+const DIGITS: [u8; 16] = *b"0123456789ABCDEF";
 
 /// A sum: a constant, and terms of a position and a coefficient, of which the
 /// first so many are in use.
@@ -343,7 +335,7 @@ fn write(outputs: &[Output], store: &[u16], room: &mut [u16]) -> usize {
             Output::Sum(sum) => sum.value(store),
             Output::Digit(position, shift) => {
                 let character = store[usize::from(*position)];
-                DIGITS[usize::from(character >> (shift & 15)) & 15]
+                u16::from(DIGITS[usize::from(character >> (shift & 15)) & 15])
             }
         };
     }
