@@ -281,26 +281,42 @@ fn changed(random: &mut Random, record: Record) -> Record {
                 constant.wrapping_neg(),
             ]),
         },
-        Record::Term(term) if first => Record::Term(Term {
-            position: near(random, term.position),
-            ..term
-        }),
-        Record::Term(term) => Record::Term(Term {
-            coefficient: near_character(random, term.coefficient as u16) as i16,
-            ..term
-        }),
+        Record::Term(term) => Record::Term(changed_term(random, term)),
         Record::Default => Record::Rule {
             length: 1,
             anchored: false,
         },
-        Record::Digit(digit) if first => Record::Digit(Digit {
+        Record::Digit(digit) => Record::Digit(changed_digit(random, digit)),
+    }
+}
+
+/// The term with another position or coefficient.
+fn changed_term(random: &mut Random, term: Term) -> Term {
+    if random.one_in(3) {
+        Term {
+            position: near(random, term.position),
+            ..term
+        }
+    } else {
+        Term {
+            coefficient: near_character(random, term.coefficient as u16) as i16,
+            ..term
+        }
+    }
+}
+
+/// The digit with another position or shift.
+fn changed_digit(random: &mut Random, digit: Digit) -> Digit {
+    if random.one_in(3) {
+        Digit {
             position: near(random, digit.position),
             ..digit
-        }),
-        Record::Digit(digit) => Record::Digit(Digit {
+        }
+    } else {
+        Digit {
             shift: near(random, usize::from(digit.shift)) as u16,
             ..digit
-        }),
+        }
     }
 }
 
