@@ -134,9 +134,9 @@ pub fn rules(count: usize) -> TableBuilder {
 
 /// Tables that compiling and direct conversion refuse, by 1 to 7, each with the
 /// number that document 01's "Refusals by who causes them" gives it.
-pub fn refused_tables() -> [(u8, Vec<u8>); 18] {
+pub fn refused_tables() -> Vec<(u8, Vec<u8>)> {
     let new = TableBuilder::new;
-    [
+    let mut tables = vec![
         (1, vec![1]),
         (2, new().rule(1).range(0, 98, 97).bytes()),
         (3, new().output(1).bytes()),
@@ -147,19 +147,31 @@ pub fn refused_tables() -> [(u8, Vec<u8>); 18] {
         (6, (0..9).fold(rules(1), TableBuilder::output).bytes()),
         (7, rules(1).output(-1).bytes()),
         (7, rules(1).output(65536).bytes()),
+    ];
+    tables.extend(refused_digits());
+    tables
+}
+
+/// Tables with digits that are refused, some by two numbers, of which the first
+/// counts.
+fn refused_digits() -> [(u8, Vec<u8>); 14] {
+    let new = TableBuilder::new;
+    let sums = (0..8).fold(rules(1), TableBuilder::output);
+    let digits = (0..8).fold(rules(1), |table, _| table.digit(0, 12));
+    [
         (2, rules(1).digit(8, 0).bytes()),
         (2, rules(1).digit(0, 5).bytes()),
+        (2, new().digit(0, 1).bytes()),
+        (2, rules(1).digit(1, 2).bytes()),
         (3, new().digit(0, 0).bytes()),
         (3, rules(1).digit(1, 0).bytes()),
         (3, rules(1).digit(0, 0).term(0, 1).bytes()),
+        (3, new().rule(2).digit(5, 0).bytes()),
+        (3, sums.clone().digit(1, 0).bytes()),
         (4, new().rule(1).digit(0, 0).bytes()),
-        (
-            6,
-            (0..8)
-                .fold(rules(1), TableBuilder::output)
-                .digit(0, 4)
-                .bytes(),
-        ),
+        (6, sums.digit(0, 4).bytes()),
+        (6, digits.clone().digit(0, 4).bytes()),
+        (6, digits.output(0).bytes()),
         (7, rules(1).digit(0, 4).output(-1).bytes()),
     ]
 }
