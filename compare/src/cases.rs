@@ -3,9 +3,12 @@
 
 use reference::builder::{encode, encode_records, TableBuilder};
 use reference::random::Random;
-use reference::samples::{random_input, random_table, t1, t2, t3};
+use reference::samples::{
+    digits_and_sums, four_digits, lookahead, random_input, random_table, t1, t2, t3, two_digits,
+};
 use reference::table::{
-    Group, Range, Record, Table, Term, MAX_LENGTH, MAX_OUTPUTS, MAX_RANGES, MAX_RULES, RECORD_BYTES,
+    Digit, Group, Output, Range, Record, Table, Term, MAX_LENGTH, MAX_OUTPUTS, MAX_RANGES,
+    MAX_RULES, RECORD_BYTES,
 };
 
 /// What direct conversion takes.
@@ -134,13 +137,28 @@ fn damaged(random: &mut Random, base: &Table) -> Vec<u8> {
     table
 }
 
-/// A sound table: a random one, or sometimes one of document 01.
+/// The example tables: those of document 01, one with every sort of state, and
+/// those with digits.
+pub fn examples() -> [Vec<u8>; 7] {
+    [
+        t1(),
+        t2(),
+        t3(),
+        lookahead(),
+        two_digits(),
+        four_digits(),
+        digits_and_sums(),
+    ]
+}
+
+/// A sound table: a random one, or sometimes an example.
 fn base_table(random: &mut Random) -> Table {
     if !random.one_in(8) {
         return random_table(random);
     }
-    let example = random.pick(&[t1, t2, t3]);
-    Table::read(&example()).expect("document 01 accepts its examples")
+    let examples = examples();
+    let example = random.pick(&examples);
+    Table::read(example).expect("the examples are accepted")
 }
 
 /// The length of an output buffer of which so much is needed: too short, exact
@@ -263,18 +281,42 @@ fn changed(random: &mut Random, record: Record) -> Record {
                 constant.wrapping_neg(),
             ]),
         },
-        Record::Term(term) if first => Record::Term(Term {
-            position: near(random, term.position),
-            ..term
-        }),
-        Record::Term(term) => Record::Term(Term {
-            coefficient: near_character(random, term.coefficient as u16) as i16,
-            ..term
-        }),
+        Record::Term(term) => Record::Term(changed_term(random, term)),
         Record::Default => Record::Rule {
             length: 1,
             anchored: false,
         },
+        Record::Digit(digit) => Record::Digit(changed_digit(random, digit)),
+    }
+}
+
+/// The term with another position or coefficient.
+fn changed_term(random: &mut Random, term: Term) -> Term {
+    if random.one_in(3) {
+        Term {
+            position: near(random, term.position),
+            ..term
+        }
+    } else {
+        Term {
+            coefficient: near_character(random, term.coefficient as u16) as i16,
+            ..term
+        }
+    }
+}
+
+/// The digit with another position or shift.
+fn changed_digit(random: &mut Random, digit: Digit) -> Digit {
+    if random.one_in(3) {
+        Digit {
+            position: near(random, digit.position),
+            ..digit
+        }
+    } else {
+        Digit {
+            shift: near(random, usize::from(digit.shift)) as u16,
+            ..digit
+        }
     }
 }
 
@@ -322,7 +364,9 @@ fn crowd(random: &mut Random, table: &mut Vec<u8>) {
     let place = random.below(records.len());
     let added = match records[place] {
         Record::Range { position, range } => rising(position, range, MAX_RANGES + more),
-        Record::Output { .. } => vec![records[place]; MAX_OUTPUTS + more],
+        Record::Output { .. } | Record::Digit(_) => {
+            outputs(random, records[place], MAX_OUTPUTS + more)
+        }
         Record::Rule { .. } => small_rules(MAX_RULES + more),
         Record::Term(_) | Record::Default => return,
     };
@@ -341,6 +385,17 @@ fn rising(position: usize, range: Range, count: usize) -> Vec<Record> {
         .collect()
 }
 
+/// So many output characters: a record, and others of both sorts.
+fn outputs(random: &mut Random, record: Record, count: usize) -> Vec<Record> {
+    let digit = Record::Digit(Digit {
+        position: 0,
+        shift: 4,
+    });
+    let sorts = [record, digit, Record::Output { constant: 48 }];
+    let others = (1..count).map(|_| *random.pick(&sorts));
+    [record].into_iter().chain(others).collect()
+}
+
 /// So many rules of one character each, without output.
 fn small_rules(count: usize) -> Vec<Record> {
     let rule = Record::Rule {
@@ -356,30 +411,41 @@ fn small_rules(count: usize) -> Vec<Record> {
         .collect()
 }
 
-/// Moves the constant of an output character so that its least or its greatest
-/// value comes to lie at 0 or 65535 or one beyond, other groups disregarded.
+/// Moves the constant of a sum so that its least or its greatest value comes to
+/// lie at 0 or 65535 or one beyond, other groups disregarded.
 fn touch_border(random: &mut Random, table: &mut Vec<u8>) {
     let Ok(mut read) = Table::read(table) else {
         return;
     };
     let groups = read.rules.iter_mut().chain(&mut read.default);
-    let mut groups: Vec<_> = groups.filter(|group| !group.outputs.is_empty()).collect();
-    if groups.is_empty() {
+    let mut sums: Vec<_> = groups.flat_map(extremes_of_sums).collect();
+    if sums.is_empty() {
         return;
     }
-    let group = random.below(groups.len());
-    let group = &mut groups[group];
-    let place = random.below(group.outputs.len());
-    let (least, greatest) = group.extremes(&group.outputs[place]);
+    let place = random.below(sums.len());
+    let (constant, (least, greatest)) = &mut sums[place];
     let moved = *random.pick(&[
-        -least,
-        -least - 1,
-        i64::from(u16::MAX) - greatest,
-        i64::from(u16::MAX) - greatest + 1,
+        -*least,
+        -*least - 1,
+        i64::from(u16::MAX) - *greatest,
+        i64::from(u16::MAX) - *greatest + 1,
     ]);
-    let constant = i64::from(group.outputs[place].constant) + moved;
-    if let Ok(constant) = i32::try_from(constant) {
-        group.outputs[place].constant = constant;
+    if let Ok(moved) = i32::try_from(i64::from(**constant) + moved) {
+        **constant = moved;
         *table = encode(&read);
     }
+}
+
+/// The constants of a group's sums, each with the sum's least and greatest value.
+fn extremes_of_sums(group: &mut Group) -> Vec<(&mut i32, (i64, i64))> {
+    let extremes = group.outputs.iter().filter_map(|output| match output {
+        Output::Sum(sum) => Some(group.extremes(sum)),
+        Output::Digit(_) => None,
+    });
+    let extremes: Vec<(i64, i64)> = extremes.collect();
+    let constants = group.outputs.iter_mut().filter_map(|output| match output {
+        Output::Sum(sum) => Some(&mut sum.constant),
+        Output::Digit(_) => None,
+    });
+    constants.zip(extremes).collect()
 }

@@ -1,5 +1,5 @@
 //! Damaged machine words and sessions. The places are those of document 01's
-//! layout, written out.
+//! layout with request \[1\]'s blocks, written out.
 
 use reference::lengths::MAX_RECEIVED;
 use reference::random::Random;
@@ -88,7 +88,7 @@ impl Base {
         let (states, classes) = (self.count(0), self.count(1));
         let (state, class) = (random.below(states), random.below(classes));
         let rule = random.below(self.count(4) + 1);
-        let block = 17222 + 75 * if rule == self.count(4) { 32 } else { rule };
+        let block = 17222 + 83 * if rule == self.count(4) { 32 } else { rule };
         match part {
             Part::Header => random.below(6),
             Part::Starts => 6 + class,
@@ -96,7 +96,7 @@ impl Base {
             Part::Targets if random.one_in(2) => 838 + 64 * state + class,
             Part::Targets => *random.pick(&self.targets),
             Part::Blocks if random.one_in(3) => block + random.below(3),
-            Part::Blocks => block + 3 + random.below(72),
+            Part::Blocks => block + 3 + random.below(80),
             Part::Others if random.one_in(2) => self.beyond(random, state),
             Part::Others => random.below(self.words.len()),
         }
@@ -111,7 +111,7 @@ impl Base {
             1 if states < 256 => 70 + 3 * states + random.below(3),
             2 if classes < 64 => 838 + 64 * state + classes,
             3 if states < 256 => 838 + 64 * states + random.below(64),
-            4 if rules < 32 => 17222 + 75 * rules + random.below(3),
+            4 if rules < 32 => 17222 + 83 * rules + random.below(3),
             _ => random.below(self.words.len()),
         }
     }

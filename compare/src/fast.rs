@@ -27,16 +27,27 @@ enum Action {
     Accept(u8),
 }
 
-/// An output character: a constant, and terms of a position and a coefficient,
-/// of which the first so many are in use.
+/// The hexadecimal digits.
+const DIGITS: [u8; 16] = *b"0123456789ABCDEF";
+
+/// A sum: a constant, and terms of a position and a coefficient, of which the
+/// first so many are in use.
 #[derive(Clone, Copy, Default)]
-struct Output {
+struct Sum {
     constant: u16,
     count: u8,
     terms: [(u8, u16); 8],
 }
 
-/// A default's output: often one character, and at most one term.
+/// An output character.
+#[derive(Clone, Copy)]
+enum Output {
+    Sum(Sum),
+    /// The digit of the character at a position by a shift.
+    Digit(u8, u8),
+}
+
+/// A default's output: often one sum, with at most one term.
 enum DefaultOutput {
     One { constant: u16, coefficient: u16 },
     Many(Vec<Output>),
@@ -320,17 +331,27 @@ fn leave(session: &mut Session, piece: usize, gone: usize, text: &[u16], run: &P
 #[inline(always)]
 fn write(outputs: &[Output], store: &[u16], room: &mut [u16]) -> usize {
     for (place, output) in room.iter_mut().zip(outputs) {
+        *place = match output {
+            Output::Sum(sum) => sum.value(store),
+            Output::Digit(position, shift) => {
+                let character = store[usize::from(*position)];
+                u16::from(DIGITS[usize::from(character >> (shift & 15)) & 15])
+            }
+        };
+    }
+    outputs.len()
+}
+
+impl Sum {
+    /// The value for a store.
+    #[inline(always)]
+    fn value(&self, store: &[u16]) -> u16 {
         let product = |&(position, coefficient): &(u8, u16)| {
             coefficient.wrapping_mul(store[usize::from(position)])
         };
-        let products = output
-            .terms
-            .iter()
-            .take(usize::from(output.count))
-            .map(product);
-        *place = products.fold(output.constant, u16::wrapping_add);
+        let used = self.terms.iter().take(usize::from(self.count));
+        used.map(product).fold(self.constant, u16::wrapping_add)
     }
-    outputs.len()
 }
 
 /// What to do in a state before a character of a class.
@@ -357,38 +378,44 @@ fn named(word: u16) -> Option<u8> {
 
 /// The output characters of a block.
 fn outputs(words: &[u16], block: usize) -> Vec<Output> {
-    let block = &words[17222 + 75 * block..][..75];
+    let block = &words[17222 + 83 * block..][..83];
     let length = usize::from(block[0]);
-    let outputs = block[3..].chunks_exact(9).take(usize::from(block[2]));
+    let outputs = block[3..].chunks_exact(10).take(usize::from(block[2]));
     outputs
-        .map(|output| terms(output[0], &output[1..=length]))
+        .map(|output| {
+            let sum = sum(output[1], &output[2..][..length]);
+            match output[0] {
+                0 => Output::Sum(sum),
+                _ => Output::Digit(sum.terms[0].0, sum.constant as u8),
+            }
+        })
         .collect()
 }
 
-/// An output character out of its constant and its coefficients by position, of
-/// which those that are not 0 count.
-fn terms(constant: u16, coefficients: &[u16]) -> Output {
-    let mut output = Output {
+/// A sum out of its constant and its coefficients by position, of which those
+/// that are not 0 count.
+fn sum(constant: u16, coefficients: &[u16]) -> Sum {
+    let mut sum = Sum {
         constant,
-        ..Output::default()
+        ..Sum::default()
     };
     for (position, &coefficient) in (0..).zip(coefficients) {
         if coefficient != 0 {
-            output.terms[usize::from(output.count)] = (position, coefficient);
-            output.count += 1;
+            sum.terms[usize::from(sum.count)] = (position, coefficient);
+            sum.count += 1;
         }
     }
-    output
+    sum
 }
 
 /// The default's output.
 fn default(outputs: Vec<Output>) -> DefaultOutput {
     match outputs[..] {
-        [Output {
+        [Output::Sum(Sum {
             constant,
             terms: [(_, coefficient), ..],
             ..
-        }] => DefaultOutput::One {
+        })] => DefaultOutput::One {
             constant,
             coefficient,
         },

@@ -3,7 +3,10 @@
 //!
 //! - [`face`]: the functions of `include/cobbletwill.h`, safe to call
 //! - [`cases`]: random tables, sound and damaged, with inputs and buffers
+//! - [`digits`]: tables with digits, and damage to their records and entries
+//! - [`both`]: direct conversion, compiling and the test of words by both
 //! - [`calls`]: feeds and finishes by both, and random ones
+//! - [`lists`]: lists of calls by both, beside the reckoning
 //! - [`damage`]: damaged machine words and sessions
 //! - [`fast`]: the rollback machine written for speed
 //! - `flex`: T1's rules as a scanner that flex generates (feature `flex`)
@@ -13,10 +16,13 @@
 #![deny(unsafe_op_in_unsafe_fn)]
 #![warn(missing_docs)]
 
+pub mod both;
 pub mod calls;
 pub mod cases;
 pub mod damage;
+pub mod digits;
 pub mod face;
 pub mod fast;
 #[cfg(feature = "flex")]
 pub mod flex;
+pub mod lists;

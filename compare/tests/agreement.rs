@@ -3,92 +3,22 @@
 
 use std::collections::BTreeMap;
 
+use compare::both::convert;
 use compare::cases::{cases, pattern, Case};
-use compare::face::{check, convert, OK, STOPPED};
-use reference::direct;
-use reference::meaning::Ending;
-use reference::refusal::Refusal;
-use reference::samples::{lookahead, t1, t2, t3};
-use reference::table::Table;
+use compare::face::{OK, STOPPED};
+use reference::samples::{digits_and_sums, lookahead, t1, t2, t3, two_digits};
 
 /// The seed of the random cases.
 const SEED: u64 = 1_099_511_627_776;
 /// How many random cases are compared.
 const CASES: usize = 200_000;
 
-/// What a call answers and leaves.
-#[derive(Debug, PartialEq, Eq)]
-struct Left {
-    code: u32,
-    place: u64,
-    count: u64,
-    output: Vec<u16>,
-}
-
-/// What the place and the count are before a call.
-const FOUND: (u64, u64) = (0x1234_5678_9abc_def0, u64::MAX);
-
-/// What the library answers and leaves.
-fn by_library(case: &Case) -> Left {
-    let (mut place, mut count) = FOUND;
-    let mut output = case.output.clone();
-    let code = convert(
-        &case.table,
-        &case.input,
-        &mut output,
-        &mut place,
-        &mut count,
-    );
-    Left {
-        code,
-        place,
-        count,
-        output,
-    }
-}
-
-/// What the independent version answers and leaves.
-fn by_reference(case: &Case) -> Left {
-    let mut output = case.output.clone();
-    let answer = direct::convert(&case.table, &case.input, &mut output);
-    let (code, (place, count)) = match answer {
-        Ok(conversion) => (
-            match conversion.ending {
-                Ending::Closed => OK,
-                Ending::Stopped => STOPPED,
-            },
-            (conversion.place as u64, conversion.count as u64),
-        ),
-        Err(refusal) => (number(refusal), FOUND),
-    };
-    Left {
-        code,
-        place,
-        count,
-        output,
-    }
-}
-
-/// The number that a refusal answers.
-fn number(refusal: Refusal) -> u32 {
-    u32::from(refusal.number())
-}
-
-/// Compares one case; answers what both left.
-fn compare(case: &Case) -> Left {
-    let expected = by_reference(case);
-    assert_eq!(by_library(case), expected, "{case:?}");
-    let accepted = Table::read(&case.table).map_or_else(number, |_| OK);
-    assert_eq!(check(&case.table), accepted, "{case:?}");
-    expected
-}
-
 #[test]
 fn random_and_damaged_cases() {
     let mut seen: BTreeMap<u32, usize> = BTreeMap::new();
     let (mut stopped_late, mut with_text, mut exact, mut rest_kept) = (0, 0, 0, 0);
     for case in cases(SEED).take(CASES) {
-        let left = compare(&case);
+        let left = convert(&case);
         *seen.entry(left.code).or_default() += 1;
         if left.code == OK || left.code == STOPPED {
             let written = left.count as usize;
@@ -125,12 +55,14 @@ fn a_seed_gives_the_same_cases_each_time_and_another_seed_others() {
 }
 
 /// The example tables, each with an input that its rules meet.
-fn examples() -> [(Vec<u8>, &'static str); 4] {
+fn examples() -> [(Vec<u8>, &'static str); 6] {
     [
         (t1(), "&&#00;&#38;&#4&#"),
         (t2(), "aaa"),
         (t3(), "abaabcaba"),
         (lookahead(), "aaabbaba"),
+        (two_digits(), "\0\t\n09:AZ\u{99}\u{9a}\u{ff}"),
+        (digits_and_sums(), "aZba\u{a9bc}baab"),
     ]
 }
 
@@ -147,7 +79,7 @@ fn every_change_of_one_byte_of_the_example_tables() {
             let found = case.table[place];
             for byte in (0..=u8::MAX).filter(|&byte| byte != found) {
                 case.table[place] = byte;
-                let code = compare(&case).code;
+                let code = convert(&case).code;
                 accepted += usize::from(code == OK || code == STOPPED);
             }
             case.table[place] = found;
@@ -160,7 +92,7 @@ fn every_change_of_one_byte_of_the_example_tables() {
 fn every_cut_of_the_example_tables() {
     for (table, input) in examples() {
         for length in 0..=table.len() {
-            compare(&Case {
+            convert(&Case {
                 table: table[..length].to_vec(),
                 input: input.encode_utf16().collect(),
                 output: pattern(7, 8 * input.len()),
@@ -173,7 +105,7 @@ fn every_cut_of_the_example_tables() {
 fn every_length_of_the_output_buffer() {
     for (table, input) in examples() {
         for room in 0..=8 * input.len() {
-            compare(&Case {
+            convert(&Case {
                 table: table.clone(),
                 input: input.encode_utf16().collect(),
                 output: pattern(7, room),
@@ -202,12 +134,13 @@ fn every_short_input_under_the_example_tables() {
         (t2(), "ab", 8),
         (t3(), "abc", 8),
         (lookahead(), "abc", 8),
+        (digits_and_sums(), "abZ", 8),
     ];
     for (table, letters, longest) in tables {
         let letters: Vec<u16> = letters.encode_utf16().collect();
         for length in 0..=longest {
             for input in inputs(&letters, length) {
-                compare(&Case {
+                convert(&Case {
                     table: table.clone(),
                     output: pattern(7, 5 * length),
                     input,
@@ -221,7 +154,7 @@ fn every_short_input_under_the_example_tables() {
 fn long_inputs() {
     for (table, input) in examples() {
         let input: Vec<u16> = input.encode_utf16().collect();
-        let left = compare(&Case {
+        let left = convert(&Case {
             table,
             output: pattern(7, 5 * 20_000 * input.len()),
             input: input.repeat(20_000),

@@ -1,12 +1,16 @@
 //! Every example of document 01 through the C face, by direct conversion and by
-//! feed and finish, with its answers copied from the document.
+//! feed and finish, with its answers copied from the document, and tables with
+//! digits, with answers worked out by hand.
 
 use compare::calls::{by_library, fed, roomy_feed, Left, ROOMY_FINISH};
 use compare::cases::pattern;
 use compare::face::{check, convert, converted};
 use compare::face::{compile, Session, OK, OPEN, STOPPED};
 use reference::builder::{characters, TableBuilder};
-use reference::samples::{refused_tables, rules, t1, t1_with, t2, t3, t3_with_default};
+use reference::samples::{
+    digits_and_sums, four_digits, refused_tables, rules, t1, t1_with, t2, t3, t3_with_default,
+    two_digits,
+};
 use reference::words::WORDS;
 
 /// Converts an input into a long buffer and looks at all that the call leaves:
@@ -201,16 +205,15 @@ fn fed_text(table: &[u8], pieces: &[&str]) -> (u32, String, u64, u64) {
 /// An input that is closed, fed whole, in single characters and with empty pieces
 /// between them.
 fn expect_fed(table: &[u8], input: &str, text: &str, steps: u64) {
-    expect_fed_to(table, input, (1, text, input.len(), steps));
+    let consumed = characters(input).len();
+    expect_fed_to(table, input, (1, text, consumed, steps));
 }
 
 /// As [`expect_fed`], to any end.
 fn expect_fed_to(table: &[u8], input: &str, expected: (u32, &str, usize, u64)) {
     let (status, text, consumed, steps) = expected;
     let expected = (status, text.to_string(), consumed as u64, steps);
-    let single: Vec<&str> = (0..input.len())
-        .map(|place| &input[place..=place])
-        .collect();
+    let single: Vec<&str> = input.split_inclusive(|_: char| true).collect();
     let spaced: Vec<&str> = single.iter().flat_map(|&piece| [piece, ""]).collect();
     for pieces in [&[input], &single[..], &spaced[..]] {
         assert_eq!(fed_text(table, pieces), expected, "{pieces:?}");
@@ -233,6 +236,33 @@ fn the_lines_marked_p_by_feed_and_finish() {
 fn the_programs_example_by_feed_and_finish() {
     // `end 6 10`.
     expect_fed(&t1(), "A&#38;", "A&", 10);
+}
+
+#[test]
+fn tables_with_digits() {
+    expect_closed(&two_digits(), "\0IJO \x7f", "00494A4F207F");
+    expect_closed(&two_digits(), "\u{99}\u{9a}\u{a9}\u{ff}", "999AA9FF");
+    let above = characters("A\u{100}B");
+    expect(&two_digits(), &above, &characters("41"), STOPPED, 1);
+    expect_closed(&four_digits(), "\u{9a}\u{a9bc}\u{ffff}", "009AA9BCFFFF");
+    expect_closed(&digits_and_sums(), "aZba", "%5A1");
+    // 65535 less 97 is 65438, 0xff9e.
+    expect_closed(&digits_and_sums(), "aa", "0\u{ff9e}1");
+}
+
+#[test]
+fn tables_with_digits_by_feed_and_finish() {
+    // A take and an emit each, and the close.
+    expect_fed(&two_digits(), "\0IJO \x7f", "00494A4F207F", 13);
+    let bytes = "\u{99}\u{9a}\u{a9}\u{ff}";
+    expect_fed(&two_digits(), bytes, "999AA9FF", 9);
+    expect_fed_to(&two_digits(), "A\u{100}B", (2, "41", 1, 4));
+    let characters = "\u{9a}\u{a9bc}\u{ffff}";
+    expect_fed(&four_digits(), characters, "009AA9BCFFFF", 7);
+    // Three takes and an emit, a take and an emit at the end.
+    expect_fed(&digits_and_sums(), "aZba", "%5A1", 7);
+    // Two takes and a back, twice a take and an emit.
+    expect_fed(&digits_and_sums(), "aa", "0\u{ff9e}1", 8);
 }
 
 #[test]

@@ -2,7 +2,7 @@
 //! times a machine that does the whole job.
 
 use compare::calls::{by_reference, next_piece, roomy_feed, ROOMY_FINISH};
-use compare::cases::sound_tables;
+use compare::cases::{examples, sound_tables};
 use compare::face::{Session, OK, OPEN, STOPPED};
 use compare::fast::Fast;
 use reference::builder::encode;
@@ -10,7 +10,7 @@ use reference::compile::compiled;
 use reference::random::Random;
 use reference::reckoning::Call;
 use reference::refusal::Refusal;
-use reference::samples::{lookahead, random_input, t1, t2, t3};
+use reference::samples::random_input;
 use reference::table::Table;
 use reference::words::WORDS;
 
@@ -65,7 +65,7 @@ fn random_tables() {
 #[test]
 fn example_tables() {
     let mut random = Random::new(SEED + 2);
-    for table in [t1(), t2(), t3(), lookahead()] {
+    for table in examples() {
         let words = compiled(&table).expect("the example tables compile");
         let table = Table::read(&table).expect("they are accepted");
         for _ in 0..500 {

@@ -3,18 +3,17 @@
 
 use std::collections::BTreeMap;
 
-use compare::calls::{code, compare, fed, next_piece, random_call, written, Left};
+use compare::calls::{compare, fed, next_piece, random_call, Left};
 use compare::cases::sound_tables;
 use compare::damage::{damaged_session, further, Base, Field, Part};
 use compare::face::{self, Session, OK, OPEN, STOPPED};
-use reference::automaton::{Automaton, TableAutomaton};
+use compare::lists::{Called, Compiled};
+use reference::automaton::Automaton;
 use reference::builder::encode;
 use reference::machine::{Machine, Step};
 use reference::random::Random;
-use reference::reckoning::{reckon, Call};
-use reference::samples::random_input;
+use reference::reckoning::Call;
 use reference::states::StateNo;
-use reference::table::Table;
 use reference::words::{Words, WORDS};
 
 /// The seed of the random tables.
@@ -26,29 +25,9 @@ const BASES: usize = 4_000;
 /// How many inputs are fed in three ways.
 const INPUTS: usize = 6_000;
 
-/// A table that compiles, with its words, which the library made.
-struct Compiled {
-    automaton: TableAutomaton,
-    words: Vec<u16>,
-}
-
 /// The tables of a seed that compile.
 fn machines(seed: u64) -> impl Iterator<Item = Compiled> {
-    sound_tables(seed).filter_map(|table: Table| {
-        let bytes = encode(&table);
-        let automaton = TableAutomaton::of(table).ok()?;
-        let mut words = vec![0; WORDS];
-        assert_eq!(face::compile(&bytes, &mut words), OK);
-        Some(Compiled { automaton, words })
-    })
-}
-
-impl Compiled {
-    /// A random input of up to 200 characters.
-    fn input(&self, random: &mut Random) -> Vec<u16> {
-        let length = random.below(201);
-        random_input(random, &self.automaton.table, length)
-    }
+    sound_tables(seed).filter_map(Compiled::of)
 }
 
 /// What was met: answers, steps by their sort, and rules that only the input's
@@ -111,53 +90,6 @@ impl Met {
     }
 }
 
-/// A session under random calls, compared after each.
-struct Called {
-    session: Session,
-    calls: Vec<Call>,
-    codes: Vec<u32>,
-    text: Vec<u16>,
-}
-
-impl Called {
-    /// So many random calls of a fresh session.
-    fn random(random: &mut Random, machine: &Compiled, calls: i64, met: &mut Met) -> Called {
-        let input = machine.input(random);
-        let mut unread = &input[..];
-        let mut called = Called {
-            session: Session::FRESH,
-            calls: Vec::new(),
-            codes: Vec::new(),
-            text: Vec::new(),
-        };
-        for _ in 0..calls {
-            let call = random_call(random, &machine.words, &called.session, &mut unread);
-            let left = compare(&machine.words, called.session, &call);
-            met.note(&machine.words, &called.session, &call, &left);
-            called.text.extend(left.text());
-            called.codes.push(left.code);
-            called.session = left.session;
-            called.calls.push(call);
-        }
-        called
-    }
-}
-
-/// Demand 3: the answers, the session and the joined outputs are those of the
-/// reckoning, which needs only the table and the calls.
-fn assert_reckoned(machine: &Compiled, called: &Called) {
-    let reckoning = reckon(&machine.automaton, &called.calls);
-    let codes: Vec<u32> = reckoning.answers.iter().copied().map(code).collect();
-    assert_eq!(called.codes, codes, "{:?}", called.calls);
-    assert_eq!(
-        called.session,
-        written(&reckoning.session),
-        "{:?}",
-        called.calls
-    );
-    assert_eq!(called.text, reckoning.output, "{:?}", called.calls);
-}
-
 /// The guards are a third or less of what the odds give. A list has 2 to 16
 /// calls, 9 in the mean: 9 LISTS of calls. One call in twelve is a finish, so that
 /// half of the lists have one, and a third of the tables has no default, so that
@@ -174,8 +106,10 @@ fn random_lists_of_calls() {
     let mut met = Met::default();
     for machine in machines(SEED).take(LISTS) {
         let calls = random.between(2, 16);
-        let called = Called::random(&mut random, &machine, calls, &mut met);
-        assert_reckoned(&machine, &called);
+        let called = Called::random(&mut random, &machine, calls, |session, call, left| {
+            met.note(&machine.words, session, call, left)
+        });
+        called.assert_reckoned(&machine);
     }
     println!("{met:?}");
     met.answered(&[
@@ -210,7 +144,7 @@ fn damaged_sessions() {
     let mut refused: BTreeMap<String, usize> = BTreeMap::new();
     for machine in machines(SEED + 2).take(BASES) {
         let calls = random.between(0, 4);
-        let session = Called::random(&mut random, &machine, calls, &mut Met::default()).session;
+        let session = Called::random(&mut random, &machine, calls, |_, _, _| ()).session;
         let input = machine.input(&mut random);
         for field in Field::all() {
             let damaged = damaged_session(&mut random, &machine.words, &session, field);
@@ -277,7 +211,7 @@ fn damaged_words() {
     let (mut met, mut unfit) = (Met::default(), 0);
     for machine in machines(SEED + 4).take(BASES) {
         let calls = random.between(0, 4);
-        let session = Called::random(&mut random, &machine, calls, &mut Met::default()).session;
+        let session = Called::random(&mut random, &machine, calls, |_, _, _| ()).session;
         let input = machine.input(&mut random);
         let base = Base::new(machine.words);
         for part in Part::ALL.into_iter().flat_map(|part| [part; 2]) {

@@ -1,10 +1,17 @@
 //! Writing tables as record bytes.
 
-use crate::table::{Group, Range, Record, Table, Term};
+use crate::table::{Digit, Group, Output, Range, Record, Table, Term};
 
 /// The characters of a text, 16-bit units.
 pub fn characters(text: &str) -> Vec<u16> {
     text.encode_utf16().collect()
+}
+
+/// A character's four hexadecimal digits, the upper first, as Rust writes them:
+/// for tests, beside the paper's words in [`crate::meaning::digit`].
+pub fn hexadecimal(character: u16) -> [u16; 4] {
+    let written = format!("{character:04X}").into_bytes();
+    [0, 1, 2, 3].map(|place| u16::from(written[place]))
 }
 
 /// The bytes of a list of records.
@@ -25,7 +32,7 @@ pub fn records(table: &Table) -> Vec<Record> {
 }
 
 /// "A rule's group is kind 1, its ranges, its output characters, each followed
-/// by its terms."
+/// by its terms"; a digit has none.
 fn rule_records(rule: &Group) -> Vec<Record> {
     let mut records = vec![Record::Rule {
         length: rule.length(),
@@ -52,12 +59,15 @@ fn default_records(default: &Group) -> Vec<Record> {
 /// Output characters, each followed by its terms.
 fn output_records(group: &Group) -> impl Iterator<Item = Record> + '_ {
     group.outputs.iter().flat_map(|output| {
-        let constant = Record::Output {
-            constant: output.constant,
+        let (first, terms) = match output {
+            Output::Sum(sum) => {
+                let constant = sum.constant;
+                (Record::Output { constant }, &sum.terms[..])
+            }
+            Output::Digit(digit) => (Record::Digit(*digit), &[][..]),
         };
-        [constant]
-            .into_iter()
-            .chain(output.terms.iter().copied().map(Record::Term))
+        let terms = terms.iter().copied().map(Record::Term);
+        [first].into_iter().chain(terms)
     })
 }
 
@@ -128,6 +138,11 @@ impl TableBuilder {
     /// Kind 5.
     pub fn default_group(self) -> Self {
         self.record(Record::Default)
+    }
+
+    /// Kind 6.
+    pub fn digit(self, position: usize, shift: u16) -> Self {
+        self.record(Record::Digit(Digit { position, shift }))
     }
 
     /// The default that writes x0.

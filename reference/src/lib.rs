@@ -1,5 +1,6 @@
 //! An independent version of the rollback converter, written from document 01
-//! alone, for comparison with the definitions and the code of the project.
+//! and request \[1\] of document 02 alone, for comparison with the definitions and
+//! the code of the project.
 //!
 //! The modules in document 01's order:
 //!

@@ -1,8 +1,37 @@
 //! What a table means: exact values, and Definition 7.
 
-use crate::table::{Group, Output, Table};
+use crate::table::{Digit, Group, Output, Sum, Table};
+
+/// A character's digit: "its value v is the character divided by 2 to that
+/// shift, rounded down, modulo 16. The output is 48 + v when v is below 10, and
+/// 55 + v from 10 to 15."
+pub fn digit(character: u16, shift: u16) -> u16 {
+    let v = character / 2u16.pow(u32::from(shift)) % 16;
+    if v < 10 {
+        48 + v
+    } else {
+        55 + v
+    }
+}
 
 impl Output {
+    /// The exact value for a word that fits the group.
+    pub fn value(&self, word: &[u16]) -> i64 {
+        match self {
+            Output::Sum(sum) => sum.value(word),
+            Output::Digit(digit) => i64::from(digit.value(word)),
+        }
+    }
+}
+
+impl Digit {
+    /// The digit of the character at its position.
+    pub fn value(&self, word: &[u16]) -> u16 {
+        digit(word[self.position], self.shift)
+    }
+}
+
+impl Sum {
     /// "Its constant plus each coefficient times the character at that
     /// position", exactly.
     pub fn value(&self, word: &[u16]) -> i64 {

@@ -24,9 +24,9 @@ pub enum Refusal {
     Classes = 8,
     /// 9: a 257th state.
     States = 9,
-    /// 10: under 19,697 words for compiling.
+    /// 10: under 19,961 words for compiling.
     ShortWords = 10,
-    /// 11: under 19,697 words, or words that are not sound.
+    /// 11: under 19,961 words, or words that are not sound.
     UnsoundWords = 11,
     /// 12: the session is not sound.
     UnsoundSession = 12,

@@ -1,9 +1,11 @@
-//! The example tables of document 01, refused tables, and random tables and
-//! inputs.
+//! The example tables of document 01, encoders by digits, refused tables, and
+//! random tables and inputs.
 
 use crate::builder::TableBuilder;
 use crate::random::Random;
-use crate::table::{Group, Output, Range, Table, Term, MAX_OUTPUTS, MAX_RANGES, MAX_RULES};
+use crate::table::{
+    Digit, Group, Output, Range, Sum, Table, Term, MAX_OUTPUTS, MAX_RANGES, MAX_RULES, SHIFTS,
+};
 
 /// T1: `&#00;` writes itself; `&#`, two digits, `;` writes 10 × x2 + x3 - 528;
 /// anchored `&#` writes itself; default writes x0.
@@ -82,6 +84,44 @@ pub fn lookahead() -> Vec<u8> {
         .bytes()
 }
 
+/// "Every byte as two digits": one rule, without default.
+pub fn two_digits() -> Vec<u8> {
+    let byte = TableBuilder::new().rule(1).range(0, 0, 255);
+    byte.digit(0, 4).digit(0, 0).bytes()
+}
+
+/// Every character as four digits: one rule, without default.
+pub fn four_digits() -> Vec<u8> {
+    let any = TableBuilder::new().rule(1).range(0, 0, 65535);
+    let shifts = SHIFTS.into_iter().rev();
+    shifts
+        .fold(any, |table, shift| table.digit(0, shift))
+        .bytes()
+}
+
+/// Digits beside sums and of several positions: `a`, any character and `b` write
+/// a per cent sign and the two lower digits of the middle one, `a` at the end
+/// writes its lower digit; by default a character's upper digit is written, and
+/// 65535 less the character.
+pub fn digits_and_sums() -> Vec<u8> {
+    TableBuilder::new()
+        .rule(3)
+        .spelled(0, "a")
+        .range(1, 0, 65535)
+        .spelled(2, "b")
+        .text("%")
+        .digit(1, 4)
+        .digit(1, 0)
+        .anchored(1)
+        .spelled(0, "a")
+        .digit(0, 0)
+        .default_group()
+        .digit(0, 12)
+        .output(65535)
+        .term(0, -1)
+        .bytes()
+}
+
 /// The table with one more rule: `a` writes nothing.
 pub fn rule_a(table: TableBuilder) -> TableBuilder {
     table.rule(1).spelled(0, "a")
@@ -94,9 +134,9 @@ pub fn rules(count: usize) -> TableBuilder {
 
 /// Tables that compiling and direct conversion refuse, by 1 to 7, each with the
 /// number that document 01's "Refusals by who causes them" gives it.
-pub fn refused_tables() -> [(u8, Vec<u8>); 10] {
+pub fn refused_tables() -> Vec<(u8, Vec<u8>)> {
     let new = TableBuilder::new;
-    [
+    let mut tables = vec![
         (1, vec![1]),
         (2, new().rule(1).range(0, 98, 97).bytes()),
         (3, new().output(1).bytes()),
@@ -107,6 +147,32 @@ pub fn refused_tables() -> [(u8, Vec<u8>); 10] {
         (6, (0..9).fold(rules(1), TableBuilder::output).bytes()),
         (7, rules(1).output(-1).bytes()),
         (7, rules(1).output(65536).bytes()),
+    ];
+    tables.extend(refused_digits());
+    tables
+}
+
+/// Tables with digits that are refused, some by two numbers, of which the first
+/// counts.
+fn refused_digits() -> [(u8, Vec<u8>); 14] {
+    let new = TableBuilder::new;
+    let sums = (0..8).fold(rules(1), TableBuilder::output);
+    let digits = (0..8).fold(rules(1), |table, _| table.digit(0, 12));
+    [
+        (2, rules(1).digit(8, 0).bytes()),
+        (2, rules(1).digit(0, 5).bytes()),
+        (2, new().digit(0, 1).bytes()),
+        (2, rules(1).digit(1, 2).bytes()),
+        (3, new().digit(0, 0).bytes()),
+        (3, rules(1).digit(1, 0).bytes()),
+        (3, rules(1).digit(0, 0).term(0, 1).bytes()),
+        (3, new().rule(2).digit(5, 0).bytes()),
+        (3, sums.clone().digit(1, 0).bytes()),
+        (4, new().rule(1).digit(0, 0).bytes()),
+        (6, sums.digit(0, 4).bytes()),
+        (6, digits.clone().digit(0, 4).bytes()),
+        (6, digits.output(0).bytes()),
+        (7, rules(1).digit(0, 4).output(-1).bytes()),
     ]
 }
 
@@ -218,26 +284,41 @@ fn random_outputs(random: &mut Random, mut group: Group) -> Group {
     group
 }
 
-/// A random output character whose values lie in 0 to 65535, often touching one
-/// of these.
+/// A random output character: a digit once in four times, else a sum.
 fn random_output(random: &mut Random, group: &Group) -> Output {
-    let mut output = Output {
+    match random.below(4) {
+        0 => Output::Digit(random_digit(random, group.length())),
+        _ => Output::Sum(random_sum(random, group)),
+    }
+}
+
+/// A random digit of a word of a length.
+pub fn random_digit(random: &mut Random, length: usize) -> Digit {
+    Digit {
+        position: random.below(length),
+        shift: *random.pick(&SHIFTS),
+    }
+}
+
+/// A random sum whose values lie in 0 to 65535, often touching one of these.
+fn random_sum(random: &mut Random, group: &Group) -> Sum {
+    let mut sum = Sum {
         constant: 0,
         terms: random_terms(random, group.length()),
     };
-    let (lowest, highest) = constants(group, &output).unwrap_or_else(|| {
-        output.terms.clear();
+    let (lowest, highest) = constants(group, &sum).unwrap_or_else(|| {
+        sum.terms.clear();
         (0, i32::from(u16::MAX))
     });
     let any = random.between(i64::from(lowest), i64::from(highest)) as i32;
-    output.constant = *random.pick(&[lowest, highest, any, any]);
-    output
+    sum.constant = *random.pick(&[lowest, highest, any, any]);
+    sum
 }
 
-/// The lowest and the highest constant that keep an output character's values,
-/// its own constant being 0, in 0 to 65535, if there are such.
-fn constants(group: &Group, output: &Output) -> Option<(i32, i32)> {
-    let (least, greatest) = group.extremes(output);
+/// The lowest and the highest constant that keep a sum's values, its own
+/// constant being 0, in 0 to 65535, if there are such.
+fn constants(group: &Group, sum: &Sum) -> Option<(i32, i32)> {
+    let (least, greatest) = group.extremes(sum);
     let lowest = i32::try_from(-least).ok()?;
     let highest = i32::try_from(i64::from(u16::MAX) - greatest).ok()?;
     (lowest <= highest).then_some((lowest, highest))

@@ -12,6 +12,8 @@ pub const MAX_RANGES: usize = 4;
 pub const MAX_OUTPUTS: usize = 8;
 /// The most rules of a table.
 pub const MAX_RULES: usize = 32;
+/// "A shift of 0, 4, 8 or 12."
+pub const SHIFTS: [u16; 4] = [0, 4, 8, 12];
 
 /// A rule number: rules are numbered from 0.
 #[derive(Clone, Copy, Debug, PartialEq, Eq, PartialOrd, Ord, Hash)]
@@ -63,13 +65,31 @@ pub struct Term {
     pub coefficient: i16,
 }
 
-/// An output character: a signed constant and its terms.
+/// A sum: a signed constant and its terms.
 #[derive(Clone, Debug, PartialEq, Eq)]
-pub struct Output {
+pub struct Sum {
     /// The signed constant.
     pub constant: i32,
     /// The terms, rising strictly by position.
     pub terms: Vec<Term>,
+}
+
+/// A hexadecimal digit of the character at a position.
+#[derive(Clone, Copy, Debug, PartialEq, Eq)]
+pub struct Digit {
+    /// The position, counted from 0.
+    pub position: usize,
+    /// One of [`SHIFTS`].
+    pub shift: u16,
+}
+
+/// An output character.
+#[derive(Clone, Debug, PartialEq, Eq)]
+pub enum Output {
+    /// Kind 3 and its terms.
+    Sum(Sum),
+    /// Kind 6, which takes no terms.
+    Digit(Digit),
 }
 
 /// A group: a rule with its ranges and output characters, or the default.
@@ -121,14 +141,26 @@ impl Group {
         self.positions.iter().all(|ranges| !ranges.is_empty())
     }
 
-    /// The least and the greatest value of an output character over the words
-    /// that fit the group, other rules disregarded. Each position's character
-    /// is free of the others', so each term has its extremes at its position's
-    /// lowest and highest character.
-    pub fn extremes(&self, output: &Output) -> (i64, i64) {
-        let constant = i64::from(output.constant);
-        output
-            .terms
+    /// An output character, of kind 3 or 6, ends the ranges (4); a ninth of
+    /// either kind is refused by 6.
+    fn add_output(&mut self, output: Output) -> Result<(), Refusal> {
+        if !self.is_filled() {
+            return Err(Refusal::Unfilled);
+        }
+        if self.outputs.len() == MAX_OUTPUTS {
+            return Err(Refusal::TooMany);
+        }
+        self.outputs.push(output);
+        Ok(())
+    }
+
+    /// The least and the greatest value of a sum over the words that fit the
+    /// group, other rules disregarded. Each position's character is free of the
+    /// others', so each term has its extremes at its position's lowest and
+    /// highest character.
+    pub fn extremes(&self, sum: &Sum) -> (i64, i64) {
+        let constant = i64::from(sum.constant);
+        sum.terms
             .iter()
             .map(|term| self.term_extremes(term))
             .fold((constant, constant), |(least, greatest), (low, high)| {
@@ -147,11 +179,14 @@ impl Group {
         })
     }
 
-    /// Whether an output value may leave 0 to 65535.
+    /// Whether an output value may leave 0 to 65535. A digit's is 48 to 70.
     fn may_leave_characters(&self) -> bool {
-        self.outputs.iter().any(|output| {
-            let (least, greatest) = self.extremes(output);
-            least < 0 || greatest > i64::from(u16::MAX)
+        self.outputs.iter().any(|output| match output {
+            Output::Sum(sum) => {
+                let (least, greatest) = self.extremes(sum);
+                least < 0 || greatest > i64::from(u16::MAX)
+            }
+            Output::Digit(_) => false,
         })
     }
 }
@@ -198,14 +233,21 @@ impl Table {
         self.groups().map(|g| g.outputs.len()).max().unwrap_or(0)
     }
 
+    /// Whether a group has a digit as output character.
+    pub fn has_digits(&self) -> bool {
+        let mut outputs = self.groups().flat_map(|group| &group.outputs);
+        outputs.any(|output| matches!(output, Output::Digit(_)))
+    }
+
     /// Adds a record to the records read so far, by 3, 4, 6.
     fn add(&mut self, record: Record) -> Result<(), Refusal> {
         match record {
             Record::Rule { length, anchored } => self.add_rule(length, anchored),
             Record::Range { position, range } => self.add_range(position, range),
-            Record::Output { constant } => self.add_output(constant),
+            Record::Output { constant } => self.add_sum(constant),
             Record::Term(term) => self.add_term(term),
             Record::Default => self.add_default(),
+            Record::Digit(digit) => self.add_digit(digit),
         }
     }
 
@@ -239,35 +281,39 @@ impl Table {
         Ok(())
     }
 
-    /// Kind 3: an output character ends the ranges.
-    fn add_output(&mut self, constant: i32) -> Result<(), Refusal> {
+    /// Kind 3: a sum, its terms still to come.
+    fn add_sum(&mut self, constant: i32) -> Result<(), Refusal> {
         let group = self.current().ok_or(Refusal::Place)?;
-        if !group.is_filled() {
-            return Err(Refusal::Unfilled);
-        }
-        if group.outputs.len() == MAX_OUTPUTS {
-            return Err(Refusal::TooMany);
-        }
-        group.outputs.push(Output {
+        group.add_output(Output::Sum(Sum {
             constant,
             terms: Vec::new(),
-        });
-        Ok(())
+        }))
     }
 
-    /// Kind 4: terms follow an output character and rise strictly by position.
+    /// Kind 4: terms follow a sum and rise strictly by position. A digit "takes
+    /// no terms (one is refused by 3)".
     fn add_term(&mut self, term: Term) -> Result<(), Refusal> {
         let group = self.current().ok_or(Refusal::Place)?;
         let length = group.length();
-        let terms = &mut group.outputs.last_mut().ok_or(Refusal::Place)?.terms;
-        let rising = terms
-            .last()
-            .is_none_or(|last| last.position < term.position);
+        let Some(Output::Sum(sum)) = group.outputs.last_mut() else {
+            return Err(Refusal::Place);
+        };
+        let last = sum.terms.last();
+        let rising = last.is_none_or(|last| last.position < term.position);
         if term.position >= length || !rising {
             return Err(Refusal::Place);
         }
-        terms.push(term);
+        sum.terms.push(term);
         Ok(())
+    }
+
+    /// Kind 6: "stands wherever kind 3 may"; its position is below K.
+    fn add_digit(&mut self, digit: Digit) -> Result<(), Refusal> {
+        let group = self.current().ok_or(Refusal::Place)?;
+        if digit.position >= group.length() {
+            return Err(Refusal::Place);
+        }
+        group.add_output(Output::Digit(digit))
     }
 
     /// Kind 5: opens the default.
@@ -347,6 +393,8 @@ pub enum Record {
     Term(Term),
     /// Kind 5: the default.
     Default,
+    /// Kind 6: a digit as output character.
+    Digit(Digit),
 }
 
 impl Record {
@@ -371,6 +419,12 @@ impl Record {
                 }))
             }
             [5, 0, 0, 0, 0, 0, 0, 0] => Ok(Record::Default),
+            [6, position @ 0..=7, shift @ (0 | 4 | 8 | 12), 0, 0, 0, 0, 0] => {
+                Ok(Record::Digit(Digit {
+                    position: usize::from(position),
+                    shift: u16::from(shift),
+                }))
+            }
             _ => Err(Refusal::Field),
         }
     }
@@ -390,8 +444,8 @@ impl Record {
         })
     }
 
-    /// The record's bytes, little-endian, bytes not named zero. Lengths and
-    /// positions are a byte wide.
+    /// The record's bytes, little-endian, bytes not named zero. Lengths,
+    /// positions and shifts are a byte wide.
     pub fn encode(self) -> [u8; RECORD_BYTES] {
         match self {
             Record::Rule { length, anchored } => {
@@ -410,6 +464,7 @@ impl Record {
                 [4, term.position as u8, 0, 0, c0, c1, 0, 0]
             }
             Record::Default => [5, 0, 0, 0, 0, 0, 0, 0],
+            Record::Digit(digit) => [6, digit.position as u8, digit.shift as u8, 0, 0, 0, 0, 0],
         }
     }
 }

@@ -4,11 +4,12 @@ use std::ops::RangeInclusive;
 
 use crate::automaton::{Automaton, Choice, TableAutomaton};
 use crate::classes::{class_of, ClassNo, MAX_CLASSES};
+use crate::meaning::digit;
 use crate::refusal::Refusal;
 use crate::states::{State, StateNo, MAX_STATES};
-use crate::table::{Group, RuleNo, MAX_LENGTH, MAX_OUTPUTS, MAX_RULES};
+use crate::table::{Group, Output, RuleNo, MAX_LENGTH, MAX_OUTPUTS, MAX_RULES, SHIFTS};
 
-/// "Layout, 19,697 words."
+/// "Blocks become 83 words and the machine 19,961."
 pub const WORDS: usize = BLOCKS + (MAX_RULES + 1) * BLOCK;
 
 /// "From 6, 64 class starts."
@@ -19,12 +20,18 @@ const STATES: usize = STARTS + MAX_CLASSES;
 const STATE: usize = 3;
 /// "From 838, 64 targets a state."
 const TARGETS: usize = STATES + MAX_STATES * STATE;
-/// "From 17222, 33 blocks of 75."
+/// "From 17222, 33 blocks", of 83 words since request [1].
 const BLOCKS: usize = TARGETS + MAX_STATES * MAX_CLASSES;
 /// K, anchored, output count, then the outputs.
 const BLOCK: usize = 3 + MAX_OUTPUTS * OUTPUT;
-/// "A constant and eight coefficients by position."
-const OUTPUT: usize = 1 + MAX_LENGTH;
+/// "Each output entry gains a first word", its sort, before "a constant and
+/// eight coefficients by position".
+const OUTPUT: usize = 2 + MAX_LENGTH;
+
+/// The sort of a sum.
+const SUM: u16 = 0;
+/// The sort of a digit.
+const DIGIT: u16 = 1;
 
 /// "0 states, 1 classes, 2 L, 3 E, 4 rules, 5 default": the header's limits.
 const HEADER_LIMITS: [RangeInclusive<u16>; STARTS] = [
@@ -92,16 +99,31 @@ fn lay_out_state(number: usize, state: &State, words: &mut [u16; WORDS]) {
     }
 }
 
-/// "K, anchored, output count, then eight times a constant and eight
-/// coefficients by position", kept modulo 65536.
+/// "K, anchored, output count", then the entries of the output characters.
 fn lay_out_group(group: &Group, block: &mut [u16]) {
     block[0] = group.length() as u16;
     block[1] = u16::from(group.anchored);
     block[2] = group.outputs.len() as u16;
-    for (words, output) in block[3..].chunks_exact_mut(OUTPUT).zip(&group.outputs) {
-        words[0] = output.constant as u16;
-        for term in &output.terms {
-            words[1 + term.position] = term.coefficient as u16;
+    for (entry, output) in block[3..].chunks_exact_mut(OUTPUT).zip(&group.outputs) {
+        lay_out_output(output, entry);
+    }
+}
+
+/// The sort, the constant and the coefficients by position, kept modulo 65536.
+/// "A digit keeps its shift as constant and 1 at its position's coefficient."
+fn lay_out_output(output: &Output, entry: &mut [u16]) {
+    match output {
+        Output::Sum(sum) => {
+            entry[0] = SUM;
+            entry[1] = sum.constant as u16;
+            for term in &sum.terms {
+                entry[2 + term.position] = term.coefficient as u16;
+            }
+        }
+        Output::Digit(digit) => {
+            entry[0] = DIGIT;
+            entry[1] = digit.shift;
+            entry[2 + digit.position] = 1;
         }
     }
 }
@@ -111,7 +133,7 @@ fn lay_out_group(group: &Group, block: &mut [u16]) {
 pub struct Words<'w>(&'w [u16; WORDS]);
 
 impl<'w> Words<'w> {
-    /// Takes lent words; 11 for under 19,697 words or words that are not sound.
+    /// Takes lent words; 11 for under 19,961 words or words that are not sound.
     /// Words beyond are not looked at.
     pub fn sound(words: &'w [u16]) -> Result<Words<'w>, Refusal> {
         words
@@ -183,12 +205,14 @@ impl<'w> Words<'w> {
         starts[0] == 0 && starts.is_sorted_by(|start, next| start < next)
     }
 
-    /// "Blocks have K 1 to L, anchored 0 or 1, output count at most E."
+    /// "Blocks have K 1 to L, anchored 0 or 1, output count at most E", and
+    /// sound entries.
     fn rule_is_sound(&self, rule: RuleNo) -> bool {
         let block = self.block(Choice::Rule(rule));
         (1..=self.longest()).contains(&block.length())
             && block.anchored() <= 1
             && block.outputs() <= self.most_outputs()
+            && block.entries_are_sound()
     }
 
     /// The same for the default, with K 1 and anchored 0.
@@ -198,6 +222,7 @@ impl<'w> Words<'w> {
             || block.length() == 1
                 && block.anchored() == 0
                 && block.outputs() <= self.most_outputs()
+                && block.entries_are_sound()
     }
 
     /// What sound words have of each state.
@@ -268,7 +293,7 @@ impl Automaton for Words<'_> {
 /// The block of a group.
 struct Block<'w>(&'w [u16]);
 
-impl Block<'_> {
+impl<'w> Block<'w> {
     /// K.
     fn length(&self) -> u16 {
         self.0[0]
@@ -284,16 +309,64 @@ impl Block<'_> {
         self.0[2]
     }
 
-    /// "The machine adds modulo 65536." The store has K characters, so only the
-    /// coefficients below K are looked at.
+    /// The entries in use, each with the coefficients below K alone.
+    fn entries(&self) -> impl Iterator<Item = Entry<'w>> {
+        let length = usize::from(self.length());
+        let entries = self.0[3..].chunks_exact(OUTPUT);
+        let used = entries.take(usize::from(self.outputs()));
+        used.map(move |entry| Entry {
+            sort: entry[0],
+            constant: entry[1],
+            coefficients: &entry[2..][..length],
+        })
+    }
+
+    /// Whether the entries in use are sound, K and the count being so.
+    fn entries_are_sound(&self) -> bool {
+        self.entries().all(|entry| entry.is_sound())
+    }
+
+    /// Writes the output for a store of K characters.
     fn write(&self, store: &[u16], text: &mut Vec<u16>) {
-        let outputs = self.0[3..].chunks_exact(OUTPUT);
-        text.extend(outputs.take(usize::from(self.outputs())).map(|output| {
-            let products = output[1..]
-                .iter()
-                .zip(store)
-                .map(|(k, x)| k.wrapping_mul(*x));
-            products.fold(output[0], u16::wrapping_add)
-        }));
+        text.extend(self.entries().map(|entry| entry.value(store)));
+    }
+}
+
+/// The entry of an output character in a block.
+struct Entry<'w> {
+    sort: u16,
+    constant: u16,
+    /// The coefficients by position, below K.
+    coefficients: &'w [u16],
+}
+
+impl Entry<'_> {
+    /// "Sound words have a known sort, and a digit entry has one of the four
+    /// shifts and just one coefficient, of 1, below K."
+    fn is_sound(&self) -> bool {
+        match self.sort {
+            SUM => true,
+            DIGIT => SHIFTS.contains(&self.constant) && self.used_coefficients().eq([1]),
+            _ => false,
+        }
+    }
+
+    /// The coefficients that are not 0.
+    fn used_coefficients(&self) -> impl Iterator<Item = u16> + '_ {
+        self.coefficients.iter().copied().filter(|&word| word != 0)
+    }
+
+    /// "The machine adds modulo 65536"; a digit is of the character at its only
+    /// coefficient.
+    fn value(&self, store: &[u16]) -> u16 {
+        let mut pairs = self.coefficients.iter().zip(store);
+        if self.sort == DIGIT {
+            let (_, &character) = pairs
+                .find(|&(&coefficient, _)| coefficient != 0)
+                .expect("a digit entry of sound words has a coefficient");
+            return digit(character, self.constant);
+        }
+        let products = pairs.map(|(coefficient, x)| coefficient.wrapping_mul(*x));
+        products.fold(self.constant, u16::wrapping_add)
     }
 }

@@ -1,4 +1,5 @@
-//! Every example of document 01, with its answers copied from the document.
+//! Every example of document 01, with its answers copied from the document, and
+//! tables with digits, with answers worked out by hand.
 
 use reference::automaton::TableAutomaton;
 use reference::builder::{characters, TableBuilder};
@@ -7,7 +8,9 @@ use reference::direct::{self, Conversion};
 use reference::machine::{Machine, Status};
 use reference::meaning::{self, Ending};
 use reference::refusal::Refusal;
-use reference::samples::{t1, t1_with, t2, t3, t3_with_default};
+use reference::samples::{
+    digits_and_sums, four_digits, t1, t1_with, t2, t3, t3_with_default, two_digits,
+};
 use reference::session::{feed, finish, Session};
 use reference::table::{Table, RECORD_BYTES};
 use reference::words::WORDS;
@@ -30,14 +33,47 @@ impl Row {
             input,
             text,
             ending: Ending::Closed,
-            place: input.len(),
+            place: characters(input).len(),
             steps,
         }
     }
 }
 
-/// The eight P lines that convert an input.
+/// The eight P lines that convert an input, and tables with digits.
 fn rows() -> Vec<Row> {
+    let mut rows = lines_marked_p();
+    rows.extend(rows_of_digits());
+    rows
+}
+
+/// Tables with digits. An encoder takes and emits each character and closes; the
+/// two-digit one goes back at a character above 255 and stops.
+fn rows_of_digits() -> Vec<Row> {
+    vec![
+        Row::closed(two_digits(), "", "", 1),
+        Row::closed(two_digits(), "\0IJO \x7f", "00494A4F207F", 13),
+        Row::closed(two_digits(), "\u{99}\u{9a}\u{a9}\u{ff}", "999AA9FF", 9),
+        Row {
+            table: two_digits(),
+            input: "A\u{100}B",
+            text: "41",
+            ending: Ending::Stopped,
+            place: 1,
+            steps: 4,
+        },
+        Row::closed(four_digits(), "\u{9a}\u{a9bc}\u{ffff}", "009AA9BCFFFF", 7),
+        // `aZb` is taken, emitted; the last `a` is the anchored rule's.
+        Row::closed(digits_and_sums(), "aZba", "%5A1", 7),
+        // The second `a` may be any character; both are given back, and the
+        // default has the first: 65535 less 97 is 65438, 0xff9e.
+        Row::closed(digits_and_sums(), "aa", "0\u{ff9e}1", 8),
+        // 0xa123, of which 0x5edc is the rest.
+        Row::closed(digits_and_sums(), "\u{a123}", "A\u{5edc}", 4),
+    ]
+}
+
+/// The eight P lines that convert an input.
+fn lines_marked_p() -> Vec<Row> {
     vec![
         Row::closed(t1(), "&&#00;&#38;&#", "&&#00;&&#", 20),
         Row::closed(t1(), "", "", 1),
@@ -142,7 +178,7 @@ fn the_compiled_machine_gives_each_row_however_the_input_is_cut_in_three() {
                 let expected = Session {
                     status: status(row.ending),
                     received: row.place as u64,
-                    produced: row.text.len() as u64,
+                    produced: characters(row.text).len() as u64,
                     steps: row.steps,
                     ..Session::FRESH
                 };

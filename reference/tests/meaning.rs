@@ -1,11 +1,11 @@
 //! Definition 7 against a second reading of it, and direct conversion.
 
-use reference::builder::{characters, encode, TableBuilder};
+use reference::builder::{characters, encode, hexadecimal, TableBuilder};
 use reference::direct::{self, Conversion};
 use reference::meaning::{convert, Ending};
 use reference::random::Random;
 use reference::samples::{lookahead, random_input, random_table};
-use reference::table::{Group, Table};
+use reference::table::{Group, Output, Table};
 
 /// Definition 7 read a second time: lengths rising, then rule numbers, then the
 /// default.
@@ -40,24 +40,34 @@ fn in_ranges(rule: &Group, word: &[u16]) -> bool {
         && positions.all(|(ranges, &c)| ranges.iter().any(|r| r.low <= c && c <= r.high))
 }
 
-/// Writes the output characters' values, in wide numbers.
+/// Writes the output characters' values: sums in wide numbers, digits as Rust
+/// writes them.
 fn write(group: &Group, word: &[u16], text: &mut Vec<u16>) {
     for output in &group.outputs {
-        let mut value = i128::from(output.constant);
-        for term in &output.terms {
-            value += i128::from(term.coefficient) * i128::from(word[term.position]);
-        }
-        text.push(u16::try_from(value).expect("a character"));
+        text.push(match output {
+            Output::Sum(sum) => {
+                let mut value = i128::from(sum.constant);
+                for term in &sum.terms {
+                    value += i128::from(term.coefficient) * i128::from(word[term.position]);
+                }
+                u16::try_from(value).expect("a character")
+            }
+            Output::Digit(digit) => {
+                let place = 3 - usize::from(digit.shift) / 4;
+                hexadecimal(word[digit.position])[place]
+            }
+        });
     }
 }
 
 #[test]
 fn definition_7_agrees_with_a_second_reading_and_direct_conversion_with_both() {
     let mut random = Random::new(81);
-    let (mut closed, mut stopped_late) = (0, 0);
+    let (mut closed, mut stopped_late, mut with_digits) = (0, 0, 0);
     for _ in 0..4000 {
         let table = random_table(&mut random);
         let bytes = encode(&table);
+        with_digits += usize::from(table.has_digits());
         for _ in 0..3 {
             let length = random.below(30);
             let input = random_input(&mut random, &table, length);
@@ -83,6 +93,7 @@ fn definition_7_agrees_with_a_second_reading_and_direct_conversion_with_both() {
     }
     assert!(closed > 2000, "{closed}");
     assert!(stopped_late > 500, "{stopped_late}");
+    assert!(with_digits > 1000, "{with_digits}");
 }
 
 /// The text that a table without faults gives.

@@ -6,8 +6,8 @@ use reference::builder::{encode, encode_records, records};
 use reference::compile::compiled;
 use reference::random::Random;
 use reference::refusal::Refusal;
-use reference::samples::random_table;
-use reference::table::{Group, Range, Record, Table, Term};
+use reference::samples::{random_digit, random_table};
+use reference::table::{Digit, Group, Output, Range, Record, Table, Term};
 
 /// How often each answer came: 0 for accepted, else the refusal's number.
 type Tally = BTreeMap<u8, usize>;
@@ -55,23 +55,62 @@ fn rule_keeps_the_rules(rule: &Group) -> bool {
         && outputs_keep_the_rules(rule)
 }
 
-/// At most 8 output characters, whose terms rise strictly by position below K.
+/// At most 8 output characters: sums, whose terms rise strictly by position below
+/// K, and digits of a position below K by one of four shifts.
 fn outputs_keep_the_rules(group: &Group) -> bool {
-    let is_sound = |term: &Term| term.coefficient != 0 && term.position < group.positions.len();
+    let length = group.positions.len();
+    let is_sound = |term: &Term| term.coefficient != 0 && term.position < length;
+    let rises = |pair: &[Term]| pair[0].position < pair[1].position;
     group.outputs.len() <= 8
-        && group.outputs.iter().all(|output| {
-            let rises = |pair: &[Term]| pair[0].position < pair[1].position;
-            output.terms.iter().all(is_sound) && output.terms.windows(2).all(rises)
+        && group.outputs.iter().all(|output| match output {
+            Output::Sum(sum) => sum.terms.iter().all(is_sound) && sum.terms.windows(2).all(rises),
+            Output::Digit(Digit { position, shift }) => {
+                *position < length && *shift <= 12 && shift % 4 == 0
+            }
         })
 }
 
 #[test]
 fn a_table_that_keeps_the_rules_is_read_back_the_same() {
     let mut random = Random::new(71);
+    let mut with_digits = 0;
     for _ in 0..4000 {
         let table = random_table(&mut random);
+        with_digits += usize::from(table.has_digits());
         assert!(keeps_the_rules(&table));
         assert_eq!(Table::read(&encode(&table)), Ok(table));
+    }
+    assert!(with_digits > 1000, "{with_digits}");
+}
+
+#[test]
+fn records_of_kind_6_are_digits_or_refused_by_2() {
+    // [6, position 0 to 7, shift 0, 4, 8 or 12, and zeros]: nothing else.
+    for position in 0..=u8::MAX {
+        for shift in 0..=u8::MAX {
+            let record = [6, position, shift, 0, 0, 0, 0, 0];
+            let digit = Record::Digit(Digit {
+                position: usize::from(position),
+                shift: u16::from(shift),
+            });
+            let known = position <= 7 && [0, 4, 8, 12].contains(&shift);
+            let expected = if known {
+                Ok(digit)
+            } else {
+                Err(Refusal::Field)
+            };
+            assert_eq!(Record::decode(&record), expected);
+            if known {
+                assert_eq!(digit.encode(), record);
+            }
+        }
+    }
+    for place in 3..8 {
+        for byte in 1..=u8::MAX {
+            let mut record = [6, 7, 12, 0, 0, 0, 0, 0];
+            record[place] = byte;
+            assert_eq!(Record::decode(&record), Err(Refusal::Field));
+        }
     }
 }
 
@@ -90,7 +129,7 @@ fn random_bytes_are_answered() {
 /// A record whose fields are mostly small and mostly in their ranges.
 fn random_record(random: &mut Random) -> Record {
     let position = random.below(3);
-    match random.below(9) {
+    match random.below(10) {
         0 | 1 => Record::Rule {
             length: random.below(3) + 1,
             anchored: random.one_in(2),
@@ -112,6 +151,7 @@ fn random_record(random: &mut Random) -> Record {
             position,
             coefficient: random.between(1, 300) as i16,
         }),
+        8 => Record::Digit(random_digit(random, 3)),
         _ => Record::Default,
     }
 }

@@ -69,9 +69,10 @@ fn refusal_1_length_no_multiple_of_8() {
 
 #[test]
 fn refusal_2_unknown_kind() {
-    for kind in (0..=u8::MAX).filter(|kind| !(1..=5).contains(kind)) {
+    for kind in (0..=u8::MAX).filter(|kind| !(1..=6).contains(kind)) {
         assert_eq!(refused(&after_rule([kind, 0, 0, 0, 0, 0, 0, 0])), 2);
     }
+    assert!(compiled(&after_rule([6, 0, 0, 0, 0, 0, 0, 0])).is_ok());
 }
 
 #[test]
@@ -85,20 +86,30 @@ fn refusal_2_fields_outside_their_own_range() {
     for position in 8..=u8::MAX {
         let range = [2, position, 0, 0, 97, 0, 97, 0];
         let term = [4, position, 0, 0, 1, 0, 0, 0];
+        let digit = [6, position, 4, 0, 0, 0, 0, 0];
         assert_eq!(refused(&after_rule(range)), 2);
         assert_eq!(refused(&after_rule(term)), 2);
+        assert_eq!(refused(&after_rule(digit)), 2);
+    }
+    for shift in 0..=u8::MAX {
+        let answer = compiled(&after_rule([6, 0, shift, 0, 0, 0, 0, 0]));
+        match shift {
+            0 | 4 | 8 | 12 => assert!(answer.is_ok()),
+            _ => assert_eq!(answer, Err(Refusal::Field), "{shift}"),
+        }
     }
     assert_eq!(refused(&after_rule([4, 0, 0, 0, 0, 0, 0, 0])), 2);
 }
 
 #[test]
 fn refusal_2_bytes_that_must_be_zero() {
-    let zeros: [(u8, &[usize]); 5] = [
+    let zeros: [(u8, &[usize]); 6] = [
         (1, &[3, 4, 5, 6, 7]),
         (2, &[2, 3]),
         (3, &[1, 2, 3]),
         (4, &[2, 3, 6, 7]),
         (5, &[1, 2, 3, 4, 5, 6, 7]),
+        (6, &[3, 4, 5, 6, 7]),
     ];
     for (kind, places) in zeros {
         for &place in places {
@@ -107,7 +118,8 @@ fn refusal_2_bytes_that_must_be_zero() {
                 2 => [2, 0, 0, 0, 98, 0, 98, 0],
                 3 => [3, 0, 0, 0, 1, 0, 0, 0],
                 4 => [4, 0, 0, 0, 1, 0, 0, 0],
-                _ => [5, 0, 0, 0, 0, 0, 0, 0],
+                5 => [5, 0, 0, 0, 0, 0, 0, 0],
+                _ => [6, 0, 4, 0, 0, 0, 0, 0],
             };
             record[place] = 1;
             assert_eq!(refused(&after_rule(record)), 2, "kind {kind} byte {place}");
@@ -131,8 +143,10 @@ fn refusal_3_a_record_where_its_kind_cannot_come() {
     assert_eq!(refused_table(new().range(0, 97, 97)), 3);
     assert_eq!(refused_table(new().output(1)), 3);
     assert_eq!(refused_table(new().term(0, 1)), 3);
+    assert_eq!(refused_table(new().digit(0, 4)), 3);
     // A range after an output character or a term.
     assert_eq!(refused_table(rules(1).output(1).spelled(0, "b")), 3);
+    assert_eq!(refused_table(rules(1).digit(0, 4).spelled(0, "b")), 3);
     let after_term = rules(1).output(0).term(0, 1).spelled(0, "b");
     assert_eq!(refused_table(after_term), 3);
     // A term without an output character, though a position is unfilled.
@@ -147,15 +161,31 @@ fn refusal_3_a_record_where_its_kind_cannot_come() {
 }
 
 #[test]
+fn refusal_3_a_digit_takes_no_terms() {
+    let default = || rules(1).default_group();
+    assert_eq!(refused_table(rules(1).digit(0, 0).term(0, 1)), 3);
+    assert_eq!(refused_table(default().digit(0, 0).term(0, 1)), 3);
+    // The terms of a sum before it are no excuse, nor is a sum without terms.
+    let sum = || new().rule(2).spelled(0, "ab").output(0).term(0, 1);
+    assert_eq!(refused_table(sum().digit(0, 0).term(1, 1)), 3);
+    assert_eq!(refused_table(rules(1).output(1).digit(0, 0).term(0, 1)), 3);
+    // A sum after it takes them again.
+    assert!(compiled(&sum().digit(1, 0).output(0).term(0, 1).bytes()).is_ok());
+}
+
+#[test]
 fn refusal_3_a_position_not_below_k() {
     for length in 1..8 {
         assert_eq!(refused_table(new().rule(length).range(length, 97, 97)), 3);
         let filled = new().rule(length).spelled(0, &"a".repeat(length));
         assert_eq!(refused_table(filled.clone().output(0).term(length, 1)), 3);
+        assert_eq!(refused_table(filled.clone().digit(length, 0)), 3);
+        assert!(compiled(&filled.clone().digit(length - 1, 0).bytes()).is_ok());
         assert!(compiled(&filled.output(0).term(length - 1, 1).bytes()).is_ok());
     }
-    let default = rules(1).default_group();
-    assert_eq!(refused_table(default.output(0).term(1, 1)), 3);
+    let default = || rules(1).default_group();
+    assert_eq!(refused_table(default().output(0).term(1, 1)), 3);
+    assert_eq!(refused_table(default().digit(1, 0)), 3);
 }
 
 #[test]
@@ -191,6 +221,9 @@ fn refusal_4_a_position_skipped_or_unfilled_when_the_ranges_end() {
     let unfilled = || new().rule(2).spelled(0, "a");
     assert_eq!(refused_table(rule_a(unfilled())), 4);
     assert_eq!(refused_table(unfilled().output(1)), 4);
+    assert_eq!(refused_table(unfilled().digit(0, 4)), 4);
+    assert_eq!(refused_table(unfilled().digit(1, 4)), 4);
+    assert_eq!(refused_table(new().rule(1).digit(0, 0)), 4);
     assert_eq!(refused_table(unfilled().default_group()), 4);
     assert_eq!(refused_table(unfilled()), 4);
     assert_eq!(refused_table(new().rule(1)), 4);
@@ -217,6 +250,25 @@ fn refusal_6_one_more_than_the_limit() {
         let outputs = |count| (0..count).fold(group.clone(), TableBuilder::output);
         assert!(compiled(&outputs(8).bytes()).is_ok());
         assert_eq!(refused_table(outputs(9)), 6);
+        // Sums and digits together, in whatever order.
+        let digits = |count| (0..count).fold(group.clone(), |table, _| table.digit(0, 8));
+        assert!(compiled(&digits(8).bytes()).is_ok());
+        assert_eq!(refused_table(digits(9)), 6);
+        assert_eq!(refused_table(digits(8).output(0)), 6);
+        assert_eq!(refused_table(outputs(8).digit(0, 8)), 6);
+        assert!(compiled(
+            &outputs(4)
+                .digit(0, 8)
+                .output(0)
+                .term(0, 1)
+                .digit(0, 0)
+                .bytes()
+        )
+        .is_ok());
+        assert_eq!(
+            refused_table((0..5).fold(outputs(4), |t, _| t.digit(0, 8))),
+            6
+        );
     }
 }
 
@@ -264,14 +316,18 @@ fn order_1_then_2() {
 fn order_2_then_3_in_one_record() {
     assert_eq!(refused_table(new().range(0, 98, 97)), 2);
     assert_eq!(refused(&[3, 1, 0, 0, 0, 0, 0, 0]), 2);
+    assert_eq!(refused(&[6, 0, 1, 0, 0, 0, 0, 0]), 2);
+    // A shift that is none, and a position not below K.
+    assert_eq!(refused_table(rules(1).digit(7, 1)), 2);
 }
 
 #[test]
 fn order_3_then_4_in_one_record() {
-    // Position 5 is not below K, and position 0 is skipped. No record of another
-    // kind can break both: where one of kind 1, 3 or 5 finds an unfilled rule,
-    // its kind can come.
+    // Position 5 is not below K, and position 0 is skipped or unfilled. No record
+    // of kind 1, 3 or 5 can break both: where it finds an unfilled rule, its kind
+    // can come.
     assert_eq!(refused_table(new().rule(2).range(5, 97, 97)), 3);
+    assert_eq!(refused_table(new().rule(2).digit(5, 0)), 3);
 }
 
 #[test]
@@ -283,6 +339,11 @@ fn order_4_then_6_in_one_record() {
     // be out of order: 3 comes first.
     let four = (0..4).fold(new().rule(1), |t, n| t.range(0, 2 * n, 2 * n));
     assert_eq!(refused_table(four.range(0, 1, 1)), 3);
+    // So can a ninth output character be of a position not below K, and its
+    // shift none.
+    let eight = (0..8).fold(rules(1), TableBuilder::output);
+    assert_eq!(refused_table(eight.clone().digit(1, 0)), 3);
+    assert_eq!(refused_table(eight.digit(1, 2)), 2);
 }
 
 #[test]

@@ -7,13 +7,15 @@ use reference::compile::compiled;
 use reference::machine::Status;
 use reference::random::Random;
 use reference::refusal::Refusal;
-use reference::samples::{lookahead, random_input, random_table, random_word};
+use reference::samples::{
+    digits_and_sums, lookahead, random_input, random_table, random_word, two_digits,
+};
 use reference::session::{feed, finish, Answer, Session};
 use reference::states::StateNo;
 use reference::table::{Group, RuleNo};
 use reference::words::{Words, WORDS};
 
-// The places of document 01's layout, written out.
+// The places of document 01's layout, with request [1]'s blocks, written out.
 const STATE_COUNT: usize = 0;
 const CLASS_COUNT: usize = 1;
 const LONGEST: usize = 2;
@@ -37,19 +39,22 @@ fn target(state: usize, class: usize) -> usize {
     838 + 64 * state + class
 }
 fn length(block: usize) -> usize {
-    17222 + 75 * block
+    17222 + 83 * block
 }
 fn anchored(block: usize) -> usize {
-    17222 + 75 * block + 1
+    17222 + 83 * block + 1
 }
 fn outputs(block: usize) -> usize {
-    17222 + 75 * block + 2
+    17222 + 83 * block + 2
+}
+fn sort(block: usize, output: usize) -> usize {
+    17222 + 83 * block + 3 + 10 * output
 }
 fn constant(block: usize, output: usize) -> usize {
-    17222 + 75 * block + 3 + 9 * output
+    sort(block, output) + 1
 }
 fn coefficient(block: usize, output: usize, position: usize) -> usize {
-    constant(block, output) + 1 + position
+    sort(block, output) + 2 + position
 }
 
 /// Words that are 0 but for some.
@@ -124,10 +129,80 @@ fn are_sound(words: &[u16]) -> bool {
     by_feed.is_ok()
 }
 
+/// The words of the table `digits_and_sums` but for its blocks, by hand. The
+/// classes start at 0, `a`, `b` and `c`. Both rules begin with `a`: state 1, where
+/// anchored rule 1 is whole; any character leads to state 2 and `b` to state 3,
+/// where rule 0 is.
+fn states_by_hand() -> Vec<u16> {
+    words_with(&[
+        (STATE_COUNT, 4),
+        (CLASS_COUNT, 4),
+        (LONGEST, 3),
+        (MOST_OUTPUTS, 3),
+        (RULE_COUNT, 2),
+        (DEFAULT, 1),
+        (start(1), 97),
+        (start(2), 98),
+        (start(3), 99),
+        (depth(1), 1),
+        (end(1), 2),
+        (depth(2), 2),
+        (depth(3), 3),
+        (end(3), 1),
+        (go(3), 1),
+        (target(0, 1), 1),
+        (target(1, 0), 2),
+        (target(1, 1), 2),
+        (target(1, 2), 2),
+        (target(1, 3), 2),
+        (target(2, 2), 3),
+    ])
+}
+
+/// The words of the table `digits_and_sums`, by hand.
+fn digits_by_hand() -> Vec<u16> {
+    let blocks = [
+        // `%`, and the second and the lowest digit of position 1.
+        (length(0), 3),
+        (outputs(0), 3),
+        (constant(0, 0), 37),
+        (sort(0, 1), 1),
+        (constant(0, 1), 4),
+        (coefficient(0, 1, 1), 1),
+        (sort(0, 2), 1),
+        (coefficient(0, 2, 1), 1),
+        // The lowest digit of position 0.
+        (length(1), 1),
+        (anchored(1), 1),
+        (outputs(1), 1),
+        (sort(1, 0), 1),
+        (coefficient(1, 0, 0), 1),
+        // The highest digit of position 0, and 65535 - x0.
+        (length(32), 1),
+        (outputs(32), 2),
+        (sort(32, 0), 1),
+        (constant(32, 0), 12),
+        (coefficient(32, 0, 0), 1),
+        (constant(32, 1), 65535),
+        (coefficient(32, 1, 0), 65535),
+    ];
+    changed(states_by_hand(), &blocks)
+}
+
 /// Asserts that the words by hand are sound with the first changes made, and no
 /// longer with the last one too.
 fn assert_breaks(prepared: &[(usize, u16)], breaking: (usize, u16)) {
-    let prepared = changed(by_hand(), prepared);
+    assert_breaks_in(by_hand(), prepared, breaking);
+}
+
+/// The same of the words with digits.
+fn assert_breaks_digits(prepared: &[(usize, u16)], breaking: (usize, u16)) {
+    assert_breaks_in(digits_by_hand(), prepared, breaking);
+}
+
+/// The same of any words.
+fn assert_breaks_in(words: Vec<u16>, prepared: &[(usize, u16)], breaking: (usize, u16)) {
+    let prepared = changed(words, prepared);
     assert!(are_sound(&prepared));
     assert!(!are_sound(&changed(prepared, &[breaking])), "{breaking:?}");
 }
@@ -135,6 +210,61 @@ fn assert_breaks(prepared: &[(usize, u16)], breaking: (usize, u16)) {
 #[test]
 fn the_layout_by_hand_is_what_compiling_gives() {
     assert_eq!(compiled(&lookahead()).unwrap(), by_hand());
+    assert_eq!(compiled(&digits_and_sums()).unwrap(), digits_by_hand());
+}
+
+#[test]
+fn the_two_digit_encoder_by_hand() {
+    // One rule, whose classes start at 0 and 256: 13 words of its block are used.
+    let words = words_with(&[
+        (STATE_COUNT, 2),
+        (CLASS_COUNT, 2),
+        (LONGEST, 1),
+        (MOST_OUTPUTS, 2),
+        (RULE_COUNT, 1),
+        (start(1), 256),
+        (depth(1), 1),
+        (end(1), 1),
+        (go(1), 1),
+        (target(0, 0), 1),
+        (17222, 1),
+        (17224, 2),
+        (17225, 1),
+        (17226, 4),
+        (17227, 1),
+        (17235, 1),
+        (17237, 1),
+    ]);
+    assert_eq!(compiled(&two_digits()).unwrap(), words);
+    // 0x9a and 0xaf.
+    let [(_, _, output), _] = given(&words, &[0x9a, 0xaf]);
+    assert_eq!(output[..4], [57, 65, 65, 70]);
+}
+
+#[test]
+fn digits_of_the_last_blocks_are_laid_out_by_position() {
+    // Rule 31 writes a digit of each of its positions, of shifts 0, 4, 8 and 12
+    // in turn; the default's last entry is a digit of shift 12.
+    let rules = (0..31).fold(TableBuilder::new(), |table, _| {
+        table.rule(1).spelled(0, "a")
+    });
+    let table = (0..8).fold(rules.rule(8), |table, position| {
+        table.range(position, 98, 65535)
+    });
+    let table = (0..8).fold(table, |table, p| table.digit(p, 4 * (p as u16 % 4)));
+    let table = (0..7).fold(table.default_group(), TableBuilder::output);
+    let words = compiled(&table.digit(0, 12).bytes()).unwrap();
+    for output in 0..8 {
+        assert_eq!(words[sort(31, output)], 1);
+        assert_eq!(words[constant(31, output)], 4 * (output as u16 % 4));
+        assert!((0..8).all(|p| words[coefficient(31, output, p)] == u16::from(p == output)));
+    }
+    assert_eq!(words[WORDS - 10..], [1, 12, 1, 0, 0, 0, 0, 0, 0, 0]);
+    let word = [
+        0x123a, 0x12b3, 0x1c23, 0xd123, 0x123e, 0x12f3, 0x1923, 0x8123,
+    ];
+    let [(_, _, output), _] = given(&words, &word);
+    assert_eq!(output[..8], [65, 66, 67, 68, 69, 70, 57, 56]);
 }
 
 #[test]
@@ -179,6 +309,7 @@ fn compiled_words_are_sound() {
         }
     }
     assert!(compiled_tables > 2500, "{compiled_tables}");
+    assert!(are_sound(&digits_by_hand()));
 }
 
 /// Asserts that a group writes the same in both automata, on words that fit it.
@@ -245,10 +376,10 @@ fn the_automaton_of_the_words_agrees_with_that_of_the_table() {
 }
 
 #[test]
-fn sound_words_are_at_least_19697() {
-    assert_eq!(WORDS, 19_697);
+fn sound_words_are_at_least_19961() {
+    assert_eq!(WORDS, 19_961);
     let mut words = by_hand();
-    assert!(!are_sound(&words[..19_696]));
+    assert!(!are_sound(&words[..19_960]));
     words.extend([1, 2, 3]);
     assert!(are_sound(&words));
 }
@@ -458,6 +589,103 @@ fn sound_output_counts_are_at_most_e() {
     assert_breaks(&[], (outputs(32), 2));
 }
 
+#[test]
+fn sound_entries_have_a_known_sort() {
+    for block in [0, 2, 32] {
+        assert_breaks(&[], (sort(block, 0), 2));
+        assert_breaks(&[], (sort(block, 0), 65535));
+    }
+    assert_breaks_digits(&[], (sort(0, 1), 2));
+    assert_breaks_digits(&[], (sort(32, 0), 256));
+    assert_breaks_digits(&[], (sort(32, 1), 2));
+    // A digit's words do for a sum, and of a sum of this kind those for a digit.
+    let exchanged = [
+        (sort(0, 1), 0),
+        (constant(0, 0), 8),
+        (coefficient(0, 0, 2), 1),
+    ];
+    let exchanged = changed(digits_by_hand(), &exchanged);
+    assert!(are_sound(&changed(exchanged, &[(sort(0, 0), 1)])));
+}
+
+#[test]
+fn sound_digits_have_one_of_the_four_shifts() {
+    for shift in (0..=17).chain([32, 256, 65532, 65535]) {
+        let changes = [(constant(0, 2), shift), (constant(32, 0), shift)];
+        for change in changes {
+            if [0, 4, 8, 12].contains(&shift) {
+                assert!(are_sound(&changed(digits_by_hand(), &[change])));
+            } else {
+                assert_breaks_digits(&[], change);
+            }
+        }
+    }
+    // A sum has any constant.
+    assert!(are_sound(&changed(
+        digits_by_hand(),
+        &[(constant(0, 0), 5)]
+    )));
+}
+
+#[test]
+fn sound_digits_have_just_one_coefficient_of_1_below_k() {
+    // A second one.
+    for value in [1, 2, 65535] {
+        assert_breaks_digits(&[], (coefficient(0, 1, 0), value));
+        assert_breaks_digits(&[], (coefficient(0, 1, 2), value));
+    }
+    // Another than 1.
+    for value in [2, 3, 256, 65535] {
+        assert_breaks_digits(&[], (coefficient(0, 1, 1), value));
+        assert_breaks_digits(&[], (coefficient(1, 0, 0), value));
+        assert_breaks_digits(&[], (coefficient(32, 0, 0), value));
+    }
+    // None, whatever stands from K on.
+    assert_breaks_digits(&[], (coefficient(0, 1, 1), 0));
+    assert_breaks_digits(&[(coefficient(0, 1, 3), 1)], (coefficient(0, 1, 1), 0));
+    assert_breaks_digits(&[(coefficient(1, 0, 1), 1)], (coefficient(1, 0, 0), 0));
+    assert_breaks_digits(&[(coefficient(32, 0, 7), 1)], (coefficient(32, 0, 0), 0));
+    // Another position below K is as good; two that add up to 1 modulo 65536 are
+    // not.
+    let moved = [(coefficient(0, 1, 1), 0), (coefficient(0, 1, 2), 1)];
+    assert!(are_sound(&changed(digits_by_hand(), &moved)));
+    let halves = [(coefficient(0, 1, 1), 32768), (coefficient(0, 1, 2), 32769)];
+    assert!(!are_sound(&changed(digits_by_hand(), &halves)));
+}
+
+#[test]
+fn sound_entries_are_looked_at_as_far_as_they_are_used() {
+    // Entries from the count on, coefficients from K on, and the blocks of rules
+    // and of a default that are not there.
+    let unused = [
+        (sort(0, 3), 2),
+        (sort(1, 1), 1),
+        (constant(1, 1), 5),
+        (sort(32, 2), 65535),
+        (coefficient(0, 1, 3), 1),
+        (coefficient(1, 0, 1), 2),
+        (coefficient(32, 0, 1), 65535),
+        (sort(2, 0), 9),
+    ];
+    let words = changed(digits_by_hand(), &unused);
+    assert!(are_sound(&words));
+    // They count as soon as the count, K, the rule or the default is there.
+    assert!(!are_sound(&changed(words.clone(), &[(outputs(1), 2)])));
+    assert!(!are_sound(&changed(words, &[(outputs(32), 3)])));
+    let no_default = [(DEFAULT, 0), (sort(32, 0), 2)];
+    assert!(are_sound(&changed(digits_by_hand(), &no_default)));
+    assert_breaks_digits(&no_default, (DEFAULT, 1));
+    // Rule 2, which no state names, with a digit of position 1: K has to be 2.
+    let third = [
+        (RULE_COUNT, 3),
+        (length(2), 2),
+        (outputs(2), 1),
+        (sort(2, 0), 1),
+        (coefficient(2, 0, 1), 1),
+    ];
+    assert_breaks_digits(&third, (length(2), 1));
+}
+
 /// Which words the header and the blocks say are in use.
 fn used(words: &[u16]) -> Vec<bool> {
     let count = |place: usize| usize::from(words[place]);
@@ -472,7 +700,7 @@ fn used(words: &[u16]) -> Vec<bool> {
     for block in (0..count(RULE_COUNT)).chain(default) {
         used[length(block)..][..3].fill(true);
         for output in 0..count(outputs(block)) {
-            used[constant(block, output)..][..1 + count(length(block))].fill(true);
+            used[sort(block, output)..][..2 + count(length(block))].fill(true);
         }
     }
     used

@@ -5,10 +5,8 @@ use std::time::Duration;
 
 use compare::face;
 use reference::direct;
-use reference::samples::t1;
-use reference::table::Table;
 
-use crate::inputs::{inputs, FILL, LENGTH};
+use crate::inputs::{inputs, Input, FILL, LENGTH};
 use crate::timing::{each, ratio, worked};
 
 /// Runs of each conversion, of which the best counts.
@@ -16,13 +14,12 @@ const RUNS: usize = 25;
 
 /// Prints the times.
 pub fn print() {
-    let table = t1();
-    let most_outputs = Table::read(&table).expect("T1 is accepted").most_outputs();
     println!(
-        "Direct conversion under T1, {LENGTH} characters, best of {RUNS} runs, in nanoseconds of processor time a character."
+        "Direct conversion under T1, and of bytes as two digits, {LENGTH} characters, best of {RUNS} runs, in nanoseconds of processor \
+         time a character."
     );
     println!(
-        "Both write into one buffer of {most_outputs} × {LENGTH} characters, which is filled before each run, outside the time, \
+        "Both write into one buffer of E × {LENGTH} characters, which is filled before each run, outside the time, \
          and not cleared within it."
     );
     println!(
@@ -31,11 +28,11 @@ pub fn print() {
     println!();
     println!("| input | library | reference | library / reference |");
     println!("|---|---:|---:|---:|");
-    let mut output = vec![FILL; most_outputs * LENGTH];
-    for (name, input) in inputs() {
-        let [library, reference] = best(&table, &input, &mut output);
+    for input in inputs() {
+        let [library, reference] = best(&input);
         println!(
-            "| {name} | {:.2} | {:.2} | {:.2} |",
+            "| {} | {:.2} | {:.2} | {:.2} |",
+            input.name,
             each(library, LENGTH),
             each(reference, LENGTH),
             ratio(library, reference)
@@ -45,22 +42,24 @@ pub fn print() {
 
 /// The best times of the library and of the independent version, whose runs take
 /// turns and whose answers and outputs are compared.
-fn best(table: &[u8], input: &[u16], output: &mut [u16]) -> [Duration; 2] {
+fn best(input: &Input) -> [Duration; 2] {
+    let (table, text) = (&input.table[..], &input.text[..]);
     let mut best = [Duration::MAX; 2];
+    let mut output = vec![FILL; input.most_outputs() * LENGTH];
     for _ in 0..RUNS {
         output.fill(FILL);
         let (library, time) =
-            worked(|| face::converted(black_box(table), black_box(input), output));
+            worked(|| face::converted(black_box(table), black_box(text), &mut output));
         best[0] = best[0].min(time);
-        let written = output.to_vec();
+        let written = output.clone();
 
         output.fill(FILL);
         let (reference, time) =
-            worked(|| direct::convert(black_box(table), black_box(input), output));
+            worked(|| direct::convert(black_box(table), black_box(text), &mut output));
         best[1] = best[1].min(time);
 
         assert_eq!(library.ok(), reference.ok());
-        assert!(written == *output, "the outputs differ");
+        assert!(written == output, "the outputs differ");
     }
     best
 }

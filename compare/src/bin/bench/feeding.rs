@@ -7,16 +7,12 @@ use std::time::Duration;
 use compare::face::{self, Session};
 use compare::fast::Fast;
 use reference::compile::compiled;
-use reference::samples::t1;
 
-use crate::inputs::{inputs, FILL, LENGTH};
+use crate::inputs::{inputs, Input, FILL, LENGTH};
 use crate::timing::{each, ratio, worked};
 
 /// The lengths of pieces, each with the runs of which the best counts.
 const PIECES: [(usize, usize); 2] = [(1 << 16, 100), (16, 25)];
-
-/// The most output characters of a group of T1.
-const MOST_OUTPUTS: usize = 5;
 
 /// What feeds and the finish came to.
 struct Fed {
@@ -32,37 +28,33 @@ struct Best {
     flex: [Option<Duration>; 2],
 }
 
-/// T1's machine, an input, and a buffer for all of its output.
-struct Feeding<'i> {
+/// An input, the machine of its table, and a buffer for all of its output.
+struct Feeding {
     words: Vec<u16>,
     fast: Fast,
-    input: &'i [u16],
+    input: Input,
     output: Vec<u16>,
 }
 
 /// Prints the times.
 pub fn print() {
     println!(
-        "Feeds and the finish under T1, {LENGTH} characters in pieces, in nanoseconds of processor time a character."
+        "Feeds and the finish under T1, and of bytes as two digits, {LENGTH} characters in pieces, in nanoseconds of processor time a \
+         character."
     );
     println!(
-        "Pieces of 65,536 characters, best of {}, and of 16, best of {}. All write into one buffer of {MOST_OUTPUTS} × ({LENGTH} + 8) \
+        "Pieces of 65,536 characters, best of {}, and of 16, best of {}. All write into one buffer of E × ({LENGTH} + 8) \
          characters, which is filled before each run, outside the time.",
         PIECES[0].1, PIECES[1].1
     );
     println!();
     println!("| input | piece | library | Rust | flex | flex -Cfa | library / Rust | library / flex | library / flex -Cfa |");
     println!("|---|---:|---:|---:|---:|---:|---:|---:|---:|");
-    let words = compiled(&t1()).expect("T1 compiles");
     for (piece, runs) in PIECES {
-        for (name, input) in inputs() {
-            let mut feeding = Feeding {
-                fast: Fast::new(&words).expect("compiled words are sound"),
-                words: words.clone(),
-                input: &input,
-                output: vec![FILL; MOST_OUTPUTS * (LENGTH + 8)],
-            };
-            print_row(name, piece, &feeding.best(piece, runs));
+        for input in inputs() {
+            let mut feeding = Feeding::of(input);
+            let best = feeding.best(piece, runs);
+            print_row(feeding.input.name, piece, &best);
         }
     }
 }
@@ -84,7 +76,18 @@ fn print_row(name: &str, piece: usize, best: &Best) {
     );
 }
 
-impl Feeding<'_> {
+impl Feeding {
+    /// An input with what is needed to feed it.
+    fn of(input: Input) -> Feeding {
+        let words = compiled(&input.table).expect("the tables compile");
+        Feeding {
+            fast: Fast::new(&words).expect("compiled words are sound"),
+            words,
+            output: vec![FILL; input.most_outputs() * (LENGTH + 8)],
+            input,
+        }
+    }
+
     /// The best times of all, whose runs take turns and whose sessions and
     /// texts are compared.
     fn best(&mut self, piece: usize, runs: usize) -> Best {
@@ -100,7 +103,11 @@ impl Feeding<'_> {
             assert!(library.text == fast.text, "the texts differ");
             best.library = best.library.min(library.time);
             best.fast = best.fast.min(fast.time);
-            for (best, (text, time)) in best.flex.iter_mut().zip(self.by_flex(piece)) {
+            let scanned = match self.input.scanned {
+                true => self.by_flex(piece),
+                false => Vec::new(),
+            };
+            for (best, (text, time)) in best.flex.iter_mut().zip(scanned) {
                 assert!(library.text == text, "the texts differ");
                 *best = Some(best.map_or(time, |best| best.min(time)));
             }
@@ -114,7 +121,7 @@ impl Feeding<'_> {
         let (words, output) = (black_box(&self.words[..]), &mut self.output);
         let (mut session, mut written, mut count) = (Session::FRESH, 0, 0);
         let ((), time) = worked(|| {
-            for piece in black_box(self.input).chunks(piece) {
+            for piece in black_box(&self.input.text[..]).chunks(piece) {
                 let answer = face::feed(
                     words,
                     &mut session,
@@ -138,7 +145,7 @@ impl Feeding<'_> {
         let (fast, output) = (black_box(&self.fast), &mut self.output);
         let (mut session, mut written) = (Session::FRESH, 0);
         let ((), time) = worked(|| {
-            for piece in black_box(self.input).chunks(piece) {
+            for piece in black_box(&self.input.text[..]).chunks(piece) {
                 written += fast.feed(&mut session, piece, &mut output[written..]);
             }
             written += fast.finish(&mut session, &mut output[written..]);
@@ -150,11 +157,8 @@ impl Feeding<'_> {
     #[cfg(feature = "flex")]
     fn by_flex(&mut self, piece: usize) -> Vec<(Vec<u16>, Duration)> {
         use compare::flex::{scan, Tables};
-        let bytes: Vec<u8> = self
-            .input
-            .iter()
-            .map(|&character| character as u8)
-            .collect();
+        let text = self.input.text.iter();
+        let bytes: Vec<u8> = text.map(|&character| character as u8).collect();
         let mut scanned = |tables| {
             self.output.fill(FILL);
             let output = &mut self.output;
