@@ -175,6 +175,11 @@ fn write_default(
 {
     let number = group_outputs(words, DEFAULT_RULE);
     let word = &text[place..place + 1];
+    // nearly every default writes one character
+    if number == 1 {
+        output[count] = entry_value(words, DEFAULT_RULE, 0, word);
+        return count + 1;
+    }
     let mut j: usize = 0;
     while j < number {
         output[count + j] = entry_value(words, DEFAULT_RULE, j, word);

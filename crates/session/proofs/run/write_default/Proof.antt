@@ -1,8 +1,8 @@
--- `run::write_default` meets its contract. The invariant: the output has the first j characters that the default writes, from the count on.
--- The measure is the characters left. Assumes nothing.
+-- `run::write_default` meets its contract. One character is stored at once. The loop's invariant: the output has the first j characters that
+-- the default writes, from the count on. The measure is the characters left. Assumes nothing.
 use mathlib.Core.Path.{_≡_, refl, sym, ap, _∙_}
-use mathlib.Core.List.{List}
-use Prim.Native.Nat.{ℕ, _+_, _-_, _≤_}
+use mathlib.Core.List.{List, _++_}
+use Prim.Native.Nat.{ℕ, _+_, _-_, _≤_, _<_}
 use native.Mathlib.Omega.{arith}
 use borrow.Author.Needs.{needs}
 use lib.ListN.{length, take, drop, set, length-set, length-drop}
@@ -55,25 +55,82 @@ part-word-start c = search needs
 part-word-end : tie.Need-part-word-end Inv-loop μ-loop
 part-word-end c = search needs
 
-loop-holds : tie.Need-loop-holds Inv-loop μ-loop
-loop-holds c =
-    let a = c .before .before .before .before .before .args in
-    (c .before .group-outputs .ensures, omega arith, refl, paste-zero (a .output .now) (a .count) (defaultText (a .words .now) (a .text .now) (a .place)))
+-- what an entry writes for the part
+entry : (s : tie.Start Inv-loop μ-loop) {r : ℕ} (j : ℕ) →
+    let a = s .args in
+    let b = blockAt (a .words .now) 32 in
+    r ≡ entryValue b j (take (a .place + 1 - a .place) (drop (a .place) (a .text .now))) → r ≡ entryValue b j (take 1 (drop (a .place) (a .text .now)))
+entry s j e = e ∙ ap (entryValue (blockAt (s .args .words .now) 32) j) (part-word s)
+
+-- a block that writes one character
+one-written : (b w out : List ℕ) (count : ℕ) → at b 2 ≡ 1 → count < length out →
+    set out count (entryValue b 0 w) ≡ take count out ++ blockOutput b w ++ drop (count + at b 2) out
+one-written b w out count one room =
+    let text = blockOutput b w in
+    let here : count ≡ count + 0 = omega arith in
+    let all : 0 + 1 ≡ at b 2 = omega (arith, one) in
+    ap (λ o. set o count (entryValue b 0 w)) (paste-zero out count text)
+    ∙ ap (λ n. set (paste out count text 0) n (entryValue b 0 w)) here
+    ∙ written-more b w out count 0 (omega (arith, one)) (omega (arith, room))
+    ∙ ap (paste out count text) all
+    ∙ written-all b w out count
+
+-- the default writes one, and there is room for it
+one : (c : tie.Then1 Inv-loop μ-loop) →
+    let a = c .before .before .before .before .before .before .args in
+    (at (blockAt (a .words .now) 32) 2 ≡ 1) × (a .count < length (a .output .now))
+one c =
+    let s = c .before .before .before .before .before .before in
+    let e = sym (c .before .before .group-outputs .ensures) ∙ c .if1 .taken in
+    (e, omega (arith, e, s .pre .1 .1))
 
 entry-value-requires : tie.Need-entry-value-requires Inv-loop μ-loop
 entry-value-requires c κs =
+    let s = c .before .before .before .before .before .before in
+    let long = word-long s in
+    ((s .pre .0 .0, omega arith, omega arith), (long ∙ sym (s .pre .0 .2), omega (arith, long)))
+
+mul-output : tie.Need-mul-output Inv-loop μ-loop
+mul-output c = search needs
+
+slice-write-output : tie.Need-slice-write-output Inv-loop μ-loop
+slice-write-output c = one (c .before) .1
+
+add-result : tie.Need-add-result Inv-loop μ-loop
+add-result c = omega (arith, one (c .before) .1)
+
+same-length : tie.Need-same-length Inv-loop μ-loop
+same-length c = search needs
+
+returns : tie.Need-returns Inv-loop μ-loop
+returns c =
     let s = c .before .before .before .before .before .before .before in
+    let a = s .args in
+    let b = blockAt (a .words .now) 32 in
+    let word = take 1 (drop (a .place) (a .text .now)) in
+    let o = one (c .before) in
+    (ap (λ n. a .count + n) (sym (o .0)), ap (set (a .output .now) (a .count)) (entry s 0 (c .entry-value .ensures)) ∙ one-written b word (a .output .now) (a .count) (o .0) (o .1))
+
+loop-holds : tie.Need-loop-holds Inv-loop μ-loop
+loop-holds c =
+    let d = c .before in
+    let a = d .before .before .before .before .before .args in
+    (d .before .group-outputs .ensures, omega arith, refl, paste-zero (a .output .now) (a .count) (defaultText (a .words .now) (a .text .now) (a .place)))
+
+entry-value-requires-2 : tie.Need-entry-value-requires-2 Inv-loop μ-loop
+entry-value-requires-2 c κs =
+    let s = c .before .before .before .before .before .before .before .before in
     let long = word-long s in
     ((s .pre .0 .0, omega arith, omega (arith, c .loop-test .taken, c .before .loop .inv .0, s .pre .1 .0)), (long ∙ sym (s .pre .0 .2), omega (arith, long)))
 
 add-output : tie.Need-add-output Inv-loop μ-loop
 add-output c = search needs
 
-mul-output : tie.Need-mul-output Inv-loop μ-loop
-mul-output c = search needs
+mul-output-2 : tie.Need-mul-output-2 Inv-loop μ-loop
+mul-output-2 c = search needs
 
-slice-write-output : tie.Need-slice-write-output Inv-loop μ-loop
-slice-write-output c = search needs
+slice-write-output-2 : tie.Need-slice-write-output-2 Inv-loop μ-loop
+slice-write-output-2 c = search needs
 
 add-j : tie.Need-add-j Inv-loop μ-loop
 add-j c = search needs
@@ -83,31 +140,31 @@ loop-less c = search needs
 
 loop-again : tie.Need-loop-again Inv-loop μ-loop
 loop-again c =
-    let s = c .before .before .before .before .before .before .before .before in
+    let s = c .before .before .before .before .before .before .before .before .before in
     let a = s .args in
     let l = c .before .before .loop in
     let b = blockAt (a .words .now) 32 in
     let word = take 1 (drop (a .place) (a .text .now)) in
-    let value = c .entry-value .result in
+    let value = c .entry-value2 .result in
     let front = paste (a .output .now) (a .count) (blockOutput b word) (l .j) in
     let turn = c .before .loop-test .taken in (
       l .inv .0,
       omega (arith, turn),
       length-set (l .output) (a .count + l .j) value ∙ l .inv .2,
       ap (λ o. set o (a .count + l .j) value) (l .inv .3)
-          ∙ ap (set front (a .count + l .j)) (c .entry-value .ensures ∙ ap (entryValue b (l .j)) (part-word s))
+          ∙ ap (set front (a .count + l .j)) (entry s (l .j) (c .entry-value2 .ensures))
           ∙ written-more b word (a .output .now) (a .count) (l .j) (omega (arith, turn, l .inv .0)) (omega (arith, turn, l .inv .0, s .pre .1 .1)),
     )
 
-add-result : tie.Need-add-result Inv-loop μ-loop
-add-result c = search needs
+add-result-2 : tie.Need-add-result-2 Inv-loop μ-loop
+add-result-2 c = search needs
 
-same-length : tie.Need-same-length Inv-loop μ-loop
-same-length c = search needs
+same-length-2 : tie.Need-same-length-2 Inv-loop μ-loop
+same-length-2 c = search needs
 
-returns : tie.Need-returns Inv-loop μ-loop
-returns c =
-    let a = c .before .before .before .before .before .before .before .args in
+returns-2 : tie.Need-returns-2 Inv-loop μ-loop
+returns-2 c =
+    let a = c .before .before .before .before .before .before .before .before .args in
     let l = c .before .loop in
     let b = blockAt (a .words .now) 32 in
     let word = take 1 (drop (a .place) (a .text .now)) in
@@ -128,14 +185,20 @@ write-default-spec =
     sub-word
     part-word-start
     part-word-end
-    loop-holds
     entry-value-requires
-    add-output
     mul-output
     slice-write-output
+    add-result
+    same-length
+    returns
+    loop-holds
+    entry-value-requires-2
+    add-output
+    mul-output-2
+    slice-write-output-2
     add-j
     loop-less
     loop-again
-    add-result
-    same-length
-    returns)
+    add-result-2
+    same-length-2
+    returns-2)
