@@ -1,7 +1,7 @@
 -- A sum modulo 65536 may be begun at 0 and its constant added last.
 -- Adding the constant at the start or at the end differs by whole multiples of 65536 only.
 use mathlib.Core.List.{List, [], _∷_}
-use mathlib.Core.Path.{_≡_, refl, sym, ap, _∙_}
+use mathlib.Core.Path.{_≡_, sym, ap, _∙_}
 use Prim.Native.Nat.{ℕ, _+_, _*_, _%_, _<_}
 use native.Mathlib.Nat.{zero-add}
 use native.Mathlib.Omega.{arith}

@@ -1,7 +1,7 @@
 -- `one_only` meets its contract: the loop keeps the total of the coefficients so far, which is at most 1.
 -- The measure is the number of the coefficients left.
 use mathlib.Core.Path.{_≡_, refl, sym, ap, _∙_}
-use Prim.Native.Nat.{suc, _+_, _-_, _≤_, _<_}
+use Prim.Native.Nat.{suc, _+_, _-_, _≤_}
 use native.Mathlib.Omega.{arith}
 use lib.Dec.{eqb}
 use lib.ListN.{length, take}
