@@ -15,7 +15,8 @@ fn wrapping_product(a: u16, c: u16) -> u16
     (a as u32 * c as u32 % 65536) as u16
 }
 
-// A length that is at most 8, told to the compiler: it then prepares no loop for long words, which saves a tenth of direct conversion.
+// A length, which is at most 8. The test is never met: it tells the compiler so, which then prepares no loop for long words and saves a tenth of
+// the instructions of direct conversion.
 fn short(length: usize) -> usize
     requires { ⌜ length ≤ 8 ⌝ }
     ensures { λ r. ⌜ r ≡ length ⌝ }
