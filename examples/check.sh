@@ -21,8 +21,22 @@ expect() {
     done
 }
 
+# expect_uses NAME TABLE INPUT: both stations end standard error with the lines that stand on standard input.
+expect_uses() {
+    cat > "$out/uses"
+    for station in "$out/station" target/cargo/release/examples/station; do
+        "$station" "$2" < "$3" > "$out/text" 2> "$out/counts" || [ $? = 2 ]
+        tail -n +3 "$out/counts" | diff "$out/uses" - || { echo "$1: $station counts other uses" >&2; exit 1; }
+    done
+}
+
+# Beside comments and empty lines each line of a source is a rule or the default.
 for folder in tables/*/; do
     expect "$folder" 0 "$folder/rules.tab" "$folder/input.txt" "$folder/expected.txt" 'closed: '
+    while IFS=: read -r line rule; do
+        row=$(printf ' %5d  %s' "$line" "$rule")
+        expect "$folder" 0 "$folder/rules.tab" "$folder/input.txt" "$folder/expected.txt" "$row"
+    done < <(grep -nv -e '^#' -e '^$' "$folder/rules.txt")
 done
 
 # Document 01: T2 on `ab` writes Y, stopped at 1, 4 steps.
@@ -32,6 +46,46 @@ printf 'ab' > "$out/input"
 printf 'Y' > "$out/expected"
 expect T2 2 "$out/t2.tab" "$out/input" "$out/expected" 'stopped: 2 characters fed, 1 consumed, 1 produced'
 expect T2 2 "$out/t2.tab" "$out/input" "$out/expected" '4 steps, at most (1 + 3) * 2 + 1 = 9'
+
+# Rule 1 has the `a`, and the `b` stops it. Both rules stand in the source's one line.
+expect_uses T2 "$out/t2.tab" "$out/input" << 'END'
+   rule          uses  line
+      0             0     1  "a$" ==> [88];
+      1             1     1  "a" ==> [89];
+END
+
+# Without a source, or with one of other rules, no lines are known.
+cp "$out/t2.tab" "$out/other.tab"
+for source in '' '"a" ==> [88];' '"a" ==> [88]; "b" ==> []; "c" ==> [];' '"a$" ==> [88]; else ==> [89];'; do
+    rm -f "$out/other.txt"
+    if [ -n "$source" ]; then printf %s "$source" > "$out/other.txt"; fi
+    expect_uses other "$out/other.tab" "$out/input" << 'END'
+   rule          uses
+      0             0
+      1             1
+END
+done
+
+# Semicolons and quotes in quotes, a comment, a rule over two lines.
+printf '# "x" ==> [];\n"\\";" ==>\n  [65]; "[;\\\\]\\\\" ==> [66];\nelse ==> [x0];\n' > "$out/quotes.txt"
+target/cargo/release/build_table "$out/quotes.txt" "$out/quotes.tab" > "$out/counts"
+printf '";;\\c";' > "$out/quoted"
+expect_uses quotes "$out/quotes.tab" "$out/quoted" << 'END'
+   rule          uses  line
+      0             2     2  "\";" ==>
+      1             1     3  "[;\\]\\" ==> [66];
+default             1     4  else ==> [x0];
+END
+
+# The sample's references of two digits are `&#60;`, `&#38;`, `&#62;`, `&#38;` and `&#66;`. Beside them, `&#00;` and the last `&#` the first
+# line has 31 characters and the second 21, line ends included.
+expect_uses html-decimal tables/html-decimal/rules.tab tables/html-decimal/input.txt << 'END'
+   rule          uses  line
+      0             1     4  "&#00;" ==> [38, 35, 48, 48, 59];
+      1             5     7  "&#[0-9][0-9];" ==> [10 * x2 + x3 - 528];
+      2             1    10  "&#$" ==> [38, 35];
+default            52    12  else ==> [x0];
+END
 
 # A table without rules, and an output character that is no byte.
 : > "$out/empty"
@@ -43,6 +97,10 @@ expect high 1 "$out/high.tab" "$out/input" "$out/empty" 'an output character abo
 make --no-print-directory demo > "$out/demo"
 awk '/^-- counts/ { shown = 0 } shown; /^-- output/ { shown = 1 }' "$out/demo" > "$out/text"
 for name in html-decimal sdi12; do cat "tables/$name/expected.txt"; echo; done | cmp - "$out/text"
+# The demo shows both tables' uses: in the sample of sdi12 seven values begin with a plus sign and six with a minus sign.
+for uses in '      1             5     7  "&#[0-9][0-9];" ' '      0             7     4  "+[.0-9]" ' '      1             6     7  "-[.0-9]" '; do
+    grep -qF -- "$uses" "$out/demo" || { echo "demo: does not show: $uses" >&2; exit 1; }
+done
 tail -n 1 "$out/demo" | grep -qF 'not proved. `make build` proves' || { echo "demo: the last line does not say that nothing is proved" >&2; exit 1; }
 
 echo "stations and demo: all tables as expected"

@@ -1,6 +1,6 @@
 #!/usr/bin/env bash
-# Converts the samples of two tables by the station in C; prints input, output, and the steps beside their bound. The library is compiled in
-# seconds, with no proof, as `rt try` compiles a program.
+# Converts the samples of two tables by the station in C; prints input, output, the steps beside their bound, and how often each rule was used.
+# The library is compiled in seconds, with no proof, as `rt try` compiles a program.
 set -euo pipefail
 cd "$(dirname "$0")/.."
 
@@ -29,7 +29,7 @@ for name in html-decimal sdi12; do
     echo "-- output"
     "$out/station" "$folder/rules.tab" < "$folder/input.txt" 2> "$out/counts"
     echo
-    echo "-- counts; L is the longest pattern, n the length of the input, the bound (L + 3) * n + 1"
+    echo "-- counts; L is the longest pattern, n the length of the input, the bound (L + 3) * n + 1; then each rule's uses"
     cat "$out/counts"
     echo
 done

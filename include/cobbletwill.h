@@ -10,12 +10,13 @@
  * Buffers. A buffer is a pointer to its first element and then its number of
  * elements. With the number 0 the pointer is not used and may be null. No other
  * pointer may be null: `session`, `place` and `written` always point to one
- * object. Pointers are aligned as their type.
+ * object, `uses` to 33. Pointers are aligned as their type.
  *
  * Overlaps. What a call may write (the words of compile, `output`, `*session`,
- * `*place`, `*written`) must not overlap anything else that is passed to it. What
- * it only reads (`table`, `input`, `piece`, the words of feed and finish) may
- * overlap, and may lie in read-only memory.
+ * `uses`, `*place`, `*written`) must not overlap anything else that is passed to
+ * it. Where `uses` is passed too, `*session` is the 48 bytes before its counts.
+ * What a call only reads (`table`, `input`, `piece`, the words of feed and finish)
+ * may overlap, and may lie in read-only memory.
  *
  * A refused call writes nothing, but for a compile refused by 1 to 9, which
  * leaves its words 0. So at any other refusal what could have been written may
@@ -31,11 +32,12 @@
 #include <stdint.h>
 
 /* The version of this header and its library: record kinds, word and session
- * layout, answers, functions. Words of 0.2, which has no digits, are not for 0.3. */
+ * layout, answers, functions. Words of 0.2, which has no digits, are not for
+ * later versions, nor are sessions of 0.3, which have no counts of uses. */
 #define COBBLETWILL_VERSION_MAJOR 0
-#define COBBLETWILL_VERSION_MINOR 3
+#define COBBLETWILL_VERSION_MINOR 4
 #define COBBLETWILL_VERSION_PATCH 0
-#define COBBLETWILL_VERSION "0.3.0"
+#define COBBLETWILL_VERSION "0.4.0"
 
 #ifdef __cplusplus
 extern "C" {
@@ -44,8 +46,14 @@ extern "C" {
 /* The machine words of a table: 19,961 of 16 bits. */
 enum { COBBLETWILL_WORDS = 19961 };
 
+/* The counts of uses in a session: a rule's at its number, 0 to 31, and the
+ * default's. */
+enum { COBBLETWILL_DEFAULT = 32, COBBLETWILL_USES = 33 };
+
 /* The most stack that a call takes on x86-64, in bytes: its return address, and
- * all below but for the frames of memcpy and memset. */
+ * all below but for the frames of memcpy and memset. Feed and finish are inline:
+ * these are the limits of the functions that they call, and a frame of their own,
+ * where the compiler makes one, is the caller's. */
 enum {
     COBBLETWILL_STACK_CHECK = 12288,
     COBBLETWILL_STACK_CONVERT = 12288,
@@ -227,7 +235,7 @@ typedef struct cobbletwill_tally {
 } cobbletwill_tally;
 
 /*
- * What a feed or a finish leaves for the next one: 48 bytes aligned as a uint64_t,
+ * What a feed or a finish leaves for the next one: 312 bytes aligned as a uint64_t,
  * the fields in this order without gaps. With all of it 0 a session is fresh, as
  *
  *     cobbletwill_session session = COBBLETWILL_FRESH;
@@ -251,10 +259,15 @@ typedef struct cobbletwill_session {
     /* The characters held: received, but not decided yet. Places from
      * `held_count` on are 0. */
     uint16_t held[8];
+    /* How often each rule was used, that is, wrote its output: rule i at i, and
+     * the default at COBBLETWILL_DEFAULT. Each count times the length of its
+     * pattern, the default's times 1, add up to the characters consumed. Counts
+     * of rules or a default that the table lacks are 0. */
+    uint64_t uses[COBBLETWILL_USES];
 } cobbletwill_session;
 
 /* The value that a fresh session is initialized by. */
-#define COBBLETWILL_FRESH {0, {0, 0}, 0, 0, 0, {0, 0, 0, 0, 0, 0, 0, 0}}
+#define COBBLETWILL_FRESH {0, {0, 0}, 0, 0, 0, {0}, {0}}
 
 /* The layout that the library was built for. */
 #if defined(__cplusplus) && __cplusplus >= 201103L
@@ -269,15 +282,35 @@ COBBLETWILL_HOLDS(COBBLETWILL_WORDS == 6 + 64 + 3 * 256 + 64 * 256 + 33 * (3 + 8
 COBBLETWILL_HOLDS(sizeof(cobbletwill_tally) == 16);
 COBBLETWILL_HOLDS(offsetof(cobbletwill_tally, produced) == 0);
 COBBLETWILL_HOLDS(offsetof(cobbletwill_tally, steps) == 8);
-COBBLETWILL_HOLDS(sizeof(cobbletwill_session) == 8 + 16 + 4 + 2 + 2 + 8 * 2);
+COBBLETWILL_HOLDS(sizeof(cobbletwill_session) == 8 + 16 + 4 + 2 + 2 + 8 * 2 + 33 * 8);
 COBBLETWILL_HOLDS(offsetof(cobbletwill_session, received) == 0);
 COBBLETWILL_HOLDS(offsetof(cobbletwill_session, tally) == 8);
 COBBLETWILL_HOLDS(offsetof(cobbletwill_session, status) == 24);
 COBBLETWILL_HOLDS(offsetof(cobbletwill_session, state) == 28);
 COBBLETWILL_HOLDS(offsetof(cobbletwill_session, held_count) == 30);
 COBBLETWILL_HOLDS(offsetof(cobbletwill_session, held) == 32);
+COBBLETWILL_HOLDS(offsetof(cobbletwill_session, uses) == 48);
+COBBLETWILL_HOLDS(COBBLETWILL_USES == COBBLETWILL_DEFAULT + 1);
 #undef COBBLETWILL_HOLDS
 #endif
+
+/*
+ * Feed and finish of a session that is lent in two parts, for callers that can't
+ * call the inline functions below. `session` points to a session, of which the 48
+ * bytes before its counts are read and written and the others not touched; `uses`
+ * points to its 33 counts, there or elsewhere. A call changes counts where they
+ * stand and copies none. All else is as for cobbletwill_feed and
+ * cobbletwill_finish.
+ */
+uint32_t cobbletwill_feed_parts(const uint16_t *words, size_t words_length,
+                                cobbletwill_session *session, uint64_t *uses,
+                                const uint16_t *piece, size_t piece_length,
+                                uint16_t *output, size_t output_length,
+                                uint64_t *written);
+uint32_t cobbletwill_finish_parts(const uint16_t *words, size_t words_length,
+                                  cobbletwill_session *session, uint64_t *uses,
+                                  uint16_t *output, size_t output_length,
+                                  uint64_t *written);
 
 /*
  * Feed. `words` has `words_length` words, which are only read; at most the first
@@ -302,11 +335,14 @@ COBBLETWILL_HOLDS(offsetof(cobbletwill_session, held) == 32);
  *   15  `output_length` below E times (held plus `piece_length`); E, the greatest
  *       number of output characters in a group, is words[3]
  */
-uint32_t cobbletwill_feed(const uint16_t *words, size_t words_length,
-                          cobbletwill_session *session,
-                          const uint16_t *piece, size_t piece_length,
-                          uint16_t *output, size_t output_length,
-                          uint64_t *written);
+static inline uint32_t cobbletwill_feed(const uint16_t *words, size_t words_length,
+                                        cobbletwill_session *session,
+                                        const uint16_t *piece, size_t piece_length,
+                                        uint16_t *output, size_t output_length,
+                                        uint64_t *written) {
+    return cobbletwill_feed_parts(words, words_length, session, session->uses, piece,
+                                  piece_length, output, output_length, written);
+}
 
 /*
  * Finish: the input ends with the characters received. The arguments are those of
@@ -324,10 +360,13 @@ uint32_t cobbletwill_feed(const uint16_t *words, size_t words_length,
  *   13  a session that is closed or stopped
  *   15  `output_length` below E times held
  */
-uint32_t cobbletwill_finish(const uint16_t *words, size_t words_length,
-                            cobbletwill_session *session,
-                            uint16_t *output, size_t output_length,
-                            uint64_t *written);
+static inline uint32_t cobbletwill_finish(const uint16_t *words, size_t words_length,
+                                          cobbletwill_session *session,
+                                          uint16_t *output, size_t output_length,
+                                          uint64_t *written) {
+    return cobbletwill_finish_parts(words, words_length, session, session->uses, output,
+                                    output_length, written);
+}
 
 #ifdef __cplusplus
 }

@@ -6,6 +6,7 @@ use reference::random::Random;
 use reference::reckoning::Call;
 use reference::refusal::Refusal;
 use reference::session::{self, Answer};
+use reference::uses::Uses;
 use reference::words::Words;
 
 use crate::cases::{pattern, room};
@@ -111,6 +112,7 @@ pub fn read(session: &Session) -> Option<session::Session> {
         received: session.received,
         produced: session.tally.produced,
         steps: session.tally.steps,
+        uses: Uses(session.uses),
     })
 }
 
@@ -130,6 +132,7 @@ pub fn written(session: &session::Session) -> Session {
         state: session.state,
         held_count: session.count,
         held: session.held,
+        uses: session.uses.0,
     }
 }
 

@@ -79,12 +79,21 @@ pub fn sound_tables(seed: u64) -> impl Iterator<Item = Table> {
 /// the states are 256, with one of 8 they are 257.
 pub fn large_table(first: u16, last_length: usize) -> Vec<u8> {
     let lengths = [&[MAX_LENGTH; MAX_RULES - 1][..], &[last_length]].concat();
-    let rule = |table: TableBuilder, (length, first): (usize, u16)| {
-        let table = table.rule(length).range(0, first, first);
-        (1..length).fold(table, |table, position| table.range(position, 0, u16::MAX))
-    };
     let rules = lengths.into_iter().zip((first..).step_by(2));
-    rules.fold(TableBuilder::new(), rule).bytes()
+    rules_apart(rules, |table| table).bytes()
+}
+
+/// A rule of each length with the first character beside it, and then any
+/// characters; to each the same records are added.
+pub fn rules_apart(
+    rules: impl Iterator<Item = (usize, u16)>,
+    added: impl Fn(TableBuilder) -> TableBuilder,
+) -> TableBuilder {
+    rules.fold(TableBuilder::new(), |table, (length, first)| {
+        let table = table.rule(length).range(0, first, first);
+        let any = |table: TableBuilder, position| table.range(position, 0, u16::MAX);
+        added((1..length).fold(table, any))
+    })
 }
 
 /// A random table with about 64 classes and 256 states, in the manner of

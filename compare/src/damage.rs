@@ -1,10 +1,11 @@
-//! Damaged machine words and sessions. The places are those of document 01's
-//! layout with request \[1\]'s blocks, written out.
+//! Damaged machine words and sessions, but for counts of uses. The places are those
+//! of document 01's layout with request \[1\]'s blocks, written out.
 
 use reference::lengths::MAX_RECEIVED;
 use reference::random::Random;
 
 use crate::face::Session;
+use crate::uses::groups;
 
 /// A part of the machine words.
 #[derive(Clone, Copy, Debug, PartialEq, Eq)]
@@ -129,7 +130,7 @@ impl Base {
     }
 }
 
-/// A field of a session.
+/// A field of a session, beside its counts of uses.
 #[derive(Clone, Copy, Debug, PartialEq, Eq)]
 pub enum Field {
     /// Characters received.
@@ -165,7 +166,8 @@ impl Field {
 
 /// The session with another value of a field: near, at a limit of document 01 or
 /// one beyond it, small, or any. A limit of produced or steps is sometimes that
-/// of the most characters received.
+/// of the most characters received. Three times in four, a group's uses follow the
+/// characters received.
 pub fn damaged_session(
     random: &mut Random,
     words: &[u16],
@@ -175,10 +177,16 @@ pub fn damaged_session(
     let mut damaged = *session;
     if matches!(field, Field::Produced | Field::Steps) && random.one_in(4) {
         damaged.received = MAX_RECEIVED - random.below(3) as u64;
+        follow(words, session, &mut damaged);
     }
     let limits = Limits::of(words, &damaged);
     match field {
-        Field::Received => damaged.received = received(random, session),
+        Field::Received => {
+            damaged.received = received(random, session);
+            if !random.one_in(4) {
+                follow(words, session, &mut damaged);
+            }
+        }
         Field::Produced => {
             damaged.tally.produced = large(random, session.tally.produced, limits.produced)
         }
@@ -192,6 +200,22 @@ pub fn damaged_session(
         }
     }
     damaged
+}
+
+/// Lets the uses of the last group, the default if there is one, follow the
+/// characters received, which are brought to a multiple of its K more or less; but
+/// for numbers that no uses come to.
+fn follow(words: &[u16], session: &Session, damaged: &mut Session) {
+    let groups = groups(words);
+    let (place, length) = groups[groups.len() - 1];
+    let [before, after] = [session, &*damaged].map(|session| i128::from(session.received));
+    let more = (after - before) / i128::from(length);
+    let uses = u64::try_from(i128::from(session.uses[place]) + more);
+    let received = u64::try_from(before + more * i128::from(length));
+    if let (Ok(uses), Ok(received)) = (uses, received) {
+        damaged.uses[place] = uses;
+        damaged.received = received;
+    }
 }
 
 /// An open session with one character more, which a target of its state takes:

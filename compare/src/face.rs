@@ -1,7 +1,9 @@
 //! The functions of `include/cobbletwill.h`, by way of the package for Rust, and
 //! what direct conversion answers in the independent version's terms.
 
-pub use cobbletwill::raw::{check, compile, convert, feed, finish, is_sound, OK, OPEN, STOPPED};
+pub use cobbletwill::raw::{
+    check, compile, convert, feed, finish, is_sound, DEFAULT, OK, OPEN, STOPPED, USES,
+};
 pub use cobbletwill::{Session, Tally};
 use reference::direct::Conversion;
 use reference::meaning::Ending;

@@ -2,12 +2,12 @@
 //! beside. It works over the machine words of a table, out of which it prepares
 //! a class for each of the 65,536 characters, whether it begins no pattern, and
 //! for each state and class what to do there. It tests words once, when it is
-//! made, and trusts its sessions.
+//! made, and trusts its sessions, whose counts of uses it changes in place.
 
 use reference::refusal::Refusal;
 use reference::words::Words;
 
-use crate::face::Session;
+use crate::face::{Session, DEFAULT, USES};
 
 /// Characters of the piece that are looked at beside those held: more than the 8
 /// that a round may read and the one after them.
@@ -118,14 +118,15 @@ impl Fast {
         let mut head = [0; 8 + AHEAD];
         let text = joined(&mut head, &session.held[..held], piece);
         let mut place = start(session);
-        self.run(text, held, &mut place, output);
+        let uses = &mut session.uses;
+        self.run(text, held, &mut place, uses, output);
         // A round from a held character sees no further than the head; so where
         // one is left, the piece has ended.
         let (text, gone) = if place.from < held || place.status != 0 {
             (text, place.from)
         } else {
             (place.from, place.at) = (place.from - held, place.at - held);
-            self.run(piece, piece.len(), &mut place, output);
+            self.run(piece, piece.len(), &mut place, uses, output);
             (piece, held + place.from)
         };
         leave(session, piece.len(), gone, text, &place)
@@ -141,10 +142,11 @@ impl Fast {
         let places = session.held;
         let text = &places[..held];
         let mut place = start(session);
+        let uses = &mut session.uses;
         while place.status == 0 {
-            self.run(text, held, &mut place, output);
+            self.run(text, held, &mut place, uses, output);
             if place.status == 0 {
-                self.end(text, &mut place, output);
+                self.end(text, &mut place, uses, output);
             }
         }
         leave(session, 0, place.from, &[], &place)
@@ -163,19 +165,26 @@ impl Fast {
 
     /// Runs until the text is read, the store begins at a place or beyond, or the
     /// machine stops.
-    fn run(&self, text: &[u16], until: usize, place: &mut Place, output: &mut [u16]) {
+    fn run(
+        &self,
+        text: &[u16],
+        until: usize,
+        place: &mut Place,
+        uses: &mut [u64; USES],
+        output: &mut [u16],
+    ) {
         let mut now = *place;
         while now.from < until {
             if now.at == now.from {
-                self.convert_plain(&text[now.from..until], &mut now, output);
+                self.convert_plain(&text[now.from..until], &mut now, uses, output);
             }
             match self.read(text, &mut now) {
                 Some(Action::Settle(rule)) => {
                     now.at += 1;
-                    self.emit(rule, text, &mut now, output);
+                    self.emit(rule, text, &mut now, uses, output);
                 }
-                Some(Action::Accept(rule)) => self.emit(rule, text, &mut now, output),
-                Some(Action::Back) => self.back(text, &mut now, output),
+                Some(Action::Accept(rule)) => self.emit(rule, text, &mut now, uses, output),
+                Some(Action::Back) => self.back(text, &mut now, uses, output),
                 Some(Action::Read(_)) | None => break,
             }
             if now.status != 0 {
@@ -188,7 +197,13 @@ impl Fast {
     /// Converts characters that begin no pattern, up to one that may, if the
     /// default writes one character.
     #[inline(always)]
-    fn convert_plain(&self, text: &[u16], now: &mut Place, output: &mut [u16]) {
+    fn convert_plain(
+        &self,
+        text: &[u16],
+        now: &mut Place,
+        uses: &mut [u64; USES],
+        output: &mut [u16],
+    ) {
         let Some(DefaultOutput::One {
             constant,
             coefficient,
@@ -208,6 +223,7 @@ impl Fast {
         now.at = now.from;
         now.count += count;
         now.steps = now.steps.wrapping_add(3 * count as u64);
+        uses[DEFAULT] += count as u64;
     }
 
     /// Reads while the states lead on; what to do then, or none at the text's end.
@@ -231,11 +247,11 @@ impl Fast {
 
     /// At the input's end, with the text read: the end rule, the default or a
     /// stop where there is a store, else the close.
-    fn end(&self, text: &[u16], now: &mut Place, output: &mut [u16]) {
+    fn end(&self, text: &[u16], now: &mut Place, uses: &mut [u64; USES], output: &mut [u16]) {
         if let Some(rule) = self.ends[usize::from(now.state) / 64] {
-            self.emit(rule, text, now, output);
+            self.emit(rule, text, now, uses, output);
         } else if now.from < now.at {
-            self.back(text, now, output);
+            self.back(text, now, uses, output);
         } else {
             now.steps = now.steps.wrapping_add(1);
             now.status = 1;
@@ -244,7 +260,14 @@ impl Fast {
 
     /// Writes a rule's output from the store.
     #[inline(always)]
-    fn emit(&self, rule: u8, text: &[u16], now: &mut Place, output: &mut [u16]) {
+    fn emit(
+        &self,
+        rule: u8,
+        text: &[u16],
+        now: &mut Place,
+        uses: &mut [u64; USES],
+        output: &mut [u16],
+    ) {
         let store = &text[now.from..now.at];
         now.count += write(
             &self.rules[usize::from(rule)],
@@ -252,13 +275,14 @@ impl Fast {
             &mut output[now.count..],
         );
         now.steps = now.steps.wrapping_add(store.len() as u64 + 1);
+        uses[usize::from(rule)] += 1;
         now.from = now.at;
         now.state = 0;
     }
 
     /// Gives the store back and writes the default's output, or stops.
     #[inline(always)]
-    fn back(&self, text: &[u16], now: &mut Place, output: &mut [u16]) {
+    fn back(&self, text: &[u16], now: &mut Place, uses: &mut [u64; USES], output: &mut [u16]) {
         let reads = (now.at - now.from) as u64;
         if let Some(default) = &self.default {
             let store = &text[now.from..=now.from];
@@ -275,6 +299,7 @@ impl Fast {
             };
             now.from += 1;
             now.steps = now.steps.wrapping_add(reads + 3);
+            uses[DEFAULT] += 1;
         } else {
             now.steps = now.steps.wrapping_add(reads + 2);
             now.status = 2;

@@ -8,6 +8,7 @@
 //! - [`calls`]: feeds and finishes by both, and random ones
 //! - [`lists`]: lists of calls by both, beside the reckoning
 //! - [`damage`]: damaged machine words and sessions
+//! - [`uses`]: sessions with uses of many rules, and damage to their counts
 //! - [`fast`]: the rollback machine written for speed
 //! - `flex`: T1's rules as a scanner that flex generates (feature `flex`)
 //!
@@ -26,3 +27,4 @@ pub mod fast;
 #[cfg(feature = "flex")]
 pub mod flex;
 pub mod lists;
+pub mod uses;

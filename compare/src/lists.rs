@@ -11,6 +11,7 @@ use reference::words::WORDS;
 
 use crate::calls::{code, compare, random_call, written, Left};
 use crate::face::{self, Session, OK};
+use crate::uses::taken;
 
 /// A table that compiles, with its words, which the library made.
 pub struct Compiled {
@@ -39,6 +40,17 @@ impl Compiled {
         let length = random.below(201);
         random_input(random, &self.automaton.table, length)
     }
+}
+
+/// "The sum over rules of count times K, plus the default's count, is the consumed
+/// total."
+///
+/// # Panics
+///
+/// If it is not.
+pub fn assert_used(words: &[u16], session: &Session) {
+    let consumed = u128::from(session.consumed());
+    assert_eq!(taken(words, session), consumed, "{session:?}");
 }
 
 /// A session under random calls, compared after each.
@@ -70,6 +82,7 @@ impl Called {
         for _ in 0..calls {
             let call = random_call(random, &machine.words, &called.session, &mut unread);
             let left = compare(&machine.words, called.session, &call);
+            assert_used(&machine.words, &left.session);
             note(&called.session, &call, &left);
             called.text.extend(left.text());
             called.codes.push(left.code);

@@ -2,13 +2,16 @@
  * Converts standard input under a table, piece by piece.
  *
  * `station TABLE < input > output`, one character a byte. Standard error has
- * the counts at the end. Ends with 0 for closed, 2 for stopped, 1 for all else.
+ * the counts at the end, and how often each rule was used, with its line of the
+ * source if that stands beside the table: rules.txt beside rules.tab. Ends with 0
+ * for closed, 2 for stopped, 1 for all else.
  */
 #include <inttypes.h>
 #include <stdbool.h>
 #include <stdint.h>
 #include <stdio.h>
 #include <stdlib.h>
+#include <string.h>
 
 #include "cobbletwill.h"
 
@@ -82,6 +85,85 @@ static void report(const cobbletwill_session *session, uint32_t answer, uint64_t
             session->tally.steps, longest, fed, (longest + 3) * fed + 1);
 }
 
+/* A rule or the default as the source has it: its line, and its text there. */
+struct statement {
+    int line, length;
+    const char *text;
+};
+
+/* One more than any table has, so that too many are noticed. */
+enum { STATEMENTS = COBBLETWILL_USES + 1 };
+
+/* Finds the statements of a source, each up to its semicolon or the end of its first
+ * line; their number. A line that begins with # is a comment, and in quotes a
+ * backslash makes the next character plain. */
+static int find_statements(const char *source, struct statement statements[STATEMENTS]) {
+    bool inside = false, quoted = false, escaped = false;
+    int count = 0, line = 0;
+    for (const char *at = source, *end; *at != 0; at = *end == 0 ? end : end + 1) {
+        end = at + strcspn(at, "\n");
+        line++;
+        for (const char *place = at; place < end && *at != '#'; place++) {
+            if (!inside && strchr(" \r", *place) == NULL) {
+                if (count == STATEMENTS) {
+                    return count;
+                }
+                statements[count++] = (struct statement){line, (int)(end - place), place};
+                inside = true;
+            }
+            if (*place == ';' && !quoted) {
+                struct statement *last = &statements[count - 1];
+                inside = false;
+                last->length = last->line == line ? (int)(place + 1 - last->text) : last->length;
+            }
+            quoted ^= *place == '"' && !escaped;
+            escaped = *place == '\\' && !escaped;
+        }
+    }
+    return count;
+}
+
+/* Reads the source beside a table, if there is one: the file with the ending .txt. */
+static const char *read_source(const char *table_path) {
+    static char path[4096], source[1 << 16];
+    const char *name = strrchr(table_path, '/') == NULL ? table_path : strrchr(table_path, '/');
+    const char *ending = strrchr(name, '.');
+    size_t kept = ending == NULL ? strlen(table_path) : (size_t)(ending - table_path);
+    if (kept + sizeof ".txt" <= sizeof path) {
+        memcpy(path, table_path, kept);
+        memcpy(path + kept, ".txt", sizeof ".txt");
+        FILE *file = fopen(path, "rb");
+        if (file != NULL) {
+            source[fread(source, 1, sizeof source - 1, file)] = 0;
+            fclose(file);
+        }
+    }
+    return source;
+}
+
+/* How often each rule and the default were used, with their lines of the source if
+ * it has the same rules and default as the table. */
+static void report_uses(const cobbletwill_session *session, const char *source) {
+    struct statement statements[STATEMENTS];
+    int rules = words[4], groups = rules + words[5];
+    bool known = find_statements(source, statements) == groups;
+    for (int i = 0; i < groups && known; i++) {
+        known = statements[i].text[0] == (i < rules ? '"' : 'e');
+    }
+    fprintf(stderr, "   rule          uses%s\n", known ? "  line" : "");
+    for (int i = 0; i < groups; i++) {
+        if (i < rules) {
+            fprintf(stderr, "%7d %13" PRIu64, i, session->uses[i]);
+        } else {
+            fprintf(stderr, "default %13" PRIu64, session->uses[COBBLETWILL_DEFAULT]);
+        }
+        if (known) {
+            fprintf(stderr, " %5d  %.*s", statements[i].line, statements[i].length, statements[i].text);
+        }
+        fputc('\n', stderr);
+    }
+}
+
 int main(int argc, char **argv) {
     if (argc != 2) {
         fputs("usage: station TABLE < input\n", stderr);
@@ -111,5 +193,6 @@ int main(int argc, char **argv) {
         return 1;
     }
     report(&session, answer, fed);
+    report_uses(&session, read_source(argv[1]));
     return answer == COBBLETWILL_OK ? 0 : 2;
 }

@@ -4,7 +4,7 @@
 use crate::classes::Classes;
 use crate::refusal::Refusal;
 use crate::states::{StateNo, States};
-use crate::table::{RuleNo, Table};
+use crate::table::{RuleNo, Table, MAX_RULES};
 
 /// A group that the machine emits: a rule's or the default's.
 #[derive(Clone, Copy, Debug, PartialEq, Eq)]
@@ -13,6 +13,22 @@ pub enum Choice {
     Rule(RuleNo),
     /// The default group.
     Default,
+}
+
+impl Choice {
+    /// Every group that a machine may have, by number.
+    pub fn all() -> impl Iterator<Item = Choice> {
+        let rules = (0..MAX_RULES as u16).map(|number| Choice::Rule(RuleNo(number)));
+        rules.chain([Choice::Default])
+    }
+
+    /// The group's number: a rule's own, or 32 for the default.
+    pub fn number(self) -> usize {
+        match self {
+            Choice::Rule(rule) => rule.index(),
+            Choice::Default => MAX_RULES,
+        }
+    }
 }
 
 /// What the plain machine asks of the states, classes and groups.

@@ -1,6 +1,6 @@
 //! An independent version of the rollback converter, written from document 01
-//! and request \[1\] of document 02 alone, for comparison with the definitions and
-//! the code of the project.
+//! and requests \[1\] and \[2\] of document 02 alone, for comparison with the
+//! definitions and the code of the project.
 //!
 //! The modules in document 01's order:
 //!
@@ -10,6 +10,7 @@
 //! - [`automaton`]: the interface between the machine and where its states are kept
 //! - [`words`]: the layout of the machine words and their soundness
 //! - [`machine`]: the plain machine, one counted step at a time
+//! - [`uses`]: how often each rule and the default were used
 //! - [`session`]: sessions, feed and finish
 //! - [`reckoning`]: what a list of calls must give, from the table and the calls alone
 //! - [`direct`], [`compile`]: direct conversion and compiling
@@ -36,4 +37,5 @@ pub mod samples;
 pub mod session;
 pub mod states;
 pub mod table;
+pub mod uses;
 pub mod words;

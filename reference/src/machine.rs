@@ -2,6 +2,7 @@
 
 use crate::automaton::{Automaton, Choice};
 use crate::states::StateNo;
+use crate::uses::Uses;
 
 /// One step of the machine. Waiting is none.
 #[derive(Clone, Copy, Debug, PartialEq, Eq, Hash)]
@@ -59,6 +60,7 @@ pub struct Machine<'a, A> {
     output: Vec<u16>,
     consumed: u64,
     steps: u64,
+    uses: Uses,
 }
 
 impl<'a, A: Automaton> Machine<'a, A> {
@@ -86,6 +88,7 @@ impl<'a, A: Automaton> Machine<'a, A> {
             output: Vec::new(),
             consumed: 0,
             steps: 0,
+            uses: Uses::NONE,
         }
     }
 
@@ -176,6 +179,7 @@ impl<'a, A: Automaton> Machine<'a, A> {
     fn emit(&mut self, choice: Choice) -> Step {
         self.automaton.write(choice, &self.store, &mut self.output);
         self.consumed += self.store.len() as u64;
+        self.uses.count(choice);
         self.store.clear();
         self.state = StateNo::START;
         self.phase = Phase::Matching;
@@ -237,5 +241,10 @@ impl<'a, A: Automaton> Machine<'a, A> {
     /// The steps counted.
     pub fn steps(&self) -> u64 {
         self.steps
+    }
+
+    /// The emits counted, by the group whose output each wrote.
+    pub fn uses(&self) -> &Uses {
+        &self.uses
     }
 }

@@ -91,6 +91,7 @@ impl Reckoning {
             },
             produced: machine.output().len() as u64,
             steps: machine.steps(),
+            uses: *machine.uses(),
         };
         self.output = machine.output().to_vec();
     }

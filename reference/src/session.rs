@@ -1,16 +1,18 @@
 //! Sessions, their soundness, feed and finish.
 
-use crate::automaton::Automaton;
+use crate::automaton::{Automaton, Choice};
 use crate::lengths::{Lengths, MAX_RECEIVED};
 use crate::machine::{Machine, Status};
 use crate::refusal::Refusal;
 use crate::states::StateNo;
 use crate::table::MAX_LENGTH;
+use crate::uses::Uses;
 use crate::words::Words;
 
 /// "A session has a status (open, closed, stopped), state, held characters (the
 /// store, others 0), counts received, produced, steps." Document 01 leaves open
-/// where the number of held characters is kept: it is a field of its own.
+/// where the number of held characters is kept: it is a field of its own. Request
+/// \[2\] adds the counts of uses.
 #[derive(Clone, Copy, Debug, PartialEq, Eq)]
 pub struct Session {
     /// Open, closed or stopped.
@@ -27,6 +29,8 @@ pub struct Session {
     pub produced: u64,
     /// Steps counted.
     pub steps: u64,
+    /// How often each rule and the default were used.
+    pub uses: Uses,
 }
 
 /// What an accepted feed or finish answers: the count of its output and the
@@ -49,6 +53,7 @@ impl Session {
         received: 0,
         produced: 0,
         steps: 0,
+        uses: Uses::NONE,
     };
 
     /// The held characters; 12 if the session is not sound. Whatever numbers it
@@ -58,6 +63,7 @@ impl Session {
             .filter(|&(held, unused)| {
                 unused.iter().all(|&character| character == 0)
                     && self.counts_are_sound(words)
+                    && self.uses_are_sound(words)
                     && self.place_is_sound(words, held)
             })
             .map(|(held, _)| held)
@@ -91,6 +97,22 @@ impl Session {
             && u128::from(self.steps) <= most_steps
     }
 
+    /// "The sum over rules of count times K, plus the default's count, is the
+    /// consumed total", K of the default being 1, and "counts of rules or a default
+    /// that the machine lacks" are 0. In 128 bits no counts add up to too much.
+    fn uses_are_sound(&self, words: &Words) -> bool {
+        let lengths = Choice::all().map(|choice| words.length(choice));
+        let mut taken = 0;
+        for (length, uses) in lengths.zip(self.uses.0) {
+            match length {
+                Some(length) => taken += u128::from(length) * u128::from(uses),
+                None if uses == 0 => (),
+                None => return false,
+            }
+        }
+        self.consumed().map(u128::from) == Some(taken)
+    }
+
     /// Open, "the held characters lead from state 0 to the state by targets,
     /// neither through nor to a state whose go equals its end"; closed or
     /// stopped, "state 0, nothing held".
@@ -121,6 +143,7 @@ impl Session {
             received,
             produced: self.produced + machine.output().len() as u64,
             steps: self.steps + machine.steps(),
+            uses: self.uses.with(machine.uses()),
         }
     }
 }

@@ -43,14 +43,6 @@ const HEADER_LIMITS: [RangeInclusive<u16>; STARTS] = [
     0..=1,
 ];
 
-/// The number of a group's block: a rule's number, or 32 for the default.
-fn block_number(choice: Choice) -> usize {
-    match choice {
-        Choice::Rule(rule) => rule.index(),
-        Choice::Default => MAX_RULES,
-    }
-}
-
 /// Lays out a table's automaton in words; unused words are 0.
 pub fn lay_out(automaton: &TableAutomaton, words: &mut [u16; WORDS]) {
     words.fill(0);
@@ -168,6 +160,15 @@ impl<'w> Words<'w> {
         self.0[4]
     }
 
+    /// K of a group; none of a rule or a default that the machine lacks.
+    pub fn length(&self, choice: Choice) -> Option<u16> {
+        let has = match choice {
+            Choice::Rule(rule) => rule.0 < self.rules(),
+            Choice::Default => self.has_default(),
+        };
+        has.then(|| self.block(choice).length())
+    }
+
     /// The depth of a state.
     pub fn depth(&self, state: StateNo) -> u16 {
         self.0[STATES + STATE * state.index()]
@@ -181,7 +182,7 @@ impl<'w> Words<'w> {
 
     /// The block of a group.
     fn block(&self, choice: Choice) -> Block<'w> {
-        Block(&self.0[BLOCKS + BLOCK * block_number(choice)..][..BLOCK])
+        Block(&self.0[BLOCKS + BLOCK * choice.number()..][..BLOCK])
     }
 
     /// "Sound words", the header first: it says which words are in use.

@@ -1,5 +1,5 @@
-//! Demand 3: lists of feeds and finishes of compiled machines, from a fresh
-//! session, against the reckoning and against Definition 7.
+//! Demand 3 with the counts of uses: lists of feeds and finishes of compiled
+//! machines, from a fresh session, against the reckoning and against Definition 7.
 
 use std::collections::BTreeMap;
 
@@ -7,13 +7,14 @@ use reference::automaton::{Automaton, TableAutomaton};
 use reference::builder::{characters, encode, TableBuilder};
 use reference::compile::compiled;
 use reference::machine::{Machine, Status, Step};
-use reference::meaning::{convert, Ending};
+use reference::meaning::{choose, convert, Ending};
 use reference::random::Random;
 use reference::reckoning::{reckon, Call, Reckoning};
 use reference::refusal::Refusal;
 use reference::samples::{random_input, random_table, t1, t2};
 use reference::session::{feed, finish, Answer, Session};
-use reference::table::Table;
+use reference::table::{Group, Table};
+use reference::uses::{Uses, DEFAULT};
 use reference::words::Words;
 
 /// A table with its automaton and its machine words.
@@ -157,6 +158,7 @@ fn assert_demand_3(random: &mut Random, subject: &Subject, played: &Played, tall
     assert_eq!(played.session, reckoned.session);
 
     assert_consumed(subject, played, &reckoned);
+    assert_uses(subject.table(), &played.session);
 
     let n = reckoned.input.len() as u64;
     let longest = subject.table().longest() as u64;
@@ -184,6 +186,38 @@ fn assert_consumed(subject: &Subject, played: &Played, reckoned: &Reckoning) {
     assert_eq!(session.held[..following.len()], *following);
 }
 
+/// The groups of a table, with the places of their counts.
+fn groups(table: &Table) -> impl Iterator<Item = (usize, &Group)> {
+    let default = table.default.iter().map(|group| (DEFAULT, group));
+    table.rules.iter().enumerate().chain(default)
+}
+
+/// "The sum over rules of count times K, plus the default's count, is the
+/// consumed total", and nothing else was used.
+fn assert_uses(table: &Table, session: &Session) {
+    let mut others = session.uses;
+    let mut consumed = 0;
+    for (place, group) in groups(table) {
+        consumed += others.0[place] * group.length() as u64;
+        others.0[place] = 0;
+    }
+    assert_eq!(consumed, session.received - u64::from(session.count));
+    assert_eq!(others, Uses::NONE);
+}
+
+/// How often Definition 7 chooses each group, up to a place of an input.
+fn chosen(table: &Table, input: &[u16], end: usize) -> Uses {
+    let (mut uses, mut place) = (Uses::NONE, 0);
+    while place < end {
+        let chosen = choose(table, &input[place..]).expect("a choice before the end");
+        let mut groups = groups(table).filter(|(_, group)| std::ptr::eq(*group, chosen));
+        let (number, group) = groups.next().expect("a group of the table");
+        uses.0[number] += 1;
+        place += group.length();
+    }
+    uses
+}
+
 /// "The joined outputs are the text of demand 2's definition for the input. The
 /// session is then closed exactly when that definition reaches the input's end,
 /// and otherwise stopped at its place."
@@ -197,6 +231,8 @@ fn assert_definition_7(subject: &Subject, played: &Played, reckoned: &Reckoning)
     assert_eq!(played.session.status, status);
     assert_eq!(played.session.received, meaning.place as u64);
     assert_eq!(played.session.produced, meaning.text.len() as u64);
+    let uses = chosen(subject.table(), &reckoned.input, meaning.place);
+    assert_eq!(played.session.uses, uses);
 }
 
 /// "Where a feed stopped it, the definition's text and place and the plain
@@ -239,6 +275,10 @@ fn tally_list(tally: &mut Tally, subject: &Subject, played: &Played, reckoned: &
     tally.count("stopped by a feed", stopped && !reckoned.ended);
     tally.count("stopped by a finish", stopped && reckoned.ended);
     tally.count("stopped after text", stopped && session.produced > 0);
+    let used = |uses: &[u64]| uses.iter().filter(|&&uses| uses > 0).count();
+    let (rules, default) = session.uses.0.split_at(DEFAULT);
+    tally.count("several rules used", used(rules) > 1);
+    tally.count("default and rule used", used(rules) * used(default) > 0);
     for answer in &played.answers {
         tally.count("accepted", answer.is_ok());
         tally.count("accepted and written", answer.is_ok_and(|a| a.count > 0));
@@ -285,6 +325,8 @@ fn random_lists_of_calls_give_what_is_reckoned() {
         ("stopped by a feed", 3000),
         ("stopped by a finish", 300),
         ("stopped after text", 1500),
+        ("several rules used", 3000),
+        ("default and rule used", 3000),
         ("accepted", 100_000),
         ("accepted and written", 30_000),
         ("refused by 13", 20_000),
@@ -387,12 +429,13 @@ fn a_reckoning_by_hand_under_t1() {
         Err(Refusal::Ended),
         Err(Refusal::Ended),
     ];
-    // Five takes and an emit; two takes, an emit and a close.
+    // Five takes and an emit of rule 1; two takes, an emit of rule 2 and a close.
     let session = Session {
         status: Status::Closed,
         received: 7,
         produced: 3,
         steps: 10,
+        uses: Uses::of(&[(1, 1), (2, 1)]),
         ..Session::FRESH
     };
     let mut played = Played::new();
@@ -422,12 +465,13 @@ fn a_reckoning_by_hand_of_a_stop_under_t2() {
     ];
     assert_eq!(reckoned.answers, answers);
     assert_eq!(reckoned.output, characters("YYY"));
-    // Take and emit three times, back and stop.
+    // Take and emit rule 1 three times, back and stop.
     let session = Session {
         status: Status::Stopped,
         received: 3,
         produced: 3,
         steps: 8,
+        uses: Uses::of(&[(1, 3)]),
         ..Session::FRESH
     };
     assert_eq!(reckoned.session, session);

@@ -1,5 +1,5 @@
 //! Every example of document 01, with its answers copied from the document, and
-//! tables with digits, with answers worked out by hand.
+//! tables with digits, with answers worked out by hand, as all counts of uses are.
 
 use reference::automaton::TableAutomaton;
 use reference::builder::{characters, TableBuilder};
@@ -13,6 +13,7 @@ use reference::samples::{
 };
 use reference::session::{feed, finish, Session};
 use reference::table::{Table, RECORD_BYTES};
+use reference::uses::{Uses, DEFAULT};
 use reference::words::WORDS;
 
 /// A row of the examples that convert.
@@ -23,10 +24,12 @@ struct Row {
     ending: Ending,
     place: usize,
     steps: u64,
+    uses: Uses,
 }
 
 impl Row {
-    /// A row whose conversion reaches the input's end.
+    /// A row whose conversion reaches the input's end, of which no group was used
+    /// yet.
     fn closed(table: Vec<u8>, input: &'static str, text: &'static str, steps: u64) -> Row {
         Row {
             table,
@@ -35,7 +38,23 @@ impl Row {
             ending: Ending::Closed,
             place: characters(input).len(),
             steps,
+            uses: Uses::NONE,
         }
+    }
+
+    /// The row, stopped at a place.
+    fn stopped(self, place: usize) -> Row {
+        Row {
+            ending: Ending::Stopped,
+            place,
+            ..self
+        }
+    }
+
+    /// The row with so many uses of each group.
+    fn using(self, used: &[(usize, u64)]) -> Row {
+        let uses = Uses::of(used);
+        Row { uses, ..self }
     }
 }
 
@@ -51,45 +70,39 @@ fn rows() -> Vec<Row> {
 fn rows_of_digits() -> Vec<Row> {
     vec![
         Row::closed(two_digits(), "", "", 1),
-        Row::closed(two_digits(), "\0IJO \x7f", "00494A4F207F", 13),
-        Row::closed(two_digits(), "\u{99}\u{9a}\u{a9}\u{ff}", "999AA9FF", 9),
-        Row {
-            table: two_digits(),
-            input: "A\u{100}B",
-            text: "41",
-            ending: Ending::Stopped,
-            place: 1,
-            steps: 4,
-        },
-        Row::closed(four_digits(), "\u{9a}\u{a9bc}\u{ffff}", "009AA9BCFFFF", 7),
+        Row::closed(two_digits(), "\0IJO \x7f", "00494A4F207F", 13).using(&[(0, 6)]),
+        Row::closed(two_digits(), "\u{99}\u{9a}\u{a9}\u{ff}", "999AA9FF", 9).using(&[(0, 4)]),
+        Row::closed(two_digits(), "A\u{100}B", "41", 4)
+            .stopped(1)
+            .using(&[(0, 1)]),
+        Row::closed(four_digits(), "\u{9a}\u{a9bc}\u{ffff}", "009AA9BCFFFF", 7).using(&[(0, 3)]),
         // `aZb` is taken, emitted; the last `a` is the anchored rule's.
-        Row::closed(digits_and_sums(), "aZba", "%5A1", 7),
+        Row::closed(digits_and_sums(), "aZba", "%5A1", 7).using(&[(0, 1), (1, 1)]),
         // The second `a` may be any character; both are given back, and the
         // default has the first: 65535 less 97 is 65438, 0xff9e.
-        Row::closed(digits_and_sums(), "aa", "0\u{ff9e}1", 8),
+        Row::closed(digits_and_sums(), "aa", "0\u{ff9e}1", 8).using(&[(1, 1), (DEFAULT, 1)]),
         // 0xa123, of which 0x5edc is the rest.
-        Row::closed(digits_and_sums(), "\u{a123}", "A\u{5edc}", 4),
+        Row::closed(digits_and_sums(), "\u{a123}", "A\u{5edc}", 4).using(&[(DEFAULT, 1)]),
     ]
 }
 
 /// The eight P lines that convert an input.
 fn lines_marked_p() -> Vec<Row> {
     vec![
-        Row::closed(t1(), "&&#00;&#38;&#", "&&#00;&&#", 20),
+        // The default has the first `&`, and each rule one of the others.
+        Row::closed(t1(), "&&#00;&#38;&#", "&&#00;&&#", 20).using(&[
+            (0, 1),
+            (1, 1),
+            (2, 1),
+            (DEFAULT, 1),
+        ]),
         Row::closed(t1(), "", "", 1),
-        Row::closed(t1(), "&#", "&#", 4),
-        Row::closed(t1(), "&#4", "&#4", 13),
-        Row::closed(t2(), "a", "X", 3),
-        Row::closed(t2(), "aa", "YX", 5),
-        Row {
-            table: t2(),
-            input: "ab",
-            text: "Y",
-            ending: Ending::Stopped,
-            place: 1,
-            steps: 4,
-        },
-        Row::closed(t3(), "aba", "1a", 8),
+        Row::closed(t1(), "&#", "&#", 4).using(&[(2, 1)]),
+        Row::closed(t1(), "&#4", "&#4", 13).using(&[(DEFAULT, 3)]),
+        Row::closed(t2(), "a", "X", 3).using(&[(0, 1)]),
+        Row::closed(t2(), "aa", "YX", 5).using(&[(0, 1), (1, 1)]),
+        Row::closed(t2(), "ab", "Y", 4).stopped(1).using(&[(1, 1)]),
+        Row::closed(t3(), "aba", "1a", 8).using(&[(0, 1), (DEFAULT, 1)]),
     ]
 }
 
@@ -152,7 +165,7 @@ fn direct_conversion_answers_each_row_and_leaves_the_rest_of_the_buffer() {
 }
 
 #[test]
-fn the_plain_machine_counts_the_steps_of_each_row() {
+fn the_plain_machine_counts_the_steps_and_uses_of_each_row() {
     for row in rows() {
         let automaton = TableAutomaton::of(Table::read(&row.table).unwrap()).unwrap();
         let input = characters(row.input);
@@ -162,6 +175,7 @@ fn the_plain_machine_counts_the_steps_of_each_row() {
         assert_eq!(machine.status(), status(row.ending), "{}", row.input);
         assert_eq!(machine.consumed(), row.place as u64, "{}", row.input);
         assert_eq!(machine.steps(), row.steps, "{}", row.input);
+        assert_eq!(*machine.uses(), row.uses, "{}", row.input);
     }
 }
 
@@ -180,6 +194,7 @@ fn the_compiled_machine_gives_each_row_however_the_input_is_cut_in_three() {
                     received: row.place as u64,
                     produced: characters(row.text).len() as u64,
                     steps: row.steps,
+                    uses: row.uses,
                     ..Session::FRESH
                 };
                 assert_eq!(session, expected, "{} {first} {second}", row.input);

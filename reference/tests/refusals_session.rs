@@ -15,6 +15,7 @@ use reference::samples::{lookahead, random_input, random_table, t1, t2};
 use reference::session::{feed, finish, Answer, Session};
 use reference::states::StateNo;
 use reference::table::Table;
+use reference::uses::{Uses, DEFAULT, GROUPS};
 use reference::words::WORDS;
 
 const A: u16 = 97;
@@ -78,25 +79,54 @@ fn zeros() -> Vec<u8> {
     table.text("Z").copying_default().bytes()
 }
 
+/// The characters that a session has consumed; none if less was received than is
+/// held.
+fn consumed(session: &Session) -> u64 {
+    session.received.saturating_sub(session.count.into())
+}
+
+/// The session, all of whose consumed characters were the default's.
+fn counted(session: Session) -> Session {
+    Session {
+        uses: Uses::of(&[(DEFAULT, consumed(&session))]),
+        ..session
+    }
+}
+
 /// An open session that holds characters at a state.
 fn holding(state: u16, characters: &[u16]) -> Session {
     let mut held = [0; 8];
     held[..characters.len()].copy_from_slice(characters);
-    Session {
+    counted(Session {
         state,
         held,
         count: characters.len() as u16,
         received: 1000,
         ..Session::FRESH
+    })
+}
+
+/// An open session under T2, which has no default, that has used rule 1 for 999
+/// characters and holds one.
+fn holding_a_under_t2() -> Session {
+    Session {
+        uses: Uses::of(&[(1, 999)]),
+        ..holding(1, &[A])
     }
+}
+
+/// A session of a status that holds nothing and has consumed so many characters.
+fn received(received: u64, status: Status) -> Session {
+    counted(Session {
+        status,
+        received,
+        ..Session::FRESH
+    })
 }
 
 /// A session that has ended.
 fn ended(status: Status) -> Session {
-    Session {
-        status,
-        ..Session::FRESH
-    }
+    received(0, status)
 }
 
 /// Whether feed and finish take the session for sound.
@@ -129,6 +159,10 @@ enum Clause {
     EndedCount,
     /// Steps are within their bound.
     Steps,
+    /// The uses add up to the characters consumed.
+    Sum,
+    /// What the machine lacks was not used.
+    Lacking,
 }
 
 /// The clauses that a session breaks, in exact numbers and by the table's own
@@ -157,9 +191,32 @@ fn broken(automaton: &TableAutomaton, session: &Session) -> Vec<Clause> {
         (Clause::EndedState, open || session.state == 0),
         (Clause::EndedCount, open || count == 0),
         (Clause::Steps, steps <= most_steps),
+        (
+            Clause::Sum,
+            taken(&automaton.table, &session.uses) == consumed,
+        ),
+        (Clause::Lacking, lacks_uses(&automaton.table, &session.uses)),
     ];
     let broken = clauses.into_iter().filter(|&(_, holds)| !holds);
     broken.map(|(clause, _)| clause).collect()
+}
+
+/// "The sum over rules of count times K, plus the default's count."
+fn taken(table: &Table, uses: &Uses) -> i128 {
+    let rules = table.rules.iter().zip(uses.0);
+    let by_rules: i128 = rules
+        .map(|(rule, uses)| rule.length() as i128 * i128::from(uses))
+        .sum();
+    let by_default = table.default.as_ref().map_or(0, |_| uses.0[DEFAULT]);
+    by_rules + i128::from(by_default)
+}
+
+/// Whether the counts of rules or a default that the table lacks are 0.
+fn lacks_uses(table: &Table, uses: &Uses) -> bool {
+    uses.0[table.rules.len()..DEFAULT]
+        .iter()
+        .all(|&uses| uses == 0)
+        && (table.default.is_some() || uses.0[DEFAULT] == 0)
 }
 
 /// Whether characters lead from state 0 to a state by targets, none of which has
@@ -190,14 +247,20 @@ fn fresh_and_reached_sessions_are_sound() {
     assert!(is_sound(&words, ended(Status::Stopped)));
 }
 
-/// Under `zeros`: asserts that a session is sound, and that a change breaks one
-/// clause alone and is refused by 12.
+/// Under `zeros`: asserts that a session is sound, and that a change, which the
+/// default's uses follow, breaks one clause alone and is refused by 12.
 fn assert_breaks(clause: Clause, sound: Session, change: impl Fn(&mut Session)) {
-    let (words, automaton) = (compiled(&zeros()).unwrap(), automaton(&zeros()));
-    assert_eq!(broken(&automaton, &sound), []);
-    assert!(is_sound(&words, sound), "{sound:?}");
     let mut changed = sound;
     change(&mut changed);
+    assert_broken(clause, &zeros(), sound, counted(changed));
+}
+
+/// Under a table: asserts that a session is sound, and that another breaks one
+/// clause alone and is refused by 12.
+fn assert_broken(clause: Clause, table: &[u8], sound: Session, changed: Session) {
+    let (words, automaton) = (compiled(table).unwrap(), automaton(table));
+    assert_eq!(broken(&automaton, &sound), []);
+    assert!(is_sound(&words, sound), "{sound:?}");
     assert_eq!(broken(&automaton, &changed), [clause], "{changed:?}");
     assert!(!is_sound(&words, changed), "{changed:?}");
 }
@@ -251,22 +314,20 @@ fn each_clause_of_an_ended_session_broken_alone_is_refused_by_12() {
 fn sound_received_is_at_most_the_limit() {
     let words = words();
     for status in STATUSES {
-        let received = |received| Session {
-            received,
-            ..ended(status)
-        };
-        assert!(is_sound(&words, received(1_099_511_627_776)));
-        assert!(!is_sound(&words, received(1_099_511_627_777)));
-        assert!(!is_sound(&words, received(u64::MAX)));
+        assert!(is_sound(&words, received(1_099_511_627_776, status)));
+        assert!(!is_sound(&words, received(1_099_511_627_777, status)));
+        assert!(!is_sound(&words, received(u64::MAX, status)));
     }
 }
 
 #[test]
 fn sound_received_is_at_least_the_count() {
     let words = words();
-    let received = |received| Session {
-        received,
-        ..holding(3, &[A, B])
+    let received = |received| {
+        counted(Session {
+            received,
+            ..holding(3, &[A, B])
+        })
     };
     assert!(is_sound(&words, received(2)));
     assert!(!is_sound(&words, received(1)));
@@ -284,9 +345,8 @@ fn sound_produced_is_at_most_e_times_consumed() {
     assert!(!is_sound(&words, holding(1000)));
     for status in STATUSES {
         let produced = |produced| Session {
-            received: 10,
             produced,
-            ..ended(status)
+            ..received(10, status)
         };
         assert!(is_sound(&words, produced(10)));
         assert!(!is_sound(&words, produced(11)));
@@ -295,9 +355,8 @@ fn sound_produced_is_at_most_e_times_consumed() {
     // E is 5 under T1.
     let t1 = compiled(&t1()).unwrap();
     let produced = |produced| Session {
-        received: 10,
         produced,
-        ..Session::FRESH
+        ..received(10, Status::Open)
     };
     assert!(is_sound(&t1, produced(50)));
     assert!(!is_sound(&t1, produced(51)));
@@ -309,10 +368,10 @@ fn sound_count_is_at_most_8_and_the_length_of_the_way_to_the_state() {
     for state in 0..=9 {
         // 256 + d and 65535 would pass for less in fewer bits.
         for count in (0..=17).chain(255..=265).chain([u16::MAX]) {
-            let session = Session {
+            let session = counted(Session {
                 count,
                 ..holding(state, &[])
-            };
+            });
             let sound = state <= 8 && count == state;
             assert_eq!(is_sound(&words, session), sound, "{state} {count}");
         }
@@ -374,25 +433,29 @@ fn sound_held_characters_do_not_lead_to_a_state_that_emits_at_once() {
     let broken = broken(&automaton(&lookahead()), &holding(2, &[A, A]));
     assert_eq!(broken, [Clause::Path]);
     // A go that differs from the end waits for the next character.
-    assert!(is_sound(&compiled(&t2()).unwrap(), holding(1, &[A])));
+    assert!(is_sound(&compiled(&t2()).unwrap(), holding_a_under_t2()));
 }
 
 #[test]
 fn sound_open_steps_are_at_most_5_times_consumed_plus_the_count() {
     let words = words();
-    let steps = |steps| Session {
-        received: 12,
-        steps,
-        ..holding(3, &[A, B])
+    let steps = |steps| {
+        counted(Session {
+            received: 12,
+            steps,
+            ..holding(3, &[A, B])
+        })
     };
     assert!(is_sound(&words, steps(52)));
     assert!(!is_sound(&words, steps(53)));
     assert!(!is_sound(&words, steps(u64::MAX)));
     // Nothing consumed, so that each of eight characters was taken once.
-    let taken = |steps| Session {
-        received: 8,
-        steps,
-        ..holding(8, &[0; 8])
+    let taken = |steps| {
+        counted(Session {
+            received: 8,
+            steps,
+            ..holding(8, &[0; 8])
+        })
     };
     let zeros = compiled(&zeros()).unwrap();
     assert!(is_sound(&zeros, taken(8)));
@@ -404,9 +467,8 @@ fn sound_ended_steps_are_at_most_5_times_consumed_and_one() {
     let words = words();
     for status in [Status::Closed, Status::Stopped] {
         let steps = |steps| Session {
-            received: 10,
             steps,
-            ..ended(status)
+            ..received(10, status)
         };
         assert!(is_sound(&words, steps(55)));
         assert!(!is_sound(&words, steps(56)));
@@ -428,6 +490,128 @@ fn sound_ended_sessions_are_at_state_0_with_nothing_held() {
     }
 }
 
+/// A table of so many rules, the one of a number being `a` and then any
+/// characters, of length 1 to 8 in turn; with a default or without.
+fn of_all_lengths(count: usize, default: bool) -> Vec<u8> {
+    let rule = |table: TableBuilder, number: usize| {
+        let length = number % 8 + 1;
+        let table = table.rule(length).spelled(0, "a");
+        (1..length).fold(table, |table, position| table.range(position, 0, u16::MAX))
+    };
+    let table = (0..count).fold(TableBuilder::new(), rule);
+    match default {
+        true => table.copying_default().bytes(),
+        false => table.bytes(),
+    }
+}
+
+/// A session that has consumed 840 characters, by these uses. 840 is a multiple of
+/// every length.
+fn consumed_840(uses: &[(usize, u64)]) -> Session {
+    Session {
+        received: 840,
+        uses: Uses::of(uses),
+        ..Session::FRESH
+    }
+}
+
+/// Each of the 33 counts weighs as much as its group's K, the default's 1.
+#[test]
+fn sound_uses_add_up_to_the_characters_consumed() {
+    let table = of_all_lengths(32, true);
+    for place in 0..GROUPS {
+        let length = match place {
+            DEFAULT => 1,
+            rule => rule as u64 % 8 + 1,
+        };
+        let all = 840 / length;
+        let sound = consumed_840(&[(place, all)]);
+        for uses in [0, 1, all - 1, all + 1, u64::MAX] {
+            let changed = consumed_840(&[(place, uses)]);
+            assert_broken(Clause::Sum, &table, sound, changed);
+        }
+        // The rest by another group.
+        let other = if place == DEFAULT { 0 } else { DEFAULT };
+        let sound = consumed_840(&[(place, all - 1), (other, length)]);
+        for rest in [0, length - 1, length + 1] {
+            let changed = consumed_840(&[(place, all - 1), (other, rest)]);
+            if changed != sound {
+                assert_broken(Clause::Sum, &table, sound, changed);
+            }
+        }
+    }
+}
+
+/// Uses that go over to another rule of the same K are not told apart; over to
+/// one of another K, or to the default, they are.
+#[test]
+fn sound_uses_may_move_between_rules_of_one_length() {
+    let table = of_all_lengths(32, true);
+    let words = compiled(&table).unwrap();
+    for (from, to) in pairs(&[0, 7, 12, 31], &(0..GROUPS).collect::<Vec<_>>()) {
+        let sound = consumed_840(&[(from, 840 / (from as u64 % 8 + 1))]);
+        let mut moved = sound;
+        moved.uses.0[from] -= 1;
+        moved.uses.0[to] += 1;
+        let lengths = [from, to].map(|place| if place == DEFAULT { 1 } else { place % 8 + 1 });
+        match lengths[0] == lengths[1] {
+            true => assert!(is_sound(&words, moved), "{from} {to}"),
+            false => assert_broken(Clause::Sum, &table, sound, moved),
+        }
+    }
+}
+
+/// Each count that the machine lacks, with any number in it.
+#[test]
+fn sound_sessions_have_no_uses_of_what_the_machine_lacks() {
+    for (rules, default) in pairs(&[1, 2, 31, 32], &[true, false]) {
+        let table = of_all_lengths(rules, default);
+        let sound = consumed_840(&[(0, 840)]);
+        let lacking = (rules..DEFAULT).chain((!default).then_some(DEFAULT));
+        for (place, uses) in pairs(&lacking.collect::<Vec<_>>(), &[1, 840, 1 << 61, u64::MAX]) {
+            let changed = consumed_840(&[(0, 840), (place, uses)]);
+            assert_broken(Clause::Lacking, &table, sound, changed);
+        }
+    }
+}
+
+/// Nor have they where the sum fits with them, one for each character.
+#[test]
+fn sound_sessions_have_no_uses_of_a_lacking_default_for_those_of_a_rule() {
+    let (with, without) = (of_all_lengths(31, true), of_all_lengths(31, false));
+    let [with, without] = [with, without].map(|table| compiled(&table).unwrap());
+    for (rules, default) in [(0, 840), (1, 839), (839, 1)] {
+        let session = consumed_840(&[(0, rules), (DEFAULT, default)]);
+        assert!(is_sound(&with, session));
+        assert!(!is_sound(&without, session));
+        let session = consumed_840(&[(0, rules), (31, default)]);
+        assert!(!is_sound(&without, session));
+    }
+}
+
+/// Sums that are right modulo 2^64 alone: 2^61 uses of K = 8 and 2^62 of K = 4 add
+/// 2^64 each, and so do 2^64 - 8 uses of K = 1 with one of K = 8.
+#[test]
+fn sound_uses_do_not_wrap_around() {
+    let table = of_all_lengths(32, true);
+    let sound = consumed_840(&[(0, 840)]);
+    let wrapping: [&[(usize, u64)]; 5] = [
+        &[(0, 840), (7, 1 << 61)],
+        &[(0, 840), (3, 1 << 62)],
+        &[(0, 840), (7, 7 << 61)],
+        &[(7, 106), (DEFAULT, u64::MAX - 7)],
+        &[(0, 840), (1, 1 << 63), (9, 1 << 63), (31, 1 << 61)],
+    ];
+    for uses in wrapping {
+        let terms = uses.iter().map(|&(place, uses)| match place {
+            DEFAULT => uses,
+            rule => uses.wrapping_mul(rule as u64 % 8 + 1),
+        });
+        assert_eq!(terms.fold(0, u64::wrapping_add), 840);
+        assert_broken(Clause::Sum, &table, sound, consumed_840(uses));
+    }
+}
+
 #[test]
 fn any_numbers_are_sound_or_refused_by_12_without_an_overflow() {
     let (words, automaton) = (compiled(&zeros()).unwrap(), automaton(&zeros()));
@@ -436,7 +620,7 @@ fn any_numbers_are_sound_or_refused_by_12_without_an_overflow() {
     for status in STATUSES {
         for (state, count) in pairs(&[0, 1, 8, 9, u16::MAX], &[0, 1, 8, 9, 256, u16::MAX]) {
             for (received, (produced, steps)) in pairs(&numbers, &pairs(&numbers, &numbers)) {
-                let session = Session {
+                let session = counted(Session {
                     status,
                     state,
                     count,
@@ -444,7 +628,7 @@ fn any_numbers_are_sound_or_refused_by_12_without_an_overflow() {
                     produced,
                     steps,
                     ..Session::FRESH
-                };
+                });
                 let expected = broken(&automaton, &session).is_empty();
                 assert_eq!(is_sound(&words, session), expected, "{session:?}");
                 *(if expected { &mut sound } else { &mut unsound }) += 1;
@@ -461,7 +645,8 @@ fn pairs<S: Copy, T: Copy>(first: &[S], second: &[T]) -> Vec<(S, T)> {
     first.iter().flat_map(pairs_of).collect()
 }
 
-/// A session with one field changed, most often by little.
+/// A session with one field changed, most often by little. Of the changes of
+/// received and of the count the default's uses follow every second.
 fn damaged(random: &mut Random, session: &Session) -> Session {
     let mut damaged = *session;
     let more = match random.below(8) {
@@ -469,7 +654,7 @@ fn damaged(random: &mut Random, session: &Session) -> Session {
         _ => random.between(-2, 2) as u64,
     };
     let near = |number: u64| number.wrapping_add(more);
-    match random.below(7) {
+    match random.below(8) {
         0 => damaged.status = *random.pick(&STATUSES),
         1 => damaged.state = near(damaged.state.into()) as u16,
         2 => {
@@ -479,7 +664,16 @@ fn damaged(random: &mut Random, session: &Session) -> Session {
         3 => damaged.count = near(damaged.count.into()) as u16,
         4 => damaged.received = near(damaged.received),
         5 => damaged.produced = near(damaged.produced),
-        _ => damaged.steps = near(damaged.steps),
+        6 => damaged.steps = near(damaged.steps),
+        _ => {
+            let any = random.below(GROUPS);
+            let place = *random.pick(&[0, 1, any, DEFAULT]);
+            damaged.uses.0[place] = near(damaged.uses.0[place]);
+        }
+    }
+    if random.one_in(2) {
+        let more = consumed(&damaged).wrapping_sub(consumed(session));
+        damaged.uses.0[DEFAULT] = damaged.uses.0[DEFAULT].wrapping_add(more);
     }
     damaged
 }
@@ -488,7 +682,7 @@ fn damaged(random: &mut Random, session: &Session) -> Session {
 fn damaged_sessions_are_sound_or_refused_by_12() {
     let mut random = Random::new(45);
     let mut seen: BTreeMap<Vec<Clause>, usize> = BTreeMap::new();
-    for _ in 0..600 {
+    for _ in 0..3000 {
         let table = random_table(&mut random);
         let Ok(words) = compiled(&encode(&table)) else {
             continue;
@@ -512,7 +706,7 @@ fn damaged_sessions_are_sound_or_refused_by_12() {
     }
     // Sound, and each clause alone. Few sessions hold eight characters, so that
     // a count above 8 mostly breaks more.
-    let least: [(&[Clause], usize); 9] = [
+    let least: [(&[Clause], usize); 11] = [
         (&[], 5000),
         (&[Clause::Limit], 100),
         (&[Clause::Received], 100),
@@ -522,6 +716,8 @@ fn damaged_sessions_are_sound_or_refused_by_12() {
         (&[Clause::EndedState], 500),
         (&[Clause::EndedCount], 100),
         (&[Clause::Steps], 100),
+        (&[Clause::Sum], 500),
+        (&[Clause::Lacking], 500),
     ];
     for (broken, least) in least {
         let count = seen.get(broken).copied().unwrap_or(0);
@@ -556,25 +752,20 @@ fn refusal_13_closed_or_stopped() {
 #[test]
 fn refusal_14_received_plus_piece_above_the_limit() {
     let words = words();
-    let received = |received| Session {
-        received,
-        ..Session::FRESH
-    };
-    let near = received(MAX_RECEIVED - 2);
+    let near = received(MAX_RECEIVED - 2, Status::Open);
     let (answer, after, text) = fed(&words, near, &[B, B], 2).unwrap();
     assert_eq!((answer.count, answer.status), (2, Status::Open));
     assert_eq!(text, [B, B]);
     // Back, take and emit for each.
+    let full = received(MAX_RECEIVED, Status::Open);
     let expected = Session {
-        received: MAX_RECEIVED,
         produced: 2,
         steps: 6,
-        ..Session::FRESH
+        ..full
     };
     assert_eq!(after, expected);
     assert_eq!(fed(&words, near, &[B, B, B], 3), Err(Refusal::TooLong));
     // At the limit only an empty piece is fed.
-    let full = received(MAX_RECEIVED);
     assert_eq!(fed(&words, full, &[B], 1), Err(Refusal::TooLong));
     assert!(fed(&words, full, &[], 0).is_ok());
     assert!(finished(&words, full, 0).is_ok());
@@ -583,10 +774,10 @@ fn refusal_14_received_plus_piece_above_the_limit() {
 #[test]
 fn refusal_14_counts_held_characters_as_received() {
     let words = words();
-    let near = Session {
+    let near = counted(Session {
         received: MAX_RECEIVED - 1,
         ..holding(1, &[A])
-    };
+    });
     assert!(fed(&words, near, &[B], 2).is_ok());
     assert_eq!(fed(&words, near, &[B, B], 3), Err(Refusal::TooLong));
 }
@@ -642,10 +833,7 @@ fn order_12_then_13() {
 
 #[test]
 fn order_13_then_14() {
-    let full = Session {
-        received: MAX_RECEIVED,
-        ..ended(Status::Stopped)
-    };
+    let full = received(MAX_RECEIVED, Status::Stopped);
     assert_eq!(fed(&words(), full, &[A], 9), Err(Refusal::Ended));
     // A finish has no piece, and a sound session's received is not above the
     // limit, so that 14 never refuses a finish. Nothing is held once the session
@@ -655,16 +843,13 @@ fn order_13_then_14() {
 
 #[test]
 fn order_14_then_15() {
-    let full = Session {
-        received: MAX_RECEIVED,
-        ..Session::FRESH
-    };
+    let full = received(MAX_RECEIVED, Status::Open);
     assert_eq!(fed(&words(), full, &[A], 0), Err(Refusal::TooLong));
     // The same in a finish, where 14 can't refuse: 15 alone.
-    let holding = Session {
+    let holding = counted(Session {
         received: MAX_RECEIVED,
         ..holding(1, &[A])
-    };
+    });
     assert_eq!(finished(&words(), holding, 0), Err(Refusal::ShortOutput));
 }
 
@@ -675,23 +860,25 @@ fn a_stop_drops_what_is_unread_and_received_becomes_consumed() {
     let (answer, after, text) = fed(&words, Session::FRESH, &piece, 5).unwrap();
     assert_eq!((answer.count, answer.status), (2, Status::Stopped));
     assert_eq!(text, [89, 89]);
-    // Take and emit for each `a`, then back and stop.
+    // Take and emit rule 1 for each `a`, then back and stop.
     let expected = Session {
         status: Status::Stopped,
         received: 2,
         produced: 2,
         steps: 6,
+        uses: Uses::of(&[(1, 2)]),
         ..Session::FRESH
     };
     assert_eq!(after, expected);
     // A held `a` is emitted before the stop.
-    let (_, after, text) = fed(&words, holding(1, &[A]), &[B, A], 3).unwrap();
+    let (_, after, text) = fed(&words, holding_a_under_t2(), &[B, A], 3).unwrap();
     assert_eq!(text, [89]);
     let expected = Session {
         status: Status::Stopped,
         received: 1000,
         produced: 1,
         steps: 3,
+        uses: Uses::of(&[(1, 1000)]),
         ..Session::FRESH
     };
     assert_eq!(after, expected);
@@ -721,6 +908,7 @@ fn after_a_call_the_count_is_the_number_of_characters_in_the_store() {
         received: 9,
         produced: 1,
         steps: 19,
+        uses: Uses::of(&[(DEFAULT, 1)]),
         ..Session::FRESH
     };
     assert_eq!(session, expected);
@@ -732,6 +920,7 @@ fn after_a_call_the_count_is_the_number_of_characters_in_the_store() {
         received: 9,
         produced: 2,
         steps: 21,
+        uses: Uses::of(&[(0, 1), (DEFAULT, 1)]),
         ..Session::FRESH
     };
     assert_eq!(session, expected);

@@ -18,12 +18,14 @@
 //! assert_eq!((fed.status, fed.written), (Status::Open, 5));
 //! assert_eq!(String::from_utf16_lossy(&text), "0 214");
 //! assert_eq!(session.finish(&machine, &mut [])?.status, Status::Closed);
+//! assert_eq!((session.uses(0), session.default_uses()), (1, 4));
 //! # Ok::<(), cobbletwill::Refusal>(())
 //! ```
 //!
 //! - [`check`], [`convert`]: the table check and direct conversion
 //! - [`Machine`]: compiled tables
-//! - [`Session`]: feed and finish; [`run`] makes them all
+//! - [`Session`]: feed and finish, and how often each rule was used; [`run`] makes
+//!   all calls
 //! - [`Refusal`]: the numbered refusals
 //! - [`record`]: writing a table's records
 //! - [`raw`]: the functions of the header as they are, on any words and sessions

@@ -10,6 +10,11 @@ use std::mem::offset_of;
 /// The machine words of a table: 19,961 of 16 bits.
 pub const WORDS: usize = 19_961;
 
+/// The counts of uses in a session: a rule's at its number, and the default's.
+pub const USES: usize = 33;
+/// The place of the default's count.
+pub const DEFAULT: usize = 32;
+
 /// The answer for a table that is accepted or compiled, and for a conversion or
 /// a session that closed.
 pub const OK: u32 = 0;
@@ -45,6 +50,9 @@ pub struct Session {
     pub held_count: u16,
     /// The characters held; places from `held_count` on are 0.
     pub held: [u16; 8],
+    /// How often each rule was used, at its number, and the default, at
+    /// [`DEFAULT`].
+    pub uses: [u64; USES],
 }
 
 impl Session {
@@ -59,13 +67,14 @@ impl Session {
         state: 0,
         held_count: 0,
         held: [0; 8],
+        uses: [0; USES],
     };
 }
 
 // The header's layout, which has no padding.
 const _: () = {
     assert!(size_of::<Tally>() == 16 && align_of::<Tally>() == 8);
-    assert!(size_of::<Session>() == 48 && align_of::<Session>() == 8);
+    assert!(size_of::<Session>() == 312 && align_of::<Session>() == 8);
     assert!(offset_of!(Tally, produced) == 0);
     assert!(offset_of!(Tally, steps) == 8);
     assert!(offset_of!(Session, received) == 0);
@@ -74,11 +83,12 @@ const _: () = {
     assert!(offset_of!(Session, state) == 28);
     assert!(offset_of!(Session, held_count) == 30);
     assert!(offset_of!(Session, held) == 32);
+    assert!(offset_of!(Session, uses) == 48);
 };
 
 /// The declarations, as C has them.
 mod c {
-    use super::Session;
+    use super::{Session, USES};
 
     extern "C" {
         pub fn cobbletwill_check(table: *const u8, table_length: usize) -> u32;
@@ -103,10 +113,11 @@ mod c {
 
         pub fn cobbletwill_is_sound(words: *const u16, words_length: usize) -> u32;
 
-        pub fn cobbletwill_feed(
+        pub fn cobbletwill_feed_parts(
             words: *const u16,
             words_length: usize,
             session: *mut Session,
+            uses: *mut [u64; USES],
             piece: *const u16,
             piece_length: usize,
             output: *mut u16,
@@ -114,10 +125,11 @@ mod c {
             written: *mut u64,
         ) -> u32;
 
-        pub fn cobbletwill_finish(
+        pub fn cobbletwill_finish_parts(
             words: *const u16,
             words_length: usize,
             session: *mut Session,
+            uses: *mut [u64; USES],
             output: *mut u16,
             output_length: usize,
             written: *mut u64,
@@ -180,13 +192,16 @@ pub fn feed(
     output: &mut [u16],
     written: &mut u64,
 ) -> u32 {
+    let (session, uses) = parts(session);
     // SAFETY: each pointer and length are those of a slice, the session has the
-    // layout of the header's, and what is written is borrowed for this call alone.
+    // layout of the header's, of which the function touches but the part before
+    // the counts, and what is written is borrowed for this call alone.
     unsafe {
-        c::cobbletwill_feed(
+        c::cobbletwill_feed_parts(
             words.as_ptr(),
             words.len(),
             session,
+            uses,
             piece.as_ptr(),
             piece.len(),
             output.as_mut_ptr(),
@@ -198,12 +213,14 @@ pub fn feed(
 
 /// A finish: 0 for closed or 64 for stopped, else as [`feed`].
 pub fn finish(words: &[u16], session: &mut Session, output: &mut [u16], written: &mut u64) -> u32 {
+    let (session, uses) = parts(session);
     // SAFETY: as for a feed.
     unsafe {
-        c::cobbletwill_finish(
+        c::cobbletwill_finish_parts(
             words.as_ptr(),
             words.len(),
             session,
+            uses,
             output.as_mut_ptr(),
             output.len(),
             written,
@@ -211,12 +228,19 @@ pub fn finish(words: &[u16], session: &mut Session, output: &mut [u16], written:
     }
 }
 
+/// A session and its counts, the two parts that it is lent in.
+fn parts(session: &mut Session) -> (*mut Session, *mut [u64; USES]) {
+    let session: *mut Session = session;
+    // SAFETY: the pointer is that of a session.
+    (session, unsafe { &raw mut (*session).uses })
+}
+
 /// "With the number 0 the pointer is not used and may be null."
 #[cfg(test)]
 mod tests {
     use std::ptr::{null, null_mut};
 
-    use super::{c, Session, WORDS};
+    use super::{c, parts, Session, WORDS};
 
     /// One rule without output, which takes `a`.
     const TABLE: [u8; 16] = [1, 1, 0, 0, 0, 0, 0, 0, 2, 0, 0, 0, 97, 0, 97, 0];
@@ -264,13 +288,13 @@ mod tests {
         // SAFETY: with the length 0 a pointer is not used; the others are those
         // of the words, of a session and of a number borrowed for this call alone.
         unsafe {
-            let (at, out) = (&mut session, null_mut());
-            let fed = c::cobbletwill_feed(words, length, at, null(), 0, out, 0, &mut written);
-            assert_eq!((fed, written), (65, 0));
-            let refused = c::cobbletwill_finish(null(), 0, at, out, 0, &mut written);
+            let ((at, uses), out, n) = (parts(&mut session), null_mut(), &mut written);
+            let fed = c::cobbletwill_feed_parts(words, length, at, uses, null(), 0, out, 0, n);
+            assert_eq!((fed, *n), (65, 0));
+            let refused = c::cobbletwill_finish_parts(null(), 0, at, uses, out, 0, n);
             assert_eq!(refused, 11);
-            let closed = c::cobbletwill_finish(words, length, at, out, 0, &mut written);
-            assert_eq!((closed, written), (0, 0));
+            let closed = c::cobbletwill_finish_parts(words, length, at, uses, out, 0, n);
+            assert_eq!((closed, *n), (0, 0));
         }
     }
 }

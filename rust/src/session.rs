@@ -1,7 +1,7 @@
 //! Sessions, feed and finish.
 
 use crate::machine::Machine;
-use crate::raw::{self, Session};
+use crate::raw::{self, Session, DEFAULT};
 use crate::refusal::Refusal;
 
 /// The status of a session.
@@ -33,6 +33,17 @@ impl Session {
     /// "Consumed is received less held", of a sound session.
     pub fn consumed(&self) -> u64 {
         self.received.saturating_sub(u64::from(self.held_count))
+    }
+
+    /// How often a rule was used, that is, wrote its output. A rule that the machine
+    /// lacks, and any number above 31, was never used: 0.
+    pub fn uses(&self, rule: usize) -> u64 {
+        self.uses[..DEFAULT].get(rule).copied().unwrap_or(0)
+    }
+
+    /// How often the default was used; 0 where the machine has none.
+    pub fn default_uses(&self) -> u64 {
+        self.uses[DEFAULT]
     }
 
     /// The output room that a feed of so many characters asks for, a finish with

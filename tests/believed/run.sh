@@ -26,7 +26,7 @@ entry_points() {
     echo crates/words/src/sound_words.rt is_sound
     echo crates/session/src/kept.rt fresh
     echo crates/station/src/two.rt convert_in_two
-    for name in feed finish feed_by_value finish_by_value; do echo crates/session/src/call.rt "$name"; done
+    for name in feed finish feed_by_value finish_by_value feed_kept finish_kept; do echo crates/session/src/call.rt "$name"; done
 }
 
 checked=0
@@ -39,7 +39,7 @@ while read -r file name; do
     done
     checked=$((checked + 1))
 done < <(entry_points)
-[ "$checked" -ge 16 ] || fail "only $checked entry points are found"
+[ "$checked" -ge 18 ] || fail "only $checked entry points are found"
 
 total=0
 for file in crates/*/specs/[A-Z]*.antt; do

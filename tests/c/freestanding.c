@@ -1,7 +1,7 @@
 /*
  * The library without a C library: linked with `-nostdlib -ffreestanding`, and
  * with memcpy and memset alone beside it. Ends with 0 if T2 (anchored `a` writes
- * X, `a` writes Y) makes YX of `aa`, in 5 steps.
+ * X, `a` writes Y) makes YX of `aa`, in 5 steps and with one use of each rule.
  */
 #include "cobbletwill.h"
 
@@ -45,7 +45,10 @@ static int run(void) {
     if (first != 1 || rest != 1 || output[0] != 'Y' || output[1] != 'X') {
         return 4;
     }
-    return session.tally.steps == 5 ? 0 : 5;
+    if (session.tally.steps != 5) {
+        return 5;
+    }
+    return session.uses[0] == 1 && session.uses[1] == 1 && session.uses[COBBLETWILL_DEFAULT] == 0 ? 0 : 6;
 }
 
 /* Linux's exit; the stack is aligned as at a call. */

@@ -12,7 +12,7 @@
 
 static void test_fresh(void) {
     cobbletwill_session fresh = COBBLETWILL_FRESH;
-    unsigned char zero[48] = {0};
+    unsigned char zero[48 + 33 * 8] = {0};
     EXPECT(sizeof fresh == sizeof zero);
     EXPECT(memcmp(&fresh, zero, sizeof zero) == 0);
 }

@@ -93,11 +93,12 @@ static const uint16_t text[] = {'z', 'z', 'a'};
 static const struct call feed = {FEED, NULL, 0, text, 3, ROOM, COBBLETWILL_WORDS};
 static const struct call finish = {FINISH, NULL, 0, NULL, 0, ROOM, COBBLETWILL_WORDS};
 
-/* The session after a feed of `zza`: two characters written, one held. */
+/* The session after a feed of `zza`: two characters written by the default, one held. */
 static cobbletwill_session fed(void) {
     lend(fresh);
     EXPECT(make(&feed) == COBBLETWILL_OPEN);
     EXPECT(lent->written == 2 && lent->session.received == 3 && lent->session.held_count == 1);
+    EXPECT(lent->session.uses[COBBLETWILL_DEFAULT] == 2);
     return lent->session;
 }
 
@@ -130,7 +131,37 @@ static void test_unsound_sessions(void) {
     UNSOUND(session.held[0] = 'z');
     UNSOUND(session.held[1] = 1);
     UNSOUND(session.held[7] = 1);
+    /* The rules have K 2 and 3, and there are no others. 2^63 uses of the first add 0 modulo 2^64. */
+    for (int i = 0; i < COBBLETWILL_USES; i++) {
+        UNSOUND(session.uses[i] += 1);
+        UNSOUND(session.uses[i] -= 1);
+        UNSOUND(session.uses[i] += UINT64_C(1) << 63);
+    }
+    UNSOUND((session.uses[1] = 1, session.uses[COBBLETWILL_DEFAULT] = 0));
+    UNSOUND((session.uses[0] = 1, session.uses[COBBLETWILL_DEFAULT] = 1));
 #undef UNSOUND
+    /* Two uses of the default are as many characters as one of the first rule. */
+    session = sound;
+    session.uses[0] = 1;
+    session.uses[COBBLETWILL_DEFAULT] = 0;
+    lend(session);
+    EXPECT(make(&finish) == COBBLETWILL_OK);
+    EXPECT(lent->session.uses[0] == 1 && lent->session.uses[COBBLETWILL_DEFAULT] == 1);
+}
+
+/* Counts that stand elsewhere than in the session, whose own are then not touched. */
+static void test_parts(void) {
+    lend(fresh);
+    static const unsigned char found[sizeof fresh.uses] = {1, 2, 3};
+    memcpy(lent->session.uses, found, sizeof found);
+    uint64_t uses[COBBLETWILL_USES] = {0};
+    EXPECT(cobbletwill_feed_parts(lent->words, COBBLETWILL_WORDS, &lent->session, uses, text, 3, lent->output, ROOM,
+                                  &lent->written) == COBBLETWILL_OPEN);
+    EXPECT(uses[COBBLETWILL_DEFAULT] == 2);
+    EXPECT(cobbletwill_finish_parts(lent->words, COBBLETWILL_WORDS, &lent->session, uses, lent->output, ROOM,
+                                    &lent->written) == COBBLETWILL_OK);
+    EXPECT(uses[COBBLETWILL_DEFAULT] == 3 && uses[0] == 0 && uses[1] == 0);
+    EXPECT(memcmp(lent->session.uses, found, sizeof found) == 0);
 }
 
 /* Each refusal by 11 has the words of the table with one of the digit's changed. Block 0 stands at 17,222, the digit is
@@ -171,13 +202,14 @@ static void test_sessions(void) {
     refused(&feed, COBBLETWILL_UNSOUND_WORDS);
     refused(&finish, COBBLETWILL_UNSOUND_WORDS);
 
-    cobbletwill_session ended = {3, {2, 7}, 1, 0, 0, {0, 0, 0, 0, 0, 0, 0, 0}};
+    cobbletwill_session ended = {3, {2, 7}, 1, 0, 0, {0}, {0}};
+    ended.uses[COBBLETWILL_DEFAULT] = 3;
     both_refused(ended, COBBLETWILL_ENDED);
     ended.status = 2;
     both_refused(ended, COBBLETWILL_ENDED);
 
     cobbletwill_session full = COBBLETWILL_FRESH;
-    full.received = UINT64_C(1099511627776) - 2;
+    full.received = full.uses[COBBLETWILL_DEFAULT] = UINT64_C(1099511627776) - 2;
     lend(full);
     refused(&feed, COBBLETWILL_TOO_LONG);
 
@@ -271,6 +303,7 @@ int main(void) {
     test_inputs();
     test_sessions();
     test_unsound_sessions();
+    test_parts();
     test_unsound_digits();
     printf("refused: %d calls\n", made);
     return 0;

@@ -70,12 +70,13 @@ SUBJECT(convert,
 SUBJECT(compile, (const uint8_t *t, size_t tl, uint16_t *w, size_t wl),
         (table, table_length, words, COBBLETWILL_WORDS))
 SUBJECT(is_sound, (const uint16_t *w, size_t wl), (words, COBBLETWILL_WORDS))
-SUBJECT(feed,
-        (const uint16_t *w, size_t wl, cobbletwill_session *s, const uint16_t *p, size_t pl, uint16_t *o, size_t ol,
-         uint64_t *n),
-        (words, COBBLETWILL_WORDS, &session, text, PIECE, output, ROOM, &written))
-SUBJECT(finish, (const uint16_t *w, size_t wl, cobbletwill_session *s, uint16_t *o, size_t ol, uint64_t *n),
-        (words, COBBLETWILL_WORDS, &session, output, ROOM, &written))
+SUBJECT(feed_parts,
+        (const uint16_t *w, size_t wl, cobbletwill_session *s, uint64_t *u, const uint16_t *p, size_t pl, uint16_t *o,
+         size_t ol, uint64_t *n),
+        (words, COBBLETWILL_WORDS, &session, session.uses, text, PIECE, output, ROOM, &written))
+SUBJECT(finish_parts,
+        (const uint16_t *w, size_t wl, cobbletwill_session *s, uint64_t *u, uint16_t *o, size_t ol, uint64_t *n),
+        (words, COBBLETWILL_WORDS, &session, session.uses, output, ROOM, &written))
 #pragma GCC diagnostic pop
 
 /* A function's name, the stack that it may take, and the most that was measured. */
@@ -87,8 +88,8 @@ static struct subject {
     {"cobbletwill_convert", COBBLETWILL_STACK_CONVERT, 0},
     {"cobbletwill_compile", COBBLETWILL_STACK_COMPILE, 0},
     {"cobbletwill_is_sound", COBBLETWILL_STACK_IS_SOUND, 0},
-    {"cobbletwill_feed", COBBLETWILL_STACK_FEED, 0},
-    {"cobbletwill_finish", COBBLETWILL_STACK_FINISH, 0},
+    {"cobbletwill_feed_parts", COBBLETWILL_STACK_FEED, 0},
+    {"cobbletwill_finish_parts", COBBLETWILL_STACK_FINISH, 0},
 };
 
 enum { SUBJECTS = sizeof subjects / sizeof subjects[0] };
@@ -108,9 +109,9 @@ static void measure(void) {
     note(1, depth_convert(), COBBLETWILL_OK);
     note(2, depth_compile(), COBBLETWILL_OK);
     note(3, depth_is_sound(), 1);
-    note(4, depth_feed(), COBBLETWILL_OPEN);
+    note(4, depth_feed_parts(), COBBLETWILL_OPEN);
     EXPECT(session.held_count > 0);
-    note(5, depth_finish(), COBBLETWILL_OK);
+    note(5, depth_finish_parts(), COBBLETWILL_OK);
 }
 
 /* 64 classes and 256 states, and a default that writes eight characters, four of them digits. */

@@ -3,7 +3,8 @@
 # them on a line being a comment, and then any number of
 #   input TEXT, prints, lines        the program prints these lines
 #   words, lines PLACE WORD          these words of the compiled table are not 0, and no others
-#   feeds TEXT, answers N, bytes     a feed to a fresh session answers so and leaves these bytes
+#   feeds TEXT, answers N, bytes     a feed to a fresh session answers so and leaves these bytes, eight a line; then each count of uses that is
+#                                    not 0, behind the place of its bytes and a colon
 # usage: tests/format/run.sh [PROGRAM]
 set -euo pipefail
 trap 'echo "format: line $LINENO of $0 failed" >&2' ERR
@@ -39,7 +40,8 @@ awk -v out="$out" '
     part == "words" { print $1, $2 > file; next }
     {
         line = $1
-        for (i = 2; i <= NF && i <= 8 && $i ~ /^[0-9A-F][0-9A-F]$/; i++) line = line " " $i
+        last = $1 ~ /:$/ ? 9 : 8
+        for (i = 2; i <= NF && i <= last && $i ~ /^[0-9A-F][0-9A-F]$/; i++) line = line " " $i
         print line > file
     }
 ' "$page"

@@ -3,7 +3,8 @@
  *
  * `show words TABLE` prints each machine word that is not 0, with its place.
  * `show session TABLE PIECE` feeds a piece to a fresh session and prints the
- * answer and the session's bytes, eight a line.
+ * answer and the session's bytes, eight a line; of its counts of uses those that
+ * are not 0, each behind its place.
  */
 #include <inttypes.h>
 #include <stdio.h>
@@ -22,6 +23,15 @@ static void show_words(void) {
     }
 }
 
+/* Prints eight bytes on a line. */
+static void show_eight(const void *at) {
+    uint8_t bytes[8];
+    memcpy(bytes, at, sizeof bytes);
+    for (int i = 0; i < 8; i++) {
+        printf("%02X%c", bytes[i], i == 7 ? '\n' : ' ');
+    }
+}
+
 static void show_session(const char *text) {
     cobbletwill_session session = COBBLETWILL_FRESH;
     uint16_t piece[64], output[8 * 64];
@@ -31,10 +41,15 @@ static void show_session(const char *text) {
         piece[i] = (uint8_t)text[i];
     }
     printf("%" PRIu32 "\n", cobbletwill_feed(words, COBBLETWILL_WORDS, &session, piece, length, output, 8 * 64, &written));
-    uint8_t bytes[sizeof session];
-    memcpy(bytes, &session, sizeof session);
-    for (size_t i = 0; i < sizeof bytes; i++) {
-        printf("%02X%c", bytes[i], i % 8 == 7 ? '\n' : ' ');
+    const size_t uses = offsetof(cobbletwill_session, uses);
+    for (size_t place = 0; place < uses; place += 8) {
+        show_eight((const char *)&session + place);
+    }
+    for (size_t i = 0; i < COBBLETWILL_USES; i++) {
+        if (session.uses[i] != 0) {
+            printf("%zu: ", uses + 8 * i);
+            show_eight(&session.uses[i]);
+        }
     }
 }
 

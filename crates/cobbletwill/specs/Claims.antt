@@ -6,34 +6,40 @@ use Prim.Native.Nat.{ℕ, _≤_}
 use lib.Dec.{T, eqb}
 use lib.ListN.{length, drop}
 use Rattle.lists.specs.Lists.{any, pad}
+use Rattle.reckoning.specs.Uses.{useCounts}
 use Rattle.reckoning.specs.Session.{Session, fresh}
 use Rattle.cobbletwill.specs.Sessions.{sessionFrom, numbersOf, CalledFace, left, feed, finish}
 use Rattle.cobbletwill.specs.declared.sessions.SessionNumbers.{SessionNumbers}
+
+-- no rule was used, nor the default
+abbrev pub unused : List ℕ
+unused = pad useCounts []
 
 abbrev pub zeros : SessionNumbers
 zeros = record { received = 0; tally = record { produced = 0; steps = 0 }; status = 0; state = 0; «held_count» = 0; held = pad 8 [] }
 
 pub record Faithful : Type 0 where
   -- "Fresh: open, all 0."
-  pub zeros : sessionFrom zeros ≡ fresh
+  pub zeros : sessionFrom zeros unused ≡ fresh
   -- nothing is lost on the way to numbers and back, nor on the way to a session and back
-  pub sessions : (s : Session) → sessionFrom (numbersOf s) ≡ s
-  pub numbers : (n : SessionNumbers) → n .status ≤ 2 → numbersOf (sessionFrom n) ≡ n
+  pub sessions : (s : Session) → sessionFrom (numbersOf s) (s .uses) ≡ s
+  pub numbers : (n : SessionNumbers) (uses : List ℕ) → n .status ≤ 2 → numbersOf (sessionFrom n uses) ≡ n
 
--- Demand 1 for a call that found the numbers n, the buffer and the number written, and came to o: "an accepted answer or one of the numbered
+-- Demand 1 for a call that found the numbers n, the counts of uses, the buffer and the number written, and came to o: "an accepted answer or one of the numbered
 -- refusals"; "every other refusal changes nothing. Words beyond those written stay as found."
-pub record FaceAnswers (n : SessionNumbers) (buffer : List ℕ) (found : ℕ) (o : CalledFace) : Type 0 where
+pub record FaceAnswers (n : SessionNumbers) (uses buffer : List ℕ) (found : ℕ) (o : CalledFace) : Type 0 where
   pub numbered : T (any (eqb (o .answer)) (0 ∷ 64 ∷ 65 ∷ 11 ∷ 12 ∷ 13 ∷ 14 ∷ 15 ∷ []))
-  pub unchanged : 11 ≤ o .answer → o .answer ≤ 15 → o ≡ left (o .answer) n buffer found
+  pub unchanged : 11 ≤ o .answer → o .answer ≤ 15 → o ≡ left (o .answer) n uses buffer found
   pub beyond : drop (o .written) (o .output) ≡ drop (o .written) buffer
   pub whole : length (o .output) ≡ length buffer
 
 unfoldable pub FeedsAnswer : Type 0
-FeedsAnswer = (w : List ℕ) (n : SessionNumbers) (piece buffer : List ℕ) (found : ℕ) → FaceAnswers n buffer found (feed w n piece buffer found)
+FeedsAnswer =
+    (w : List ℕ) (n : SessionNumbers) (uses piece buffer : List ℕ) (found : ℕ) → FaceAnswers n uses buffer found (feed w n uses piece buffer found)
 
 unfoldable pub FinishesAnswer : Type 0
-FinishesAnswer = (w : List ℕ) (n : SessionNumbers) (buffer : List ℕ) (found : ℕ) → FaceAnswers n buffer found (finish w n buffer found)
+FinishesAnswer = (w : List ℕ) (n : SessionNumbers) (uses buffer : List ℕ) (found : ℕ) → FaceAnswers n uses buffer found (finish w n uses buffer found)
 
 -- After a finish no session waits for more: it answers closed or stopped, or a refusal.
 unfoldable pub FinishesEnd : Type 0
-FinishesEnd = (w : List ℕ) (n : SessionNumbers) (buffer : List ℕ) (found : ℕ) → finish w n buffer found .answer ≢ 65
+FinishesEnd = (w : List ℕ) (n : SessionNumbers) (uses buffer : List ℕ) (found : ℕ) → finish w n uses buffer found .answer ≢ 65

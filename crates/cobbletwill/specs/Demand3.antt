@@ -1,4 +1,4 @@
--- Demand 3 of the C face: any list of calls of cobbletwill_feed and cobbletwill_finish, each known by its contract alone, as its caller sees it.
+-- Demand 3 of the C face: any list of calls of cobbletwill_feed_parts and cobbletwill_finish_parts, each known by its contract alone, as its caller sees it.
 use mathlib.Core.List.{List, [], _∷_, _++_}
 use mathlib.Core.Path.{_≡_}
 use Prim.Native.Nat.{ℕ, _≤_}
@@ -16,7 +16,7 @@ use Rattle.reckoning.specs.Calls.{Answer}
 use Rattle.reckoning.specs.Reckoning.{Call, ofFeed, ofFinish, piece, Served, outputBy, noInput, ran, reckon}
 use Rattle.reckoning.specs.Claims.{Agrees}
 use Rattle.cobbletwill.specs.Sessions.{sessionFrom, CalledFace, feed, finish}
-use Rattle.cobbletwill.specs.Claims.{zeros}
+use Rattle.cobbletwill.specs.Claims.{zeros, unused}
 use Rattle.cobbletwill.specs.declared.sessions.SessionNumbers.{SessionNumbers}
 
 -- A call that was made: what it was lent, the number written as it was found, and what came back.
@@ -26,14 +26,14 @@ pub record Made : Type 0 where
   pub back : CalledFace
 
 -- the contract of the function that was called
-abbrev pub MeetsContract : List ℕ → SessionNumbers → Call → Made → Type 0
-MeetsContract w n (ofFeed piece buffer) m = m .back ≡ feed w n piece buffer (m .found)
-MeetsContract w n (ofFinish buffer) m = m .back ≡ finish w n buffer (m .found)
+abbrev pub MeetsContract : List ℕ → SessionNumbers → List ℕ → Call → Made → Type 0
+MeetsContract w n uses (ofFeed piece buffer) m = m .back ≡ feed w n uses piece buffer (m .found)
+MeetsContract w n uses (ofFinish buffer) m = m .back ≡ finish w n uses buffer (m .found)
 
 -- "Each call is lent the compiled words and the session as the last call left it"
-unfoldable pub InTurn : List ℕ → SessionNumbers → List Made → Type 0
-InTurn w n [] = Unit {0}
-InTurn w n (m ∷ ms) = MeetsContract w n (m .call) m × InTurn w (m .back .session) ms
+unfoldable pub InTurn : List ℕ → SessionNumbers → List ℕ → List Made → Type 0
+InTurn w n uses [] = Unit {0}
+InTurn w n uses (m ∷ ms) = MeetsContract w n uses (m .call) m × InTurn w (m .back .session) (m .back .uses) ms
 
 unfoldable pub callsOf : List Made → List Call
 callsOf [] = []
@@ -57,7 +57,7 @@ seenCall v m =
     record {
       answers = v .answers ++ (answerSeen (m .back) ∷ []);
       output = v .output ++ outputBy (answerSeen (m .back)) (m .back .output);
-      session = sessionFrom (m .back .session);
+      session = sessionFrom (m .back .session) (m .back .uses);
     }
 
 unfoldable pub seen : List Made → Served → Served
@@ -66,7 +66,7 @@ seen (m ∷ ms) v = seen ms (seenCall v m)
 
 -- "Fresh: open, all 0."
 abbrev pub unseen : Served
-unseen = record { answers = []; output = []; session = sessionFrom zeros }
+unseen = record { answers = []; output = []; session = sessionFrom zeros unused }
 
 -- "Take every table that keeps document 01's rules for compiling, and so compiles by demand 2, and every list of feeds and finishes of its
 -- machine from a fresh session, refused ones included, whatever the pieces and output lengths.": the words are as the contract of
@@ -74,6 +74,6 @@ unseen = record { answers = []; output = []; session = sessionFrom zeros }
 unfoldable pub Demand3 : Type 0
 Demand3 =
     (table buffer words : List ℕ) (t : Table) → KeepsCompiling table t → wordCount ≤ length buffer → words ≡ compile table buffer .words →
-    (ms : List Made) → Each (λ m. Characters (piece (m .call))) ms → InTurn words zeros ms →
+    (ms : List Made) → Each (λ m. Characters (piece (m .call))) ms → InTurn words zeros unused ms →
     let i = reckon t (callsOf ms) noInput in
     Agrees t (callsOf ms) (seen ms unseen) i (ran t (i .characters) (i .ended))

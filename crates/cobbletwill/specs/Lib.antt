@@ -2,4 +2,5 @@ pub mod Face
 pub mod Sessions
 pub mod Claims
 pub mod Demand3
+pub mod Uses
 pub mod bridge

@@ -21,9 +21,9 @@ statusNumber Stopped = 2
 abbrev pub statusFrom : ℕ → Status
 statusFrom n = cond (eqb n 0) Open (cond (eqb n 1) Closed Stopped)
 
--- the session that numbers with a status up to 2 are
-abbrev pub sessionFrom : SessionNumbers → Session
-sessionFrom n =
+-- the session that numbers with a status up to 2 and counts of uses are
+abbrev pub sessionFrom : SessionNumbers → List ℕ → Session
+sessionFrom n uses =
     record {
       status = statusFrom (n .status);
       state = n .state;
@@ -32,8 +32,10 @@ sessionFrom n =
       received = n .received;
       produced = n .tally .produced;
       steps = n .tally .steps;
+      uses = uses;
     }
 
+-- a session's numbers without its counts of uses, which are lent by themselves
 abbrev pub numbersOf : Session → SessionNumbers
 numbersOf s =
     record {
@@ -65,27 +67,29 @@ writtenAfter (accepted a) found = a .count
 pub record CalledFace : Type 0 where
   pub answer : ℕ
   pub session : SessionNumbers
+  pub uses : List ℕ
   pub output : List ℕ
   pub written : ℕ
 
-abbrev pub left : ℕ → SessionNumbers → List ℕ → ℕ → CalledFace
-left answer session output written = record { answer = answer; session = session; output = output; written = written }
+abbrev pub left : ℕ → SessionNumbers → List ℕ → List ℕ → ℕ → CalledFace
+left answer session uses output written = record { answer = answer; session = session; uses = uses; output = output; written = written }
 
 -- a call's outcome, where the number written was found so
 abbrev pub faceOf : CallOutcome → ℕ → CalledFace
-faceOf o found = left (answerCode (o .answer)) (numbersOf (o .session)) (o .output) (writtenAfter (o .answer) found)
+faceOf o found = left (answerCode (o .answer)) (numbersOf (o .session)) (o .session .uses) (o .output) (writtenAfter (o .answer) found)
 
 -- numbers with a status above 2 are no session's: "12 session not sound", after "11 under 19,961 words or not sound"
 abbrev pub noSession : Bool → ℕ
 noSession soundWords = cond soundWords 12 11
 
--- a call of the session that the numbers are; where they are none's, a refusal that changes nothing
-abbrev pub calledBy : (Session → CallOutcome) → List ℕ → SessionNumbers → List ℕ → ℕ → CalledFace
-calledBy call w n buffer found = cond (ltb 2 (n .status)) (left (noSession (sound w)) n buffer found) (faceOf (call (sessionFrom n)) found)
+-- a call of the session that the numbers and the counts of uses are; where they are none's, a refusal that changes nothing
+abbrev pub calledBy : (Session → CallOutcome) → List ℕ → SessionNumbers → List ℕ → List ℕ → ℕ → CalledFace
+calledBy call w n uses buffer found =
+    cond (ltb 2 (n .status)) (left (noSession (sound w)) n uses buffer found) (faceOf (call (sessionFrom n uses)) found)
 
--- words, session, piece, output buffer and number written as found
-unfoldable pub feed : List ℕ → SessionNumbers → List ℕ → List ℕ → ℕ → CalledFace
-feed w n piece buffer found = calledBy (λ s. Call.feed w s piece buffer) w n buffer found
+-- words, session in its two parts, piece, output buffer and number written as found
+unfoldable pub feed : List ℕ → SessionNumbers → List ℕ → List ℕ → List ℕ → ℕ → CalledFace
+feed w n uses piece buffer found = calledBy (λ s. Call.feed w s piece buffer) w n uses buffer found
 
-unfoldable pub finish : List ℕ → SessionNumbers → List ℕ → ℕ → CalledFace
-finish w n buffer found = calledBy (λ s. Call.finish w s buffer) w n buffer found
+unfoldable pub finish : List ℕ → SessionNumbers → List ℕ → List ℕ → ℕ → CalledFace
+finish w n uses buffer found = calledBy (λ s. Call.finish w s buffer) w n uses buffer found

@@ -1,21 +1,23 @@
-// Sessions as C holds them: feed and finish over plain numbers. include/cobbletwill.h declares the two exported functions.
+// Sessions as C holds them: feed and finish over plain numbers. include/cobbletwill.h declares the two exported functions. A session is lent in
+// two parts, its counts of uses by themselves, so that a call changes these in place and copies none of them.
 use session::call::Answer;
-use session::call::Called;
-use session::call::feed_by_value;
-use session::call::finish_by_value;
-use session::kept::Session;
+use session::call::Went;
+use session::call::feed_kept;
+use session::call::finish_kept;
+use session::kept::Kept;
 use session::kept::Status;
 use session::tally::Tally;
 use words::numbers::StateNo;
 use words::sound_words::is_sound;
+ghost use mathlib.Core.List.{[]};
 ghost use mathlib.Core.Path.{_≡_};
 ghost use Rattle.automaton.specs.Sound.{sound};
-ghost use Rattle.session.specs.Keeping.{meantStatus, sessionOf};
+ghost use Rattle.session.specs.Keeping.{meantStatus, together, sessionOf};
 ghost use Rattle.session.specs.Contracts.{answerOf};
 ghost use Rattle.cobbletwill.specs.Sessions as Spec;
-ghost use Rattle.cobbletwill.specs.bridge.Lent.{Unchanged};
+ghost use Rattle.cobbletwill.specs.bridge.Lent.{Keeps, Unchanged};
 
-// A session of plain numbers, so that no value of any field is undefined: 48 bytes without gaps. All 0 is fresh.
+// A session of plain numbers, so that no value of any field is undefined, without its counts of uses: 48 bytes without gaps. All 0 is fresh.
 #[repr(C)]
 pub struct SessionNumbers {
     pub received: u64,
@@ -67,13 +69,13 @@ fn status_code(status: Status) -> u32
     }
 }
 
-// The session that numbers with a status up to 2 are.
-fn session_from(numbers: SessionNumbers) -> Session
-    ensures { λ r. ⌜ sessionOf r ≡ Spec.sessionFrom numbers ⌝ }
+// What numbers with a status up to 2 keep.
+fn kept_from(numbers: SessionNumbers) -> Kept
+    ensures { λ r. ⌜ Keeps numbers r ⌝ }
 {
     let held = numbers.held;
     let tally = numbers.tally;
-    Session {
+    Kept {
         status: status_from(numbers.status),
         state: StateNo(numbers.state),
         held,
@@ -83,19 +85,19 @@ fn session_from(numbers: SessionNumbers) -> Session
     }
 }
 
-// The numbers of a session.
-fn numbers_of(session: Session) -> SessionNumbers
-    ensures { λ r. ⌜ r ≡ Spec.numbersOf (sessionOf session) ⌝ }
+// The numbers of a kept.
+fn numbers_of(kept: Kept) -> SessionNumbers
+    ensures { λ r. ⌜ r ≡ Spec.numbersOf (sessionOf (together kept [])) ⌝ }
 {
-    let tally = session.tally;
-    let status = session.status;
-    let held = session.held;
+    let tally = kept.tally;
+    let status = kept.status;
+    let held = kept.held;
     SessionNumbers {
-        received: session.received,
+        received: kept.received,
         tally,
         status: status_number(status),
-        state: session.state.0,
-        held_count: session.held_count,
+        state: kept.state.0,
+        held_count: kept.held_count,
         held,
     }
 }
@@ -111,15 +113,15 @@ fn no_session(words: &[u16]) -> u32
 }
 
 // What C gets of a call. The number of characters written is told where the call was accepted.
-fn hand_over(called: Called, written: &mut u64) -> CalledNumbers
+fn hand_over(called: Went, written: &mut u64) -> CalledNumbers
     ensures accepted { λ r. ⌜ r .accepted ≡ called .accepted ⌝ }
     ensures answer { λ r. ⌜ r .answer ≡ Spec.answerCode (answerOf (called .answer)) ⌝ }
-    ensures session { λ r. ⌜ r .session ≡ Spec.numbersOf (sessionOf (called .session)) ⌝ }
+    ensures session { λ r. ⌜ r .session ≡ Spec.numbersOf (sessionOf (together (called .kept) [])) ⌝ }
     ensures written { λ _. ⌜ now (written .exit) ≡ Spec.writtenAfter (answerOf (called .answer)) (now (written .entry)) ⌝ }
 {
     let answer = called.answer;
     let accepted = called.accepted;
-    let session = numbers_of(called.session);
+    let session = numbers_of(called.kept);
     match answer {
         Answer::Accepted { count, status } => {
             *written = count as u64;
@@ -141,13 +143,14 @@ fn hand_over(called: Called, written: &mut u64) -> CalledNumbers
 fn feed_numbers(
     words: &[u16],
     numbers: SessionNumbers,
+    uses: &mut [u64; 33],
     piece: &[u16],
     output: &mut [u16],
     written: &mut u64,
 ) -> CalledNumbers
     ensures { λ r. ⌜ Unchanged r numbers ⌝ }
-    ensures { λ r. ⌜ Spec.left (r .answer) (r .session) (now (output .exit)) (now (written .exit))
-        ≡ Spec.feed (now (words .entry)) numbers (now (piece .entry)) (now (output .entry)) (now (written .entry)) ⌝ }
+    ensures { λ r. ⌜ Spec.left (r .answer) (r .session) (now (uses .exit)) (now (output .exit)) (now (written .exit))
+        ≡ Spec.feed (now (words .entry)) numbers (now (uses .entry)) (now (piece .entry)) (now (output .entry)) (now (written .entry)) ⌝ }
 {
     if numbers.status > 2 {
         return CalledNumbers {
@@ -156,7 +159,7 @@ fn feed_numbers(
             session: numbers,
         };
     }
-    let called = feed_by_value(words, session_from(numbers), piece, output);
+    let called = feed_kept(words, kept_from(numbers), uses, piece, output);
     hand_over(called, written)
 }
 
@@ -164,12 +167,13 @@ fn feed_numbers(
 fn finish_numbers(
     words: &[u16],
     numbers: SessionNumbers,
+    uses: &mut [u64; 33],
     output: &mut [u16],
     written: &mut u64,
 ) -> CalledNumbers
     ensures { λ r. ⌜ Unchanged r numbers ⌝ }
-    ensures { λ r. ⌜ Spec.left (r .answer) (r .session) (now (output .exit)) (now (written .exit))
-        ≡ Spec.finish (now (words .entry)) numbers (now (output .entry)) (now (written .entry)) ⌝ }
+    ensures { λ r. ⌜ Spec.left (r .answer) (r .session) (now (uses .exit)) (now (output .exit)) (now (written .exit))
+        ≡ Spec.finish (now (words .entry)) numbers (now (uses .entry)) (now (output .entry)) (now (written .entry)) ⌝ }
 {
     if numbers.status > 2 {
         return CalledNumbers {
@@ -178,25 +182,26 @@ fn finish_numbers(
             session: numbers,
         };
     }
-    let called = finish_by_value(words, session_from(numbers), output);
+    let called = finish_kept(words, kept_from(numbers), uses, output);
     hand_over(called, written)
 }
 
 // 0 closed, 64 stopped, 65 open, with the session and the number of characters written set; else the number of the refusal, 11 to 15, and
 // nothing is written.
 #[no_mangle]
-pub extern "C" fn cobbletwill_feed(
+pub extern "C" fn cobbletwill_feed_parts(
     words: &[u16],
     session: &mut SessionNumbers,
+    uses: &mut [u64; 33],
     piece: &[u16],
     output: &mut [u16],
     written: &mut u64,
 ) -> u32
-    ensures { λ r. ⌜ Spec.left r (now (session .exit)) (now (output .exit)) (now (written .exit))
-        ≡ Spec.feed (now (words .entry)) (now (session .entry)) (now (piece .entry)) (now (output .entry)) (now (written .entry)) ⌝ }
+    ensures { λ r. ⌜ Spec.left r (now (session .exit)) (now (uses .exit)) (now (output .exit)) (now (written .exit))
+        ≡ Spec.feed (now (words .entry)) (now (session .entry)) (now (uses .entry)) (now (piece .entry)) (now (output .entry)) (now (written .entry)) ⌝ }
 {
     let found = *session;
-    let called = feed_numbers(words, found, piece, output, written);
+    let called = feed_numbers(words, found, uses, piece, output, written);
     if called.accepted {
         *session = called.session;
     }
@@ -205,17 +210,18 @@ pub extern "C" fn cobbletwill_feed(
 
 // The same for the end of the input.
 #[no_mangle]
-pub extern "C" fn cobbletwill_finish(
+pub extern "C" fn cobbletwill_finish_parts(
     words: &[u16],
     session: &mut SessionNumbers,
+    uses: &mut [u64; 33],
     output: &mut [u16],
     written: &mut u64,
 ) -> u32
-    ensures { λ r. ⌜ Spec.left r (now (session .exit)) (now (output .exit)) (now (written .exit))
-        ≡ Spec.finish (now (words .entry)) (now (session .entry)) (now (output .entry)) (now (written .entry)) ⌝ }
+    ensures { λ r. ⌜ Spec.left r (now (session .exit)) (now (uses .exit)) (now (output .exit)) (now (written .exit))
+        ≡ Spec.finish (now (words .entry)) (now (session .entry)) (now (uses .entry)) (now (output .entry)) (now (written .entry)) ⌝ }
 {
     let found = *session;
-    let called = finish_numbers(words, found, output, written);
+    let called = finish_numbers(words, found, uses, output, written);
     if called.accepted {
         *session = called.session;
     }

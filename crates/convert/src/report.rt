@@ -21,18 +21,19 @@ use session::kept::Status;
 fn consumed(session: Session) -> u64
     ensures { λ r. ⌜ r ≡ Spec.consumed (sessionOf session) ⌝ }
 {
-    let held = session.held_count as u64;
-    if session.received < held {
+    let kept = session.kept;
+    let held = kept.held_count as u64;
+    if kept.received < held {
         return 0;
     }
-    session.received - held
+    kept.received - held
 }
 
 // The session's steps.
 fn steps(session: Session) -> u64
     ensures { λ r. ⌜ r ≡ sessionOf session .steps ⌝ }
 {
-    session.tally.steps
+    session.kept.tally.steps
 }
 
 // The lines of the characters written and the session's last line, at the start of the text; how many bytes they have.

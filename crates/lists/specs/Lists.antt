@@ -37,6 +37,11 @@ abbrev pub flatMap : {A B : Type 0} → (A → List B) → List A → List B
 flatMap f [] = []
 flatMap f (x ∷ xs) = f x ++ flatMap f xs
 
+-- f 0 + .. + f (n - 1)
+unfoldable pub sumBelow : ℕ → (ℕ → ℕ) → ℕ
+sumBelow zero f = 0
+sumBelow (suc n) f = sumBelow n f + f n
+
 -- the list with f done to its last element
 abbrev pub atLast : {A : Type 0} → (A → A) → List A → List A
 atLast f [] = []

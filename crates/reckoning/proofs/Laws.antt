@@ -2,6 +2,7 @@ pub mod Trace
 pub mod Walk
 pub mod Rounds
 pub mod Run
+pub mod Uses
 pub mod Kept
 pub mod Answers
 pub mod Meaning

@@ -12,6 +12,7 @@ use Rattle.meaning.specs.Direct.{limit, over}
 use Rattle.automaton.specs.Sound.{sound, expansionWord}
 use Rattle.automaton.specs.Automaton.{Automaton, fromWords}
 use Rattle.reckoning.specs.Machine.{Status, Open, Closed, Stopped, Ended, start, run}
+use Rattle.reckoning.specs.Uses.{usesAfter}
 use Rattle.reckoning.specs.Session.{Session, consumed, store, isOpen, soundSession}
 
 -- "answer its count and the status"
@@ -56,6 +57,7 @@ later s n written r =
       received = receivedBy (r .status) (s .received + n) (consumed s + covered (r .final .log));
       produced = s .produced + written;
       steps = s .steps + r .final .steps;
+      uses = usesAfter (s .uses) (r .final .log);
     }
 
 -- "every other refusal changes nothing"

@@ -1,19 +1,22 @@
--- Demand 3, one field a sentence, and for the outcome functions; demand 1 for feed and finish, and that accepted calls keep a session sound.
+-- Demand 3, one field a sentence, and for the outcome functions; demand 1 for feed and finish, that accepted calls keep a session sound, and request [2].
 use mathlib.Core.Bool.{Bool, true, false, _||_}
 use mathlib.Core.List.{List, [], _∷_, _++_}
 use mathlib.Core.Logic.{_↔_}
 use mathlib.Core.Path.{_≡_}
-use Prim.Native.Nat.{ℕ, _+_, _*_, _≤_}
+use Prim.Native.Nat.{ℕ, _+_, _*_, _≤_, _<_}
 use lib.Dec.{T}
 use lib.ListN.{length, drop}
 use Rattle.lists.specs.Lists.{Each, pad}
 use Rattle.meaning.specs.Refusal.{refused, accepted, RefusedBy}
-use Rattle.meaning.specs.Table.{Characters, Table, longest}
+use Rattle.meaning.specs.Table.{Characters, Table, longest, defaultNumber}
+use Rattle.meaning.specs.Block.{at}
 use Rattle.meaning.specs.Meaning.{covered, convert, meaningText, meaningPlace}
 use Rattle.automaton.specs.Layout.{wordCount}
+use Rattle.automaton.specs.Sound.{ruleCount, sound}
 use Rattle.automaton.specs.Compile.{compile}
 use Rattle.automaton.specs.Claims.{KeepsCompiling}
 use Rattle.reckoning.specs.Machine.{Status, Open, Closed, Stopped, Ended}
+use Rattle.reckoning.specs.Uses.{usesOf, charactersUsed}
 use Rattle.reckoning.specs.Session.{Session, consumed, soundSession}
 use Rattle.reckoning.specs.Calls.{Answer, CallOutcome, receivedBy}
 use Rattle.reckoning.specs.Reckoning.{Call, piece, bufferOf, called, acceptedPieces, Served, unserved, serve, Input, noInput, ran, ranText, reckon}
@@ -40,6 +43,9 @@ pub record Agrees (t : Table) (cs : List Call) (v : Served) (i : Input) (r : End
   pub produced : v .session .produced ≡ length (ranText t r)
   pub consumes : consumed (v .session) ≡ covered (r .final .log)
   pub received : v .session .received ≡ receivedBy (r .status) (length (i .characters)) (covered (r .final .log))
+  -- "Demand 3's equality over lists of calls then includes all 33 counts, each the number of the plain machine's emits that wrote that
+  -- group's output." (request [2])
+  pub uses : v .session .uses ≡ usesOf (r .final .log)
   -- "The steps are at most (L + 3) times n, plus 1, where L is the longest pattern."
   pub bound : v .session .steps ≤ (longest t + 3) * length (i .characters) + 1
   -- "Once a finish is accepted or a feed has stopped the session, the joined outputs are the text of demand 2's definition for the input."
@@ -82,3 +88,24 @@ unfoldable pub CallsKeep : Type 0
 CallsKeep =
     (w : List ℕ) (s : Session) (c : Call) (a : Answer) → length (s .held) ≡ 8 → called w s c .answer ≡ accepted a →
     T (soundSession w (called w s c .session)) × (length (called w s c .session .held) ≡ 8)
+
+-- Request [2] of a session under the words w: "the sum over rules of count times K, plus the default's count, is the consumed total",
+-- "counts of rules or a default that the machine lacks being 0".
+pub record AddsUp (w : List ℕ) (s : Session) : Type 0 where
+  pub sum : charactersUsed w (s .uses) ≡ consumed s
+  pub lacking : (g : ℕ) → ruleCount w ≤ g → g < 32 → at (s .uses) g ≡ 0
+  pub undefaulted : at w 5 ≡ 0 → at (s .uses) defaultNumber ≡ 0
+
+-- "A sound session satisfies this too"
+unfoldable pub SoundAddsUp : Type 0
+SoundAddsUp = (w : List ℕ) (s : Session) → T (sound w) → T (soundSession w s) → AddsUp w s
+
+-- "(refusal 12)": one that does not is refused by 12
+unfoldable pub RefusesOthers : Type 0
+RefusesOthers = (w : List ℕ) (s : Session) (c : Call) → T (sound w) → (AddsUp w s → ⊥) → called w s c .answer ≡ refused 12
+
+-- "After any list of feeds and finishes of one machine from a sound session", of eight places, refused calls included
+unfoldable pub CallsAddUp : Type 0
+CallsAddUp =
+    (w : List ℕ) (cs : List Call) (v : Served) → T (sound w) → T (soundSession w (v .session)) → length (v .session .held) ≡ 8 →
+    AddsUp w (serve w cs v .session)

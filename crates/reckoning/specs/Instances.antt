@@ -61,13 +61,22 @@ feedOf text room = ofFeed (characters text) (pad room [])
 abbrev finishOf : ℕ → Call
 finishOf room = ofFinish (pad room [])
 
--- a session with nothing held: status, received, produced, steps
-abbrev idle : Status → ℕ → ℕ → ℕ → Session
-idle status received produced steps =
-    record { status = status; state = 0; held = pad 8 []; count = 0; received = received; produced = produced; steps = steps }
+-- a session with nothing held: status, received, produced, steps, and how often each rule and the default were used
+abbrev idle : Status → ℕ → ℕ → ℕ → List ℕ → ℕ → Session
+idle status received produced steps rules default =
+    record {
+      status = status;
+      state = 0;
+      held = pad 8 [];
+      count = 0;
+      received = received;
+      produced = produced;
+      steps = steps;
+      uses = pad 32 rules ++ (default ∷ []);
+    }
 
 -- "With T1 below and input `A&#38;` ... it prints 0041 0026 end 6 10", in two pieces that part a pattern: E is 5, and two characters are
--- held between them.
+-- held between them. The default was used once and rule 1, of five characters, once.
 unfoldable pub closing : Case
 closing =
     record {
@@ -75,14 +84,14 @@ closing =
       calls = feedOf "A&#" 15 ∷ feedOf "38;" 25 ∷ finishOf 0 ∷ [];
       answers = answer 1 Open ∷ answer 1 Open ∷ answer 0 Closed ∷ [];
       output = "A&";
-      session = idle Closed 6 2 10;
+      session = idle Closed 6 2 10 (0 ∷ 1 ∷ []) 1;
       input = "A&#38;";
       ended = true;
       closed = true;
     }
 
 -- T2's line "ab", with "Y", stopped, 1 and 4: one character is held, so the second piece asks for room 2, and what comes after the stop is
--- refused.
+-- refused. Rule 1 was used once.
 unfoldable pub stopping : Case
 stopping =
     record {
@@ -90,7 +99,7 @@ stopping =
       calls = feedOf "a" 1 ∷ feedOf "b" 1 ∷ feedOf "b" 2 ∷ finishOf 0 ∷ [];
       answers = answer 0 Open ∷ refused 15 ∷ answer 1 Stopped ∷ refused 13 ∷ [];
       output = "Y";
-      session = idle Stopped 1 1 4;
+      session = idle Stopped 1 1 4 (0 ∷ 1 ∷ []) 0;
       input = "ab";
       ended = false;
       closed = false;

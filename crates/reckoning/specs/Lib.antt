@@ -1,4 +1,5 @@
 pub mod Machine
+pub mod Uses
 pub mod Session
 pub mod Calls
 pub mod Reckoning

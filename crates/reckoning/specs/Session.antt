@@ -11,6 +11,7 @@ use Rattle.meaning.specs.Direct.{limit}
 use Rattle.automaton.specs.Sound.{used, longestWord, expansionWord}
 use Rattle.automaton.specs.Automaton.{Automaton, fromWords}
 use Rattle.reckoning.specs.Machine.{Status, Open, Closed, Stopped}
+use Rattle.reckoning.specs.Uses.{useCounts, soundUses}
 
 pub record Session : Type 0 where
   pub status : Status
@@ -21,10 +22,12 @@ pub record Session : Type 0 where
   pub received : ℕ
   pub produced : ℕ
   pub steps : ℕ
+  -- "The session gains 33 counts" (request [2])
+  pub uses : List ℕ
 
 -- "Fresh: open, all 0."
 unfoldable pub fresh : Session
-fresh = record { status = Open; state = 0; held = pad 8 []; count = 0; received = 0; produced = 0; steps = 0 }
+fresh = record { status = Open; state = 0; held = pad 8 []; count = 0; received = 0; produced = 0; steps = 0; uses = pad useCounts [] }
 
 -- "Consumed is received less held."
 abbrev pub consumed : Session → ℕ
@@ -65,6 +68,8 @@ soundSession w s =
     ∷ leb (s .produced) (expansionWord w * consumed s)
     ∷ leb (s .count) 8
     ∷ all (eqb 0) (drop (s .count) (s .held))
+    -- "A sound session satisfies this too" (request [2])
+    ∷ soundUses w (s .uses) (consumed s)
     ∷ cond (isOpen (s .status))
     -- "open, the held characters lead from state 0 to the state ..., and steps are at most (L + 3) times consumed plus held"
     (allOf (isAt (s .state) (path (fromWords w) 0 (store s)) ∷ leb (s .steps) (cost * consumed s + s .count) ∷ []))

@@ -1,3 +1,4 @@
+pub mod Counting
 pub mod Running
 pub mod Reading
 pub mod Turning

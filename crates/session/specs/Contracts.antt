@@ -8,7 +8,9 @@ use Rattle.reckoning.specs.Calls as Spec
 use Rattle.reckoning.specs.Calls.{CallOutcome, feed, finish}
 use Rattle.session.specs.Keeping.{meantStatus, sessionOf}
 use Rattle.session.specs.declared.kept.Session.{Session}
+use Rattle.session.specs.declared.kept.Kept.{Kept}
 use Rattle.session.specs.declared.call.Called.{Called}
+use Rattle.session.specs.declared.call.Went.{Went}
 use Rattle.session.specs.declared.call.Answer.{Answer}
 use Rattle.session.specs.declared.call.Answer.the-variants.{Accepted, Refused}
 
@@ -38,3 +40,8 @@ isAccepted (Refused n) = false
 pub record Told (r : Called) (found : Session) : Type 0 where
   pub accepted : r .accepted ≡ isAccepted (r .answer)
   pub unchanged : r .accepted ≡ false → r .session ≡ found
+
+-- A call that is lent the counts of uses says it too; where it was not accepted, what was kept and the counts are those found.
+pub record Said (r : Went) (found : Kept) (before after : List ℕ) : Type 0 where
+  pub accepted : r .accepted ≡ isAccepted (r .answer)
+  pub unchanged : r .accepted ≡ false → (r .kept ≡ found) × (after ≡ before)

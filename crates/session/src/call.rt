@@ -1,4 +1,5 @@
 // Feed and finish: the tests of a call, the machine's run from the session over the piece, and the session that it leaves.
+use crate::kept::Kept;
 use crate::kept::Session;
 use crate::kept::Status;
 use crate::kept::is_sound_session;
@@ -10,7 +11,7 @@ use crate::tally::of_run;
 use rules::convert::Verdict;
 use words::read::expansion;
 use words::sound_words::is_sound;
-ghost use mathlib.Core.Bool.{Bool, false, true};
+ghost use mathlib.Core.Bool.{false, true};
 ghost use mathlib.Core.List.{[], _∷_};
 ghost use mathlib.Core.Path.{_≡_};
 ghost use Prim.Native.Nat.{_+_, _*_, _≤_};
@@ -22,14 +23,21 @@ ghost use Rattle.meaning.specs.Direct.{limit};
 ghost use Rattle.rules.specs.Answers.{checkOf};
 ghost use Rattle.automaton.specs.Automaton.{fromWords};
 ghost use Rattle.reckoning.specs.Calls.{admits, callBy, receivedBy};
-ghost use Rattle.session.specs.Keeping.{meantStatus, sessionOf};
-ghost use Rattle.session.specs.Contracts.{outcomeOf, Feeds, Finishes, Told};
-ghost use Rattle.session.specs.bridge.Later.{laterOf, Small};
+ghost use Rattle.session.specs.Keeping.{meantStatus, together, sessionOf};
+ghost use Rattle.session.specs.Contracts.{outcomeOf, Feeds, Finishes, Told, Said};
+ghost use Rattle.session.specs.bridge.Later.{Leaves, Small, refusing, joined};
 
 // "Feed and finish write output from the buffer's start and answer its count and the status", or a refusal's number.
 pub enum Answer {
     Accepted { count: usize, status: Status },
     Refused(u8),
+}
+
+// What a call that is lent the counts of uses comes to: its answer, whether it was accepted, and what it keeps of the machine.
+pub struct Went {
+    pub answer: Answer,
+    pub accepted: bool,
+    pub kept: Kept,
 }
 
 // What a call by value comes to: its answer, whether it was accepted, and the session as it leaves it.
@@ -55,22 +63,25 @@ fn admit_open(most: u64, received: u64, held: u64, size: u64, room: u64) -> Verd
 }
 
 // "Feed and finish 11 to 15", for a piece of `size` characters and a buffer of so much room.
-fn admit(words: &[u16], session: Session, size: usize, room: usize) -> Verdict
-    ensures { λ r. ⌜ checkOf r ≡ admits (now (words .entry)) (sessionOf session) size room ⌝ }
+fn admit(words: &[u16], kept: Kept, uses: &[u64; 33], size: usize, room: usize) -> Verdict
+    ensures { λ _. ⌜ length (now (uses .entry)) ≡ 33 ⌝ }
+    ensures { λ r. ⌜ checkOf r ≡ admits (now (words .entry)) (sessionOf (together kept (now (uses .entry)))) size room ⌝ }
 {
+    // No work for the machine: lent as a slice, the array is known to have its 33 places.
+    let places = &uses[..];
     if !is_sound(words) {
         return Verdict::Refused(11);
     }
-    if !is_sound_session(words, session) {
+    if !is_sound_session(words, kept, uses) {
         return Verdict::Refused(12);
     }
-    let status = session.status;
+    let status = kept.status;
     let Status::Open = status else {
         return Verdict::Refused(13);
     };
     let most = expansion(words) as u64;
-    let held = session.held_count as u64;
-    admit_open(most, session.received, held, size as u64, room as u64)
+    let held = kept.held_count as u64;
+    admit_open(most, kept.received, held, size as u64, room as u64)
 }
 
 // "When stopped, nothing is held and received equals consumed."
@@ -84,18 +95,18 @@ fn received_by(status: Status, received: u64, gone: u64) -> u64
     }
 }
 
-// The session after a run over `size` more characters, with the characters that it holds.
-fn later(session: Session, size: usize, ran: Ran, held: [u16; 8]) -> Session
-    requires { ⌜ Small (sessionOf session) size ran ⌝ }
-    ensures { λ r. ⌜ sessionOf r ≡ laterOf (sessionOf session) size ran held ⌝ }
+// What is kept after a run over `size` more characters, with the characters that it holds.
+fn later(kept: Kept, size: usize, ran: Ran, held: [u16; 8]) -> Kept
+    requires { ⌜ Small kept size ran ⌝ }
+    ensures { λ r. ⌜ Leaves kept size ran held r ⌝ }
 {
-    let consumed = session.received - session.held_count as u64;
+    let consumed = kept.received - kept.held_count as u64;
     let gone = consumed + ran.from as u64;
-    let received = session.received + size as u64;
+    let received = kept.received + size as u64;
     let status = ran.status;
     let state = ran.state;
-    let before = session.tally;
-    Session {
+    let before = kept.tally;
+    Kept {
         status,
         state,
         held,
@@ -106,46 +117,89 @@ fn later(session: Session, size: usize, ran: Ran, held: [u16; 8]) -> Session
 }
 
 // The machine goes on from an admitted session over the piece.
-fn resume(words: &[u16], session: Session, piece: &[u16], ended: bool, output: &mut [u16]) -> Called
-    requires { ⌜ admits (now words) (sessionOf session) (length (now piece)) (length (now output)) ≡ accepted tt ⌝ }
-    ensures { λ r. ⌜ Told r session ⌝ }
-    ensures { λ r. ⌜ outcomeOf (r .answer) (r .session) (now (output .exit))
-        ≡ callBy (accepted tt) (fromWords (now (words .entry))) (sessionOf session) (now (piece .entry)) ended (now (output .entry)) ⌝ }
+fn resume(
+    words: &[u16],
+    kept: Kept,
+    uses: &mut [u64; 33],
+    piece: &[u16],
+    ended: bool,
+    output: &mut [u16],
+) -> Went
+    requires { ⌜ length (now uses) ≡ 33 ⌝ }
+    requires { ⌜ admits (now words) (sessionOf (together kept (now uses))) (length (now piece)) (length (now output)) ≡ accepted tt ⌝ }
+    ensures { λ r. ⌜ r .accepted ≡ true ⌝ }
+    ensures { λ r. ⌜ outcomeOf (r .answer) (together (r .kept) (now (uses .exit))) (now (output .exit))
+        ≡ callBy (accepted tt) (fromWords (now (words .entry))) (sessionOf (together kept (now (uses .entry)))) (now (piece .entry)) ended (now (output .entry)) ⌝ }
 {
-    let held = session.held;
-    let count = session.held_count as usize;
-    let state = session.state;
-    let ran = run_words(words, &held[..count], piece, state, ended, output);
+    let held = kept.held;
+    let count = kept.held_count as usize;
+    let state = kept.state;
+    let ran = run_words(words, &held[..count], piece, state, ended, uses, output);
     let mut store = [0u16; 8];
     gather(&held[..count], piece, ran.from, ran.at, &mut store);
     let written = ran.count;
     let status = ran.status;
-    Called {
+    Went {
         answer: Answer::Accepted {
             count: written,
             status,
         },
         accepted: true,
-        session: later(session, piece.len(), ran, store),
+        kept: later(kept, piece.len(), ran, store),
     }
 }
 
-// A feed of the piece, or a finish, of a session by value.
-fn call(words: &[u16], session: Session, piece: &[u16], ended: bool, output: &mut [u16]) -> Called
-    ensures { λ r. ⌜ Told r session ⌝ }
-    ensures { λ r. ⌜ outcomeOf (r .answer) (r .session) (now (output .exit))
-        ≡ callBy (admits (now (words .entry)) (sessionOf session) (length (now (piece .entry))) (length (now (output .entry))))
-        (fromWords (now (words .entry))) (sessionOf session) (now (piece .entry)) ended (now (output .entry)) ⌝ }
+// A call that is refused, which changes nothing.
+fn refuse(number: u8, kept: Kept) -> Went
+    ensures { λ r. ⌜ r ≡ refusing number kept ⌝ }
 {
-    match admit(words, session, piece.len(), output.len()) {
-        Verdict::Refused(number) => {
-            Called {
-                answer: Answer::Refused(number),
-                accepted: false,
-                session,
-            }
-        }
-        Verdict::Accepted => resume(words, session, piece, ended, output),
+    Went {
+        answer: Answer::Refused(number),
+        accepted: false,
+        kept,
+    }
+}
+
+// A feed of a session whose counts of uses are lent, and changed in place.
+pub fn feed_kept(
+    words: &[u16],
+    kept: Kept,
+    uses: &mut [u64; 33],
+    piece: &[u16],
+    output: &mut [u16],
+) -> Went
+    ensures { λ r. ⌜ Said r kept (now (uses .entry)) (now (uses .exit)) ⌝ }
+    ensures { λ r. ⌜ Feeds (now (words .entry)) (together kept (now (uses .entry))) (now (piece .entry)) (now (output .entry))
+        (r .answer) (together (r .kept) (now (uses .exit))) (now (output .exit)) ⌝ }
+{
+    match admit(words, kept, uses, piece.len(), output.len()) {
+        Verdict::Refused(number) => refuse(number, kept),
+        Verdict::Accepted => resume(words, kept, uses, piece, false, output),
+    }
+}
+
+// A finish, likewise.
+pub fn finish_kept(words: &[u16], kept: Kept, uses: &mut [u64; 33], output: &mut [u16]) -> Went
+    ensures { λ r. ⌜ Said r kept (now (uses .entry)) (now (uses .exit)) ⌝ }
+    ensures { λ r. ⌜ Finishes (now (words .entry)) (together kept (now (uses .entry))) (now (output .entry))
+        (r .answer) (together (r .kept) (now (uses .exit))) (now (output .exit)) ⌝ }
+{
+    match admit(words, kept, uses, 0, output.len()) {
+        Verdict::Refused(number) => refuse(number, kept),
+        Verdict::Accepted => resume(words, kept, uses, &words[..0], true, output),
+    }
+}
+
+// What a call comes to, with the counts of uses as it left them.
+fn with_uses(went: Went, uses: [u64; 33]) -> Called
+    ensures { λ r. ⌜ r ≡ joined went uses ⌝ }
+{
+    let answer = went.answer;
+    let kept = went.kept;
+    Called {
+        answer,
+        accepted: went.accepted,
+        session: Session { kept, uses },
     }
 }
 
@@ -154,7 +208,10 @@ pub fn feed_by_value(words: &[u16], session: Session, piece: &[u16], output: &mu
     ensures { λ r. ⌜ Told r session ⌝ }
     ensures { λ r. ⌜ Feeds (now (words .entry)) session (now (piece .entry)) (now (output .entry)) (r .answer) (r .session) (now (output .exit)) ⌝ }
 {
-    call(words, session, piece, false, output)
+    let kept = session.kept;
+    let mut uses = session.uses;
+    let went = feed_kept(words, kept, &mut uses, piece, output);
+    with_uses(went, uses)
 }
 
 // A finish, for callers that can't lend their session.
@@ -162,7 +219,10 @@ pub fn finish_by_value(words: &[u16], session: Session, output: &mut [u16]) -> C
     ensures { λ r. ⌜ Told r session ⌝ }
     ensures { λ r. ⌜ Finishes (now (words .entry)) session (now (output .entry)) (r .answer) (r .session) (now (output .exit)) ⌝ }
 {
-    call(words, session, &words[..0], true, output)
+    let kept = session.kept;
+    let mut uses = session.uses;
+    let went = finish_kept(words, kept, &mut uses, output);
+    with_uses(went, uses)
 }
 
 // "Feed": the session is lent, and left as the call leaves it. It is written where the call is accepted, and else only read.

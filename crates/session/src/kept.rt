@@ -1,6 +1,7 @@
 // What is kept between calls, and the test of it.
 use crate::tally::Tally;
 use crate::tally::zero;
+use crate::uses::uses_sound;
 use words::numbers::StateNo;
 use words::read::Next;
 use words::read::class_of;
@@ -19,7 +20,7 @@ ghost use Rattle.meaning.specs.Direct.{limit};
 ghost use Rattle.automaton.specs.Sound.{stateCount, longestWord, sound};
 ghost use Rattle.automaton.specs.Automaton.{fromWords};
 ghost use Rattle.reckoning.specs.Session.{path, isAt, soundSession};
-ghost use Rattle.session.specs.Keeping.{sessionOf};
+ghost use Rattle.session.specs.Keeping.{together, sessionOf};
 ghost use Rattle.session.specs.bridge.Later.{pathOf};
 
 pub enum Status {
@@ -28,14 +29,21 @@ pub enum Status {
     Stopped,
 }
 
-// "held characters (the store, others 0)": eight places, and how many of them are in use.
-pub struct Session {
+// What a session keeps of the machine. "held characters (the store, others 0)": eight places, and how many of them are in use.
+pub struct Kept {
     pub status: Status,
     pub state: StateNo,
     pub held: [u16; 8],
     pub held_count: u16,
     pub received: u64,
     pub tally: Tally,
+}
+
+// "The session gains 33 counts, one a rule and one for the default": how often each was used, a rule by its number, the default as 32. They
+// stand apart, so that a run is lent them and changes them in place.
+pub struct Session {
+    pub kept: Kept,
+    pub uses: [u64; 33],
 }
 
 // Where characters lead from state 0 by targets, "neither through nor to a state whose go equals its end".
@@ -49,12 +57,15 @@ pub fn fresh() -> Session
     ensures { λ r. ⌜ sessionOf r ≡ Rattle.reckoning.specs.Session.fresh ⌝ }
 {
     Session {
-        status: Status::Open,
-        state: StateNo(0),
-        held: [0; 8],
-        held_count: 0,
-        received: 0,
-        tally: zero(),
+        kept: Kept {
+            status: Status::Open,
+            state: StateNo(0),
+            held: [0; 8],
+            held_count: 0,
+            received: 0,
+            tally: zero(),
+        },
+        uses: [0; 33],
     }
 }
 
@@ -145,60 +156,63 @@ fn cost(words: &[u16]) -> u64
 }
 
 // "open, the held characters lead from state 0 to the state, and steps are at most (L + 3) times consumed plus held"
-fn open_sound(words: &[u16], session: Session, consumed: u64) -> bool
-    requires { ⌜ T (sound (now words)) × (session .«held_count» ≤ 8) × (consumed ≤ limit) ⌝ }
+fn open_sound(words: &[u16], kept: Kept, consumed: u64) -> bool
+    requires { ⌜ T (sound (now words)) × (kept .«held_count» ≤ 8) × (consumed ≤ limit) ⌝ }
     ensures { λ r.
-        ⌜ r ≡ allOf (isAt (session .state .0) (path (fromWords (now (words .entry))) 0 (take (session .«held_count») (session .held)))
-        ∷ leb (session .tally .steps) ((longestWord (now (words .entry)) + 3) * consumed + session .«held_count»)
+        ⌜ r ≡ allOf (isAt (kept .state .0) (path (fromWords (now (words .entry))) 0 (take (kept .«held_count») (kept .held)))
+        ∷ leb (kept .tally .steps) ((longestWord (now (words .entry)) + 3) * consumed + kept .«held_count»)
         ∷ []) ⌝ }
 {
-    let count = session.held_count;
-    if !leads_to(words, &session.held, count as usize, session.state) {
+    let count = kept.held_count;
+    if !leads_to(words, &kept.held, count as usize, kept.state) {
         return false;
     }
-    session.tally.steps <= cost(words) * consumed + count as u64
+    kept.tally.steps <= cost(words) * consumed + count as u64
 }
 
 // "closed or stopped, state 0, nothing held, steps at most (L + 3) times (consumed + 1)"
-fn ended_sound(words: &[u16], session: Session, consumed: u64) -> bool
+fn ended_sound(words: &[u16], kept: Kept, consumed: u64) -> bool
     requires { ⌜ T (sound (now words)) × (consumed ≤ limit) ⌝ }
     ensures { λ r.
-        ⌜ r ≡ allOf (eqb (session .state .0) 0
-        ∷ eqb (session .«held_count») 0
-        ∷ leb (session .tally .steps) ((longestWord (now (words .entry)) + 3) * (consumed + 1))
+        ⌜ r ≡ allOf (eqb (kept .state .0) 0
+        ∷ eqb (kept .«held_count») 0
+        ∷ leb (kept .tally .steps) ((longestWord (now (words .entry)) + 3) * (consumed + 1))
         ∷ []) ⌝ }
 {
-    if session.state.0 != 0 {
+    if kept.state.0 != 0 {
         return false;
     }
-    if session.held_count != 0 {
+    if kept.held_count != 0 {
         return false;
     }
-    session.tally.steps <= cost(words) * (consumed + 1)
+    kept.tally.steps <= cost(words) * (consumed + 1)
 }
 
 // A session as a call finds it is sound.
-pub fn is_sound_session(words: &[u16], session: Session) -> bool
-    requires { ⌜ T (sound (now words)) ⌝ }
-    ensures { λ r. ⌜ r ≡ soundSession (now (words .entry)) (sessionOf session) ⌝ }
+pub fn is_sound_session(words: &[u16], kept: Kept, uses: &[u64; 33]) -> bool
+    requires { ⌜ T (sound (now words)) × (length (now uses) ≡ 33) ⌝ }
+    ensures { λ r. ⌜ r ≡ soundSession (now (words .entry)) (sessionOf (together kept (now (uses .entry)))) ⌝ }
 {
-    let count = session.held_count as u64;
+    let count = kept.held_count as u64;
     if !counts_sound(
         expansion(words) as u64,
         count,
-        session.received,
-        session.tally.produced,
+        kept.received,
+        kept.tally.produced,
     ) {
         return false;
     }
-    if !others_clear(&session.held, count as usize) {
+    if !others_clear(&kept.held, count as usize) {
         return false;
     }
-    let consumed = session.received - count;
-    let status = session.status;
+    let consumed = kept.received - count;
+    if !uses_sound(words, uses, consumed) {
+        return false;
+    }
+    let status = kept.status;
     match status {
-        Status::Open => open_sound(words, session, consumed),
-        Status::Closed => ended_sound(words, session, consumed),
-        Status::Stopped => ended_sound(words, session, consumed),
+        Status::Open => open_sound(words, kept, consumed),
+        Status::Closed => ended_sound(words, kept, consumed),
+        Status::Stopped => ended_sound(words, kept, consumed),
     }
 }

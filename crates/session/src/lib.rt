@@ -3,3 +3,4 @@ pub mod call;
 pub mod kept;
 pub mod run;
 pub mod tally;
+pub mod uses;

@@ -1,5 +1,6 @@
 // The rollback machine's run over machine words: the unread characters are those given back and then the piece, seen as one text.
 use crate::kept::Status;
+use crate::uses::count_uses;
 use words::numbers::ClassNo;
 use words::numbers::DEFAULT_RULE;
 use words::numbers::RuleNo;
@@ -8,7 +9,9 @@ use words::read::Accept;
 use words::read::Next;
 use words::read::accept_at;
 use words::read::accept_at_end;
+use words::read::class_count;
 use words::read::class_of;
+use words::read::class_start;
 use words::read::entry_value;
 use words::read::group_outputs;
 use words::read::has_default;
@@ -17,21 +20,18 @@ use words::read::target;
 use words::read::write_rule;
 ghost use mathlib.Core.List.{_++_};
 ghost use mathlib.Core.Path.{_≡_};
-ghost use Prim.Native.Nat.{_+_, _*_, _-_, _≤_, _<_};
+ghost use Prim.Native.Nat.{_+_, _-_, _≤_, _<_};
 ghost use lib.Dec.{T};
 ghost use lib.ListN.{length, getD, take, drop};
 ghost use Rattle.meaning.specs.Block.{at, blockOutput};
-ghost use Rattle.meaning.specs.Meaning.{textOf};
 ghost use Rattle.meaning.specs.Direct.{over};
 ghost use Rattle.automaton.specs.Layout.{wordCount, classesFrom};
-ghost use Rattle.automaton.specs.Sound.{classCount, blockAt, expansionWord, sound};
-ghost use Rattle.automaton.specs.Automaton.{fromWords};
-ghost use Rattle.reckoning.specs.Machine.{start, run};
-ghost use Rattle.reckoning.specs.Session.{path, isAt};
+ghost use Rattle.automaton.specs.Sound.{classCount, blockAt, sound};
 ghost use Rattle.session.specs.Keeping.{meantStatus};
 ghost use Rattle.automaton.specs.Classes.{classOf};
 ghost use Rattle.words.specs.bridge.Readings.{wordOf};
-ghost use Rattle.session.specs.bridge.Running.{firstOf, Classed, SomewherePlaced, ReadsOn, Passes, Moves, Emit, Back, Between, Halted, Waits, Stands, acceptNow, Fits, Placed, EndsAs, Advances, Beyond};
+ghost use Rattle.session.specs.bridge.Counting.{Counted};
+ghost use Rattle.session.specs.bridge.Running.{firstOf, Classed, SomewherePlaced, ReadsOn, lent, PassesByDefaults, Moves, Emit, Back, Between, Halted, Waits, Stands, acceptNow, Fits, Placed, Advances, Beyond, Runnable, RunsTo};
 
 // A run: the store is the text from `from` on and below `at`; whether it is done, and how.
 pub struct Ran {
@@ -114,6 +114,21 @@ fn class_in(words: &[u16], classes: &[u16], c: u16) -> ClassNo
         return ClassNo(classes[place]);
     }
     class_of(words, c)
+}
+
+// The class of a character between two words. Most characters of a text lie in the last class, beyond every range, so where the class has to be
+// worked out, that one is tried first.
+fn class_between(words: &[u16], classes: &[u16], c: u16) -> ClassNo
+    requires { ⌜ T (sound (now words)) × Classed (now words) (now classes) ⌝ }
+    ensures { λ r. ⌜ r .0 ≡ classOf (take (classCount (now (words .entry))) (drop classesFrom (now (words .entry)))) c ⌝ }
+{
+    if c as usize >= classes.len() {
+        let last = ClassNo((class_count(words) - 1) as u16);
+        if class_start(words, last) <= c {
+            return last;
+        }
+    }
+    class_in(words, classes, c)
 }
 
 // How far the machine read on, and whether it is stuck there before a character that has no target.
@@ -199,8 +214,7 @@ fn write_defaults<'a>(
 ) -> Ran
     requires { ⌜ T (sound (now words)) × Classed (now words) (now classes) × (at (now words) 5 ≡ 1) ⌝ }
     requires { ⌜ Placed (now words) (now given ++ now piece) (length (now output)) run × (run .from ≡ run .at) ⌝ }
-    ensures { λ r. ⌜ Passes (now (words .entry)) (now (given .entry) ++ now (piece .entry)) (length (now (output .entry)))
-        run (now (output .entry)) r (now (output .exit)) ⌝ }
+    ensures { λ r. ⌜ PassesByDefaults (now (words .entry)) (now (given .entry) ++ now (piece .entry)) run (now (output .entry)) r (now (output .exit)) ⌝ }
     ensures { λ r. ⌜ Beyond run (now (output .entry)) r (now (output .exit)) ⌝ }
 {
     let part = unread(given, piece, run.at);
@@ -209,7 +223,7 @@ fn write_defaults<'a>(
     let mut count = run.count;
     let mut read: usize = 0;
     while read < part.len() {
-        let class = class_in(words, classes, part[read]);
+        let class = class_between(words, classes, part[read]);
         let Next::Nowhere = target(words, StateNo(0), class) else {
             return between(from + read, count, steps + 3 * read as u64);
         };
@@ -271,16 +285,18 @@ fn emit_rule<'a>(
     piece: &'a [u16],
     rule: RuleNo,
     run: Ran,
+    uses: &mut [u64; 33],
     output: &mut [u16],
 ) -> Ran
-    requires { ⌜ T (sound (now words)) × Placed (now words) (now given ++ now piece) (length (now output)) run ⌝ }
+    requires { ⌜ T (sound (now words)) × Placed (now words) (now given ++ now piece) (length (now output)) run × Counted (now uses) (run .from) ⌝ }
     requires { ⌜ Fits (now words) (run .state .0) (Emit rule) ⌝ }
     ensures { λ r. ⌜ Moves (now (words .entry)) (now (given .entry) ++ now (piece .entry)) (length (now (output .entry)))
-        run (now (output .entry)) (Emit rule) r (now (output .exit)) ⌝ }
+        run (lent (now (output .entry)) (now (uses .entry))) (Emit rule) r (lent (now (output .exit)) (now (uses .exit))) ⌝ }
     ensures { λ r. ⌜ Beyond run (now (output .entry)) r (now (output .exit)) ⌝ }
 {
     let to = run.at;
     let written = emit(words, given, piece, rule, run.from, to, output, run.count);
+    count_uses(uses, rule, 1);
     between(to, written, run.steps + 1)
 }
 
@@ -323,12 +339,13 @@ fn roll_back<'a>(
     given: &'a [u16],
     piece: &'a [u16],
     run: Ran,
+    uses: &mut [u64; 33],
     output: &mut [u16],
 ) -> Ran
-    requires { ⌜ T (sound (now words)) × Placed (now words) (now given ++ now piece) (length (now output)) run ⌝ }
+    requires { ⌜ T (sound (now words)) × Placed (now words) (now given ++ now piece) (length (now output)) run × Counted (now uses) (run .from) ⌝ }
     requires { ⌜ run .from < length (now given ++ now piece) ⌝ }
     ensures { λ r. ⌜ Moves (now (words .entry)) (now (given .entry) ++ now (piece .entry)) (length (now (output .entry)))
-        run (now (output .entry)) Back r (now (output .exit)) ⌝ }
+        run (lent (now (output .entry)) (now (uses .entry))) Back r (lent (now (output .exit)) (now (uses .exit))) ⌝ }
     ensures { λ r. ⌜ Beyond run (now (output .entry)) r (now (output .exit)) ⌝ }
 {
     if !has_default(words) {
@@ -336,6 +353,7 @@ fn roll_back<'a>(
     }
     let part = unread(given, piece, run.from);
     let written = write_default(words, part, 0, output, run.count);
+    count_uses(uses, DEFAULT_RULE, 1);
     between(run.from + 1, written, run.steps + 3)
 }
 
@@ -347,22 +365,23 @@ fn fall_back<'a>(
     stuck: bool,
     ended: bool,
     run: Ran,
+    uses: &mut [u64; 33],
     output: &mut [u16],
 ) -> Ran
-    requires { ⌜ T (sound (now words)) × Placed (now words) (now given ++ now piece) (length (now output)) run ⌝ }
+    requires { ⌜ T (sound (now words)) × Placed (now words) (now given ++ now piece) (length (now output)) run × Counted (now uses) (run .from) ⌝ }
     requires { ⌜ Stands (now words) (now given ++ now piece) stuck (run .state .0) (run .at) × (acceptNow (now words) (run .state .0) stuck ended ≡ 0) ⌝ }
     ensures { λ r. ⌜ Advances (now (words .entry)) (now (given .entry) ++ now (piece .entry)) ended (length (now (output .entry)))
-        run (now (output .entry)) (r .done) r (now (output .exit)) ⌝ }
+        run (lent (now (output .entry)) (now (uses .entry))) (r .done) r (lent (now (output .exit)) (now (uses .exit))) ⌝ }
     ensures { λ r. ⌜ Beyond run (now (output .entry)) r (now (output .exit)) ⌝ }
 {
     if stuck {
-        return roll_back(words, given, piece, run, output);
+        return roll_back(words, given, piece, run, uses, output);
     }
     if !ended {
         return waiting(run);
     }
     if run.from < run.at {
-        return roll_back(words, given, piece, run, output);
+        return roll_back(words, given, piece, run, uses, output);
     }
     halted(Status::Closed, run, 1)
 }
@@ -375,12 +394,13 @@ fn turn<'a>(
     piece: &'a [u16],
     ended: bool,
     run: Ran,
+    uses: &mut [u64; 33],
     output: &mut [u16],
 ) -> Ran
     requires { ⌜ T (sound (now words)) × Classed (now words) (now classes) ⌝ }
-    requires { ⌜ Placed (now words) (now given ++ now piece) (length (now output)) run ⌝ }
+    requires { ⌜ Placed (now words) (now given ++ now piece) (length (now output)) run × Counted (now uses) (run .from) ⌝ }
     ensures { λ r. ⌜ Advances (now (words .entry)) (now (given .entry) ++ now (piece .entry)) ended (length (now (output .entry)))
-        run (now (output .entry)) (r .done) r (now (output .exit)) ⌝ }
+        run (lent (now (output .entry)) (now (uses .entry))) (r .done) r (lent (now (output .exit)) (now (uses .exit))) ⌝ }
     ensures { λ r. ⌜ Beyond run (now (output .entry)) r (now (output .exit)) ⌝ }
 {
     let ahead = read_on(words, classes, given, piece, run);
@@ -398,9 +418,9 @@ fn turn<'a>(
         return read;
     }
     let Accept::Rule(rule) = accept_now(words, state, ahead.stuck, ended) else {
-        return fall_back(words, given, piece, ahead.stuck, ended, read, output);
+        return fall_back(words, given, piece, ahead.stuck, ended, read, uses, output);
     };
-    emit_rule(words, given, piece, rule, read, output)
+    emit_rule(words, given, piece, rule, read, uses, output)
 }
 
 // Where the run is between two words and there is a default, characters that begin no word are written first; then comes a turn.
@@ -411,45 +431,40 @@ fn advance<'a>(
     piece: &'a [u16],
     ended: bool,
     run: Ran,
+    uses: &mut [u64; 33],
     output: &mut [u16],
 ) -> Ran
     requires { ⌜ T (sound (now words)) × Classed (now words) (now classes) ⌝ }
-    requires { ⌜ Placed (now words) (now given ++ now piece) (length (now output)) run ⌝ }
+    requires { ⌜ Placed (now words) (now given ++ now piece) (length (now output)) run × Counted (now uses) (run .from) ⌝ }
     ensures { λ r. ⌜ Advances (now (words .entry)) (now (given .entry) ++ now (piece .entry)) ended (length (now (output .entry)))
-        run (now (output .entry)) (r .done) r (now (output .exit)) ⌝ }
+        run (lent (now (output .entry)) (now (uses .entry))) (r .done) r (lent (now (output .exit)) (now (uses .exit))) ⌝ }
     ensures { λ r. ⌜ Beyond run (now (output .entry)) r (now (output .exit)) ⌝ }
 {
     if run.from == run.at && has_default(words) {
         let next = write_defaults(words, classes, given, piece, run, output);
-        return turn(words, classes, given, piece, ended, next, output);
+        count_uses(uses, DEFAULT_RULE, (next.from - run.from) as u64);
+        return turn(words, classes, given, piece, ended, next, uses, output);
     }
-    turn(words, classes, given, piece, ended, run, output)
+    turn(words, classes, given, piece, ended, run, uses, output)
 }
 
-// The machine's run from a store of the given characters and the state that they lead to, over the piece, until it waits, closes or stops.
-// Of a long piece the classes of the first 256 characters are worked out beforehand.
-pub fn run_words<'a>(
+// The machine's run from a store of the given characters and the state that they lead to, over the piece, until it waits, closes or stops, with
+// these classes of the first characters.
+fn run_from<'a>(
     words: &[u16],
+    classes: &[u16],
     given: &'a [u16],
     piece: &'a [u16],
     state: StateNo,
     ended: bool,
+    uses: &mut [u64; 33],
     output: &mut [u16],
 ) -> Ran
-    requires { ⌜ T (sound (now words)) × T (isAt (state .0) (path (fromWords (now words)) 0 (now given))) ⌝ }
-    requires { ⌜ (length (now given) ≤ 8) × (length (now given) + length (now piece) ≤ 1099511627784) ⌝ }
-    requires { ⌜ expansionWord (now words) * (length (now given) + length (now piece)) ≤ length (now output) ⌝ }
-    ensures { λ r. ⌜ EndsAs (now (words .entry)) (now (given .entry) ++ now (piece .entry))
-        (run (fromWords (now (words .entry))) ended (start (now (given .entry)) (now (piece .entry)) (state .0))) r (now (output .exit)) ⌝ }
-    ensures { λ _. ⌜ now (output .exit)
-        ≡ over
-        (textOf (fromWords (now (words .entry)) .write)
-        (run (fromWords (now (words .entry))) ended (start (now (given .entry)) (now (piece .entry)) (state .0)) .final .log))
-        (now (output .entry)) ⌝ }
+    requires { ⌜ Classed (now words) (now classes) ⌝ }
+    requires { ⌜ Runnable (now words) (now given) (now piece) (state .0) (lent (now output) (now uses)) ⌝ }
+    ensures { λ r. ⌜ RunsTo (now (words .entry)) (now (given .entry)) (now (piece .entry)) (state .0) ended
+        (lent (now (output .entry)) (now (uses .entry))) r (lent (now (output .exit)) (now (uses .exit))) ⌝ }
 {
-    let mut table = [0u16; 256];
-    let known = known_classes(piece.len());
-    fill_classes(words, &mut table[..known]);
     let mut ran = Ran {
         done: false, // a run begins
         status: Status::Open,
@@ -460,17 +475,29 @@ pub fn run_words<'a>(
         steps: 0,
     };
     while !ran.done {
-        ran = advance(words, &table[..known], given, piece, ended, ran, output);
+        ran = advance(words, classes, given, piece, ended, ran, uses, output);
     }
     ran
 }
 
-// Of how many characters the classes are worked out before a run over a piece of that length.
-fn known_classes(length: usize) -> usize
-    ensures { λ r. ⌜ r ≤ 256 ⌝ }
+// The same run. Of a long piece the classes of the first 256 characters are worked out beforehand.
+pub fn run_words<'a>(
+    words: &[u16],
+    given: &'a [u16],
+    piece: &'a [u16],
+    state: StateNo,
+    ended: bool,
+    uses: &mut [u64; 33],
+    output: &mut [u16],
+) -> Ran
+    requires { ⌜ Runnable (now words) (now given) (now piece) (state .0) (lent (now output) (now uses)) ⌝ }
+    ensures { λ r. ⌜ RunsTo (now (words .entry)) (now (given .entry)) (now (piece .entry)) (state .0) ended
+        (lent (now (output .entry)) (now (uses .entry))) r (lent (now (output .exit)) (now (uses .exit))) ⌝ }
 {
-    if length < 4096 {
-        return 0;
+    if piece.len() < 4096 {
+        return run_from(words, &words[..0], given, piece, state, ended, uses, output);
     }
-    256
+    let mut table = [0u16; 256];
+    fill_classes(words, &mut table);
+    run_from(words, &table, given, piece, state, ended, uses, output)
 }

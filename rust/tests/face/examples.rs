@@ -102,6 +102,36 @@ fn digits_beside_sums() {
     closed(&mixed(), "%\u{9f}~%9", "9\u{7f}E%9", 4 + 2 + 3 + 3 + 1);
 }
 
+/// However an input is cut, so many uses of the rules from 0 on are counted, none
+/// of any other number, and so many of the default.
+fn used(table: &[u8], input: &str, rules: &[u64], default: u64) {
+    let (machine, input) = (Machine::compile(table).expect("compiles"), units(input));
+    for pieces in splits(&input) {
+        let (_, session) = run(&machine, pieces.iter().copied()).expect("accepted");
+        for rule in (0..40).chain([usize::MAX]) {
+            let expected = rules.get(rule).copied().unwrap_or(0);
+            assert_eq!(session.uses(rule), expected, "rule {rule}, {pieces:?}");
+        }
+        assert_eq!(session.default_uses(), default, "{pieces:?}");
+    }
+}
+
+/// Worked out by hand from what each rule takes.
+#[test]
+fn uses_of_rules_and_of_the_default() {
+    used(&t1(), "&&#00;&#38;&#", &[1, 1, 1], 1);
+    used(&t1(), "", &[], 0);
+    used(&t1(), "&#", &[0, 0, 1], 0);
+    used(&t1(), "&#4", &[], 3);
+    used(&t1(), "A&#38;&#65;&#00;B", &[1, 2], 2);
+    used(&t2(), "a", &[1], 0);
+    used(&t2(), "aaa", &[1, 2], 0);
+    used(&t2(), "aab", &[0, 2], 0);
+    used(&t3(), "aba", &[1], 1);
+    used(&two_digits(), "o\u{100}k", &[1], 0);
+    used(&mixed(), "%\u{9f}~%9", &[1], 2);
+}
+
 #[test]
 fn t1_has_28_records_10_classes_and_9_states() {
     assert_eq!(t1().len(), 28 * 8);

@@ -186,12 +186,26 @@ fn sessions_by_12_to_15() {
     refused(with(|session| session.status = 1), &[], 9, Refusal::Ended);
     refused(with(|session| session.status = 2), &[], 9, Refusal::Ended);
     refused(
-        with(|session| session.received = 1 << 40),
+        with(|session| (session.received, session.uses[raw::DEFAULT]) = (1 << 40, 1 << 40)),
         &[97],
         9,
         Refusal::TooLong,
     );
     refused(fresh, &[97, 97], 9, Refusal::ShortOutput);
+}
+
+/// T1 has three rules and a default. One use more of any of the 33 counts, or one
+/// character more that no rule took, is refused.
+#[test]
+fn uses_that_do_not_add_up_by_12() {
+    let mut session = Session::fresh();
+    session.received = 1;
+    refused(session, &[], 9, Refusal::UnsoundSession);
+    for place in 0..raw::USES {
+        let mut session = Session::fresh();
+        session.uses[place] = 1;
+        refused(session, &[], 9, Refusal::UnsoundSession);
+    }
 }
 
 #[test]

@@ -11,10 +11,10 @@ use lib.ListN.{length, getD, take, drop, set, length-append, length-drop, take-a
 use lib.Seq.{getD-take, getD-drop, take-add, length-take-le, ext-getD}
 use Rattle.lists.specs.Lists.{flatMap, upTo, pad}
 use Rattle.lists.proofs.Laws.Parts.{length-pad, getD-pad, getD-rows}
+use Rattle.lists.proofs.Laws.Sets.{length-tab}
 use Rattle.meaning.specs.Table.{Table}
 use Rattle.meaning.specs.Block.{at}
 use Rattle.meaning.specs.bridge.Flat.{tableAt, groupAt}
-use Rattle.meaning.proofs.Laws.Choosing.{length-tab}
 use Rattle.automaton.specs.Classes.{starts}
 use Rattle.automaton.specs.States.{State, initial, states, targetOf}
 use Rattle.automaton.specs.Layout.{stateWords, targetWords, blocksFrom, classesFrom, statesFrom, statesSize, targetsFrom, targetsSize, wordCount}

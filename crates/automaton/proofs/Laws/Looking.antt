@@ -14,8 +14,8 @@ use lib.Dec.{eqb}
 use lib.ListN.{length}
 use Rattle.lists.specs.Lists.{findFrom, tabFrom, orElse}
 use Rattle.lists.proofs.Laws.Tests.{either}
+use Rattle.lists.proofs.Laws.Sets.{length-tab, tab-next, tab-end, tab-start}
 use Rattle.meaning.specs.Block.{at}
-use Rattle.meaning.proofs.Laws.Choosing.{length-tab, tab-next, tab-end, tab-start}
 use Rattle.automaton.specs.States.{State, sameState}
 use Rattle.automaton.specs.Sound.{depthWord}
 use Rattle.automaton.specs.bridge.Build.{stateOf, numberIn, statesAt}

@@ -9,9 +9,9 @@ use native.Mathlib.Omega.{arith}
 use lib.ListN.{length, getD, set, length-append, length-set, List·getD-append}
 use lib.Seq.{getD-set-same, getD-set-other, take-set-le, drop-set-lt, getD-append-seam}
 use Rattle.lists.specs.Lists.{flatMap}
+use Rattle.lists.proofs.Laws.Sets.{tab-is}
 use Rattle.meaning.specs.Table.{Table}
 use Rattle.meaning.specs.Block.{at}
-use Rattle.meaning.proofs.Laws.Choosing.{tab-is}
 use Rattle.automaton.specs.Classes.{starts}
 use Rattle.automaton.specs.States.{State, initial, states, acceptOf, acceptAtEndOf}
 use Rattle.automaton.specs.Layout.{targetWords, blocksFrom, classesFrom, statesFrom, targetsFrom, targetsSize, wordCount}

@@ -15,11 +15,11 @@ use Rattle.lists.specs.Lists.{Each, filter, sameList, tabFrom, isEmpty}
 use Rattle.lists.proofs.Laws.Tests.{eq→eqb, test-eq, and-true, of-cond}
 use Rattle.lists.proofs.Laws.Each.{each-weaken}
 use Rattle.lists.proofs.Laws.Members.{same-list, list-same}
-use Rattle.lists.proofs.Laws.Sets.{filter-same}
+use Rattle.lists.proofs.Laws.Sets.{filter-same, getD-tab}
 use Rattle.meaning.specs.Table.{ruleAt, inRanges}
 use Rattle.meaning.specs.Block.{at, blockSize}
 use Rattle.meaning.specs.bridge.Flat.{tableAt, groupAt, patternAt, rangesAt}
-use Rattle.meaning.proofs.Laws.Choosing.{getD-tab, rule-at}
+use Rattle.meaning.proofs.Laws.Choosing.{rule-at}
 use Rattle.automaton.specs.States.{sameState, inhabited, firstNumber, longerRules, acceptOf, acceptAtEndOf}
 use Rattle.automaton.specs.bridge.Build.{membersFrom, stateOf}
 

@@ -123,7 +123,7 @@ module _ (w : List ℕ) where
 -- a block writes as many characters as it says
 pub length-blockOutput : (b w : List ℕ) → length (blockOutput b w) ≡ at b 2
 unfolding blockOutput
-length-blockOutput b w = length-tab 0 (at b 2) _
+length-blockOutput b w = length-tab _ 0 (at b 2)
 
 module _ (w : List ℕ) (sure : T (sound w)) where
   pub sound-header : SoundHeader w
@@ -190,6 +190,10 @@ module _ (w : List ℕ) (sure : T (sound w)) where
         | no h ↦ f (targetWord w q k) (sound-state q b .target k (sound-class x) h)
       ]
 
+  -- a target lies one deeper
+  pub sound-deeper : (q x : ℕ) → q < stateCount w → fromWords w .target q x ≢ 0 → depthWord w (fromWords w .target q x) ≡ suc (depthWord w q)
+  sound-deeper q x b = target-cases (λ k. k ≢ 0 → depthWord w k ≡ suc (depthWord w q)) q x b (λ no0. absurd (no0 refl)) (λ k f _. f .deeper)
+
   pub sound-good : Good (fromWords w) (longestWord w) (stateCount w)
   unfolding fromWords
   sound-good =
@@ -203,7 +207,7 @@ module _ (w : List ℕ) (sure : T (sound w)) where
         accept-0 = none-at-0 (depthWord w 0) (acceptWord w 0) (zeroth .first refl) (zeroth .accept);
         end-0 = none-at-0 (depthWord w 0) (acceptAtEndWord w 0) (zeroth .first refl) (zeroth .end);
         inside = λ q x b. target-cases (λ k. k < n) q x b (h .some-state) (λ k f. f .below);
-        deeper = λ q x b. target-cases (λ k. k ≢ 0 → depthWord w k ≡ suc (depthWord w q)) q x b (λ no0. absurd (no0 refl)) (λ k f _. f .deeper);
+        deeper = sound-deeper;
         shallow = λ q b. sound-state q b .shallow;
         no-way-on = λ q x b a. target-cases (λ k. k ≡ 0) q x b refl (λ k f. absurd (a (f .no-accept)));
       }

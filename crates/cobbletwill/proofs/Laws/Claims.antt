@@ -39,7 +39,7 @@ number-same (suc zero) l = refl
 number-same (suc (suc zero)) l = refl
 number-same (suc (suc (suc n))) l = absurd (omega arith)
 
-sessions-same : (s : Session) → sessionFrom (numbersOf s) ≡ s
+sessions-same : (s : Session) → sessionFrom (numbersOf s) (s .uses) ≡ s
 sessions-same s =
     λ i. record {
       status = status-same (s .status) i;
@@ -49,10 +49,11 @@ sessions-same s =
       received = s .received;
       produced = s .produced;
       steps = s .steps;
+      uses = s .uses;
     }
 
-pub numbers-same : (n : SessionNumbers) → n .status ≤ 2 → numbersOf (sessionFrom n) ≡ n
-numbers-same n l =
+pub numbers-same : (n : SessionNumbers) (uses : List ℕ) → n .status ≤ 2 → numbersOf (sessionFrom n uses) ≡ n
+numbers-same n uses l =
     λ i. record {
       received = n .received;
       tally = n .tally;
@@ -95,38 +96,43 @@ beyond-written : (buffer : List ℕ) (found : ℕ) (o : CallOutcome) (s : Sessio
 beyond-written buffer found o s h (refused k) e = ap (drop found) (h .unchanged k e .1)
 beyond-written buffer found o s h (accepted a) e = h .beyond a e
 
-module _ (w : List ℕ) (n : SessionNumbers) (buffer : List ℕ) (found : ℕ) where
-  handed : (o : CallOutcome) → n .status ≤ 2 → CallAnswers (sessionFrom n) buffer o → (a : Outcome Answer) → o .answer ≡ a → FaceAnswers n buffer found (faceOf o found)
+module _ (w : List ℕ) (n : SessionNumbers) (uses buffer : List ℕ) (found : ℕ) where
+  abbrev session : Session
+  session = sessionFrom n uses
+
+  handed : (o : CallOutcome) → n .status ≤ 2 → CallAnswers session buffer o → (a : Outcome Answer) → o .answer ≡ a → FaceAnswers n uses buffer found (faceOf o found)
   handed o small h (refused k) e =
       let same = h .unchanged k e in
       record {
         numbered = rw e (refusal-numbered k (rw e at (h .numbered)));
-        unchanged = λ low high i. left (answerCode (o .answer)) ((ap numbersOf (same .0) ∙ numbers-same n small) i) (same .1 i) (writtenAfter (e i) found);
-        beyond = beyond-written buffer found o (sessionFrom n) h (o .answer) refl;
+        unchanged =
+            λ low high i.
+            left (answerCode (o .answer)) ((ap numbersOf (same .0) ∙ numbers-same n uses small) i) (same .0 i .uses) (same .1 i) (writtenAfter (e i) found);
+        beyond = beyond-written buffer found o session h (o .answer) refl;
         whole = h .whole;
       }
   handed o small h (accepted a) e =
       record {
         numbered = rw e (status-numbered (a .status));
         unchanged = λ low high. absurd (not-refused (a .status) (rw e at low) (rw e at high));
-        beyond = beyond-written buffer found o (sessionFrom n) h (o .answer) refl;
+        beyond = beyond-written buffer found o session h (o .answer) refl;
         whole = h .whole;
       }
 
   face-answers : (call : Session → CallOutcome) → ((s : Session) → CallAnswers s buffer (call s)) → (above : Bool) → ltb 2 (n .status) ≡ above
-      → FaceAnswers n buffer found (calledBy call w n buffer found)
+      → FaceAnswers n uses buffer found (calledBy call w n uses buffer found)
   face-answers call h true e = rw e (record { numbered = no-session-numbered (sound w); unchanged = λ low high. refl; beyond = refl; whole = refl })
-  face-answers call h false e = rw e (handed (call (sessionFrom n)) (ltb-false 2 (n .status) e) (h (sessionFrom n)) _ refl)
+  face-answers call h false e = rw e (handed (call session) (ltb-false 2 (n .status) e) (h session) _ refl)
 
 -- DEMAND 1, for feed and finish through the C face
 
 pub feeds-answer : FeedsAnswer
 unfolding FeedsAnswer CallsAnswer feed
-feeds-answer w n piece buffer found = face-answers w n buffer found (λ s. Call.feed w s piece buffer) (λ s. calls-answer w s (ofFeed piece buffer)) _ refl
+feeds-answer w n uses piece buffer found = face-answers w n uses buffer found (λ s. Call.feed w s piece buffer) (λ s. calls-answer w s (ofFeed piece buffer)) _ refl
 
 pub finishes-answer : FinishesAnswer
 unfolding FinishesAnswer CallsAnswer finish
-finishes-answer w n buffer found = face-answers w n buffer found (λ s. Call.finish w s buffer) (λ s. calls-answer w s (ofFinish buffer)) _ refl
+finishes-answer w n uses buffer found = face-answers w n uses buffer found (λ s. Call.finish w s buffer) (λ s. calls-answer w s (ofFinish buffer)) _ refl
 
 -- A FINISH NEVER ANSWERS OPEN
 
@@ -150,13 +156,13 @@ finish-ends w s buffer (accepted u) h =
     let tells = call-tells w (h .sound-words) s [] true (h .sound-session) (h .passed .0) in
     ended-code (resumed (fromWords w) s [] true .status) (subst NotOpen (sym (tells .status)) (trace-ended (fromWords w) 0 (store s ++ [])))
 
-face-ends : (w : List ℕ) (n : SessionNumbers) (buffer : List ℕ) (found : ℕ) (above : Bool) → ltb 2 (n .status) ≡ above →
-    calledBy (λ s. Call.finish w s buffer) w n buffer found .answer ≢ 65
+face-ends : (w : List ℕ) (n : SessionNumbers) (uses buffer : List ℕ) (found : ℕ) (above : Bool) → ltb 2 (n .status) ≡ above →
+    calledBy (λ s. Call.finish w s buffer) w n uses buffer found .answer ≢ 65
 unfolding Call.finish
-face-ends w n buffer found true e = rw e (no-session-code (sound w))
-face-ends w n buffer found false e =
-    rw e (finish-ends w (sessionFrom n) buffer (admits w (sessionFrom n) 0 (length buffer)) (admission w (sessionFrom n) 0 (length buffer)))
+face-ends w n uses buffer found true e = rw e (no-session-code (sound w))
+face-ends w n uses buffer found false e =
+    let s = sessionFrom n uses in rw e (finish-ends w s buffer (admits w s 0 (length buffer)) (admission w s 0 (length buffer)))
 
 pub finishes-end : FinishesEnd
 unfolding FinishesEnd finish
-finishes-end w n buffer found = face-ends w n buffer found _ refl
+finishes-end w n uses buffer found = face-ends w n uses buffer found _ refl

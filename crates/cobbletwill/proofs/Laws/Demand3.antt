@@ -1,10 +1,11 @@
--- Demand 3 of the C face: what a caller sees in numbers of calls that keep their contracts is what the outcome functions serve.
--- Answers and sessions come back whole from their numbers, so one call after the other is served as it was seen.
+-- Demand 3 of the C face: what a caller sees in numbers of calls that keep their contracts is what the outcome functions serve; and request [2].
+-- Answers and sessions come back whole from their numbers, so one call after the other is served as it was seen, and keeps what an outcome keeps.
 use mathlib.Core.List.{List, [], _∷_, _++_}
-use mathlib.Core.Path.{_≡_, refl, sym, ap, _∙_}
+use mathlib.Core.Path.{_≡_, refl, sym, ap, subst, _∙_}
 use Prim.Native.Nat.{ℕ, _≤_}
 use native.Mathlib.Omega.{arith}
 use lib.Dec.{T, eqb, eqb→eq}
+use lib.ListN.{length}
 use borrow.Author.Tests.{le-ltb}
 use Rattle.lists.specs.Lists.{any, Each}
 use Rattle.lists.specs.Decide.{select}
@@ -12,15 +13,16 @@ use Rattle.lists.proofs.Laws.Tests.{or-cases}
 use Rattle.meaning.specs.Refusal.{Outcome, refused, accepted, RefusedBy}
 use Rattle.meaning.specs.Table.{Characters}
 use Rattle.reckoning.specs.Machine.{Status, Open, Closed, Stopped}
-use Rattle.reckoning.specs.Session.{Session}
+use Rattle.reckoning.specs.Session.{Session, soundSession}
 use Rattle.reckoning.specs.Calls.{Answer, CallOutcome}
 use Rattle.reckoning.specs.Reckoning.{Call, ofFeed, ofFinish, piece, Served, unserved, called, outputBy, serveCall, serve}
-use Rattle.reckoning.specs.Claims.{CallsAnswer, OutcomesAgree}
-use Rattle.reckoning.proofs.Laws.Answers.{calls-answer}
+use Rattle.reckoning.specs.Claims.{CallsAnswer, OutcomesAgree, SoundAddsUp}
+use Rattle.reckoning.proofs.Laws.Answers.{call-stays, calls-answer, sound-adds-up}
 use Rattle.reckoning.proofs.Laws.Demand3.{outcomes-agree}
 use Rattle.cobbletwill.specs.Sessions.{statusNumber, statusCode, sessionFrom, answerCode, writtenAfter, CalledFace, faceOf, feed, finish}
-use Rattle.cobbletwill.specs.Claims.{zeros}
+use Rattle.cobbletwill.specs.Claims.{zeros, unused}
 use Rattle.cobbletwill.specs.Demand3.{Made, MeetsContract, InTurn, callsOf, answerFrom, seenCall, seen, unseen, Demand3}
+use Rattle.cobbletwill.specs.Uses.{leftBy, UsesAddUp}
 use Rattle.cobbletwill.specs.declared.sessions.SessionNumbers.{SessionNumbers}
 use Rattle.cobbletwill.proofs.Laws.Claims.{faithful}
 
@@ -51,10 +53,11 @@ status-small Closed = omega arith
 status-small Stopped = omega arith
 
 -- one call of numbers that are a session's: what came back is the face of its outcome
-kept-face : (w : List ℕ) (n : SessionNumbers) (c : Call) (m : Made) → n .status ≤ 2 → MeetsContract w n c m → m .back ≡ faceOf (called w (sessionFrom n) c) (m .found)
+kept-face : (w : List ℕ) (n : SessionNumbers) (uses : List ℕ) (c : Call) (m : Made) → n .status ≤ 2 → MeetsContract w n uses c m →
+    m .back ≡ faceOf (called w (sessionFrom n uses) c) (m .found)
 unfolding feed finish
-kept-face w n (ofFeed p buffer) m small k = rw (le-ltb 2 (n .status) small) at k
-kept-face w n (ofFinish buffer) m small k = rw (le-ltb 2 (n .status) small) at k
+kept-face w n uses (ofFeed p buffer) m small k = rw (le-ltb 2 (n .status) small) at k
+kept-face w n uses (ofFinish buffer) m small k = rw (le-ltb 2 (n .status) small) at k
 
 -- what an outcome's face shows
 face-served : (v : Served) (w : List ℕ) (s : Session) (c : Call) (found : ℕ) (o : CallOutcome) → o ≡ called w s c →
@@ -69,12 +72,13 @@ face-served v w s c found o e =
       session = faithful .sessions (o .session) i;
     }
 
-seen-served : (w : List ℕ) (n : SessionNumbers) (v : Served) (m : Made) → n .status ≤ 2 → v .session ≡ sessionFrom n → MeetsContract w n (m .call) m →
-    seenCall v m ≡ serveCall w v (m .call)
-seen-served w n v m small e k =
+seen-served : (w : List ℕ) (n : SessionNumbers) (uses : List ℕ) (v : Served) (m : Made) → n .status ≤ 2 → v .session ≡ sessionFrom n uses →
+    MeetsContract w n uses (m .call) m → seenCall v m ≡ serveCall w v (m .call)
+seen-served w n uses v m small e k =
     let c = m .call in
-    ap (λ (b : CalledFace). seenCall v (record { call = c; found = m .found; back = b })) (kept-face w n c m small k)
-    ∙ face-served v w (sessionFrom n) c (m .found) (called w (sessionFrom n) c) refl
+    let s = sessionFrom n uses in
+    ap (λ (b : CalledFace). seenCall v (record { call = c; found = m .found; back = b })) (kept-face w n uses c m small k)
+    ∙ face-served v w s c (m .found) (called w s c) refl
     ∙ ap
     (λ (o : CallOutcome). record {
       answers = v .answers ++ (o .answer ∷ []);
@@ -84,16 +88,18 @@ seen-served w n v m small e k =
     (ap (λ x. called w x c) (sym e))
 
 -- a call leaves the numbers of a session
-later-small : (w : List ℕ) (n : SessionNumbers) (m : Made) → n .status ≤ 2 → MeetsContract w n (m .call) m → m .back .session .status ≤ 2
-later-small w n m small k = rw (kept-face w n (m .call) m small k) (status-small (called w (sessionFrom n) (m .call) .session .status))
+later-small : (w : List ℕ) (n : SessionNumbers) (uses : List ℕ) (m : Made) → n .status ≤ 2 → MeetsContract w n uses (m .call) m →
+    m .back .session .status ≤ 2
+later-small w n uses m small k =
+    rw (kept-face w n uses (m .call) m small k) (status-small (called w (sessionFrom n uses) (m .call) .session .status))
 
-all-served : (w : List ℕ) (ms : List Made) (n : SessionNumbers) (v : Served) → n .status ≤ 2 → v .session ≡ sessionFrom n → InTurn w n ms →
-    seen ms v ≡ serve w (callsOf ms) v
+all-served : (w : List ℕ) (ms : List Made) (n : SessionNumbers) (uses : List ℕ) (v : Served) → n .status ≤ 2 → v .session ≡ sessionFrom n uses →
+    InTurn w n uses ms → seen ms v ≡ serve w (callsOf ms) v
 unfolding InTurn callsOf seen serve
-all-served w [] n v small e k = refl
-all-served w (m ∷ ms) n v small e k =
-    all-served w ms (m .back .session) (seenCall v m) (later-small w n m small (k .0)) refl (k .1)
-    ∙ ap (serve w (callsOf ms)) (seen-served w n v m small e (k .0))
+all-served w [] n uses v small e k = refl
+all-served w (m ∷ ms) n uses v small e k =
+    all-served w ms (m .back .session) (m .back .uses) (seenCall v m) (later-small w n uses m small (k .0)) refl (k .1)
+    ∙ ap (serve w (callsOf ms)) (seen-served w n uses v m small e (k .0))
 
 each-call : (ms : List Made) → Each (λ m. Characters (piece (m .call))) ms → Each (λ c. Characters (piece c)) (callsOf ms)
 unfolding callsOf
@@ -106,5 +112,17 @@ unfolding Demand3 OutcomesAgree
 demand-3 table buffer words t keeps room is-compiled ms chars made =
     let cs = callsOf ms in
     let first : unseen ≡ unserved = ap (λ x. record { answers = []; output = []; session = x }) (faithful .zeros) in
-    let same : seen ms unseen ≡ serve words cs unserved = all-served words ms zeros unseen (omega arith) refl made ∙ ap (serve words cs) first in
+    let same : seen ms unseen ≡ serve words cs unserved = all-served words ms zeros unused unseen (omega arith) refl made ∙ ap (serve words cs) first in
     rw (same, is-compiled) (outcomes-agree table buffer t keeps room cs (each-call ms chars))
+
+-- REQUEST [2], of the C face
+pub uses-add-up : UsesAddUp
+unfolding UsesAddUp SoundAddsUp InTurn leftBy
+uses-add-up w n uses W small sure eight [] made = (sure, sound-adds-up w (sessionFrom n uses) W sure)
+uses-add-up w n uses W small sure eight (m ∷ ms) made =
+    let s = sessionFrom n uses in
+    let o = called w s (m .call) in
+    let same : sessionFrom (m .back .session) (m .back .uses) ≡ o .session =
+    ap (λ (b : CalledFace). sessionFrom (b .session) (b .uses)) (kept-face w n uses (m .call) m small (made .0)) ∙ faithful .sessions (o .session) in
+    let k = subst (λ x. T (soundSession w x) × (length (x .held) ≡ 8)) (sym same) (call-stays w s (m .call) sure eight) in
+    uses-add-up w (m .back .session) (m .back .uses) W (later-small w n uses m small (made .0)) (k .0) (k .1) ms (made .1)

@@ -1,6 +1,6 @@
 -- What the two by-value calls over numbers come to, as defined: a refusal of numbers that are no session's, or what the session's call comes to.
 -- By the test of the status, and then field by field.
-use mathlib.Core.List.{List}
+use mathlib.Core.List.{List, []}
 use mathlib.Core.Path.{_≡_, sym, ap, _∙_}
 use Prim.Native.Nat.{ℕ, _≤_, _<_}
 use borrow.Author.Tests.{lt-ltb, le-ltb}
@@ -8,31 +8,31 @@ use Rattle.automaton.specs.Sound.{sound}
 use Rattle.reckoning.specs.Session.{Session}
 use Rattle.reckoning.specs.Calls.{CallOutcome}
 use Rattle.cobbletwill.specs.Sessions.{sessionFrom, numbersOf, answerCode, writtenAfter, left, faceOf, noSession, calledBy}
-use Rattle.cobbletwill.specs.bridge.Lent.{Unchanged}
+use Rattle.cobbletwill.specs.bridge.Lent.{Keeps, Unchanged}
 use Rattle.cobbletwill.specs.declared.sessions.SessionNumbers.{SessionNumbers}
 use Rattle.cobbletwill.specs.declared.sessions.CalledNumbers.{CalledNumbers}
-use Rattle.session.specs.Keeping.{sessionOf}
-use Rattle.session.specs.Contracts.{Told}
-use Rattle.session.specs.declared.kept.Session as Code
-use Rattle.session.specs.declared.call.Called.{Called}
+use Rattle.session.specs.Keeping.{together, sessionOf}
+use Rattle.session.specs.Contracts.{Said}
+use Rattle.session.specs.declared.kept.Kept.{Kept}
+use Rattle.session.specs.declared.call.Went.{Went}
 use Rattle.cobbletwill.proofs.Laws.Claims.{numbers-same}
 
 -- numbers with a status above 2 are refused, and nothing is changed
-pub refused-numbers : (call : Session → CallOutcome) (w : List ℕ) (n : SessionNumbers) (buffer : List ℕ) (found answer : ℕ)
-    → 2 < n .status → answer ≡ noSession (sound w) → left answer n buffer found ≡ calledBy call w n buffer found
-refused-numbers call w n buffer found answer above e = rw (lt-ltb 2 (n .status) above) (ap (λ a. left a n buffer found) e)
+pub refused-numbers : (call : Session → CallOutcome) (w : List ℕ) (n : SessionNumbers) (uses buffer : List ℕ) (found answer : ℕ)
+    → 2 < n .status → answer ≡ noSession (sound w) → left answer n uses buffer found ≡ calledBy call w n uses buffer found
+refused-numbers call w n uses buffer found answer above e = rw (lt-ltb 2 (n .status) above) (ap (λ a. left a n uses buffer found) e)
 
 -- of other numbers, what a call of their session came to is handed over
-pub handed-over : (call : Session → CallOutcome) (w : List ℕ) (n : SessionNumbers) (buffer : List ℕ) (found answer count : ℕ) (session : SessionNumbers)
-    (s : Session) (o : CallOutcome) → n .status ≤ 2 → s ≡ sessionFrom n → o ≡ call s
+pub handed-over : (call : Session → CallOutcome) (w : List ℕ) (n : SessionNumbers) (uses buffer : List ℕ) (found answer count : ℕ) (session : SessionNumbers)
+    (s : Session) (o : CallOutcome) → n .status ≤ 2 → s ≡ sessionFrom n uses → o ≡ call s
     → answer ≡ answerCode (o .answer) → session ≡ numbersOf (o .session) → count ≡ writtenAfter (o .answer) found
-    → left answer session (o .output) count ≡ calledBy call w n buffer found
-handed-over call w n buffer found answer count session s o small meant came answered kept counted =
+    → left answer session (o .session .uses) (o .output) count ≡ calledBy call w n uses buffer found
+handed-over call w n uses buffer found answer count session s o small meant came answered kept counted =
     rw (le-ltb 2 (n .status) small)
-    ((λ i. left (answered i) (kept i) (o .output) (counted i)) ∙ ap (λ o. faceOf o found) (came ∙ ap call meant))
+    ((λ i. left (answered i) (kept i) (o .session .uses) (o .output) (counted i)) ∙ ap (λ o. faceOf o found) (came ∙ ap call meant))
 
 -- where that call was not accepted, the numbers are as found
-pub unchanged : (n : SessionNumbers) (s : Code.Session) (r : Called) (over : CalledNumbers) → n .status ≤ 2 → sessionOf s ≡ sessionFrom n →
-    Told r s → over .accepted ≡ r .accepted → over .session ≡ numbersOf (sessionOf (r .session)) → Unchanged over n
-unchanged n s r over small meant kept accepted session e =
-    session ∙ ap (λ x. numbersOf (sessionOf x)) (kept .unchanged (sym accepted ∙ e)) ∙ ap numbersOf meant ∙ numbers-same n small
+pub unchanged : (n : SessionNumbers) (found : Kept) (before after : List ℕ) (r : Went) (over : CalledNumbers) → n .status ≤ 2 → Keeps n found →
+    Said r found before after → over .accepted ≡ r .accepted → over .session ≡ numbersOf (sessionOf (together (r .kept) [])) → Unchanged over n
+unchanged n found before after r over small meant kept accepted session e =
+    session ∙ ap (λ x. numbersOf (sessionOf (together x []))) (kept .unchanged (sym accepted ∙ e) .0) ∙ ap numbersOf (meant []) ∙ numbers-same n [] small

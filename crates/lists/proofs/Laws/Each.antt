@@ -35,6 +35,10 @@ each-getD P [] k d a h = absurd (omega arith)
 each-getD P (x ∷ xs) zero d a h = a .0
 each-getD P (x ∷ xs) (suc k) d a h = each-getD P xs k d (a .1) (omega arith)
 
+pub each-places : {A : Type 0} (P : A → Type 0) (xs : List A) (d : A) → ((k : ℕ) → k < length xs → P (getD xs k d)) → Each P xs
+each-places P [] d h = tt
+each-places P (x ∷ xs) d h = (h 0 (omega arith), each-places P xs d (λ k l. h (suc k) (omega arith)))
+
 -- what holds of the default too holds at every place
 pub each-anywhere : {A : Type 0} (P : A → Type 0) (xs : List A) (k : ℕ) (d : A) → Each P xs → P d → P (getD xs k d)
 each-anywhere P [] k d a h = h

@@ -12,6 +12,7 @@ use lib.ListN.{length, getD, take, List·getD-map, length-map}
 use Rattle.lists.specs.Lists.{Each, flatMap, tabFrom, pad, isSome, orElse, optional}
 use Rattle.lists.proofs.Laws.Each.{each-front, each-back, each-getD}
 use Rattle.lists.proofs.Laws.Parts.{length-pad, getD-pad, getD-rows}
+use Rattle.lists.proofs.Laws.Sets.{tab-is}
 use Rattle.meaning.specs.Table.{Range, Group, Table, everyCharacter, ruleAt, group, defaultNumber}
 use Rattle.meaning.specs.Block.{at, bit, block, blockSize}
 use Rattle.meaning.specs.Meaning.{fits, better, best, orDefault, choose, chosen, convertBy, convertFrom, convert}
@@ -19,7 +20,6 @@ use Rattle.meaning.specs.bridge.Flat.{rows, slotWords, rangeWords, block
 use Rattle.meaning.proofs.Laws.Shape.{ShapedGroup, ShapedDefault, Shaped}
 use Rattle.meaning.proofs.Laws.Exact.{block-size, block-anchored}
 use Rattle.meaning.proofs.Laws.Narrow.{NarrowGroup, Narrow}
-use Rattle.meaning.proofs.Laws.Choosing.{tab-is}
 use Rattle.meaning.proofs.Laws.Rows.{rows-at, rowsOf, rowsOf-rule, rowsOf-default}
 use Rattle.meaning.proofs.Laws.Loaded.{loaded-block, loaded-slot, loaded-range}
 

@@ -3,53 +3,24 @@
 use mathlib.Core.Bool.{Bool, true, false, _&&_, _||_, not, cond}
 use mathlib.Core.List.{List, [], _∷_}
 use mathlib.Core.Option.{Option, none, some}
-use mathlib.Core.Path.{_≡_, refl, sym, ap, subst, _∙_}
-use Prim.Native.Nat.{ℕ, zero, suc, _+_, _-_, _*_, _≤_, _<_}
+use mathlib.Core.Path.{_≡_, refl, sym, ap, _∙_}
+use Prim.Native.Nat.{ℕ, suc, _+_, _-_, _*_, _≤_, _<_}
 use native.Mathlib.Nat.{add-zero, zero-add}
 use native.Mathlib.Numerals.{add-one}
 use native.Mathlib.Omega.{arith}
 use borrow.Author.Tests.{eqb-true, lt-ltb, le-ltb, eq-eqb, ne-eqb}
 use lib.Dec.{T, eqb, ltb}
-use lib.ListN.{length, getD, take, drop, length-take, length-drop}
-use lib.Seq.{drop-cons, ext-getD}
+use lib.ListN.{length, take, drop, length-take, length-drop}
+use lib.Seq.{drop-cons}
 use Rattle.lists.specs.Lists.{tabFrom}
 use Rattle.lists.proofs.Laws.Tests.{and-true}
+use Rattle.lists.proofs.Laws.Sets.{getD-tab, length-tab, tab-next, tab-end, tab-start}
 use Rattle.meaning.specs.Table.{Range, Group, Table, within, inRanges, everyCharacter, ruleAt, defaultNumber}
 use Rattle.meaning.specs.Block.{at, blockSize}
 use Rattle.meaning.specs.Value.{fitsWord}
 use Rattle.meaning.specs.Meaning.{fits, better, best, orDefault, choose}
 use Rattle.meaning.specs.bridge.Flat.{slotsFrom, rangeAt, rangesAt, patternAt, groupAt, tableAt}
 use Rattle.meaning.proofs.Laws.Prefix.{fitsWord-length}
-
--- lists made by number
-module _ {A : Type 0} (f : ℕ → A) where
-  pub getD-tab : (i n r : ℕ) (d : A) → r < n → getD (tabFrom i n f) r d ≡ f (i + r)
-  getD-tab i zero r d h = absurd (omega arith)
-  getD-tab i (suc n) zero d h = ap f (sym (add-zero i))
-  getD-tab i (suc n) (suc r) d h =
-      let e : suc i + r ≡ i + suc r = omega arith in getD-tab (suc i) n r d (omega arith) ∙ ap f e
-
-  pub length-tab : (i n : ℕ) → length (tabFrom i n f) ≡ n
-  length-tab i zero = refl
-  length-tab i (suc n) = ap suc (length-tab (suc i) n)
-
-  pub tab-is : (n : ℕ) (xs : List A) (d : A) → length xs ≡ n → ((k : ℕ) → k < n → f k ≡ getD xs k d) → tabFrom 0 n f ≡ xs
-  tab-is n xs d e h =
-      ext-getD d (tabFrom 0 n f) xs (length-tab 0 n ∙ sym e)
-      (λ k i. let j : k < n = subst (λ m. k < m) (length-tab 0 n) i in getD-tab 0 n k d j ∙ ap f (zero-add k) ∙ h k j)
-
-  -- what is left of the first n elements, from number k on
-
-  pub tab-next : (n k : ℕ) → k < n → tabFrom k (n - k) f ≡ f k ∷ tabFrom (k + 1) (n - (k + 1)) f
-  tab-next n k h =
-      let e : n - k ≡ suc (n - (k + 1)) = omega arith in
-      ap (λ m. tabFrom k m f) e ∙ ap (λ j. f k ∷ tabFrom j (n - (k + 1)) f) (sym (add-one k))
-
-  pub tab-end : (n k : ℕ) → n ≤ k → tabFrom k (n - k) f ≡ []
-  tab-end n k h = let e : n - k ≡ 0 = omega arith in ap (λ m. tabFrom k m f) e
-
-  pub tab-start : (n : ℕ) → tabFrom 0 n f ≡ tabFrom 0 (n - 0) f
-  tab-start n = let e : n ≡ n - 0 = omega arith in ap (λ m. tabFrom 0 m f) e
 
 -- the n characters from place a on
 pub take-next : (u : List ℕ) (a n m : ℕ) → a < length u → n ≡ suc m → take n (drop a u) ≡ at u a ∷ take m (drop (a + 1) u)

@@ -15,6 +15,7 @@ use lib.ListN.{length, getD, take, drop, set, length-append, length-take, length
 use lib.Seq.{length-take-le, take-all, take-append-seam, drop-append-add, drop-cons, getD-drop, drop-drop, paste, paste-suc}
 use Rattle.lists.specs.Lists.{tabFrom, orElse}
 use Rattle.lists.proofs.Laws.Tests.{of-cond}
+use Rattle.lists.proofs.Laws.Sets.{getD-tab, length-tab}
 use Rattle.meaning.specs.Table.{Table, everyCharacter, ruleAt, defaultNumber, group}
 use Rattle.meaning.specs.Value.{nibble, hexDigit}
 use Rattle.meaning.specs.Block.{at, wordSum, valueBy, entryValue, blockOutput, blockSize, entrySize}
@@ -25,7 +26,7 @@ use Rattle.meaning.specs.Direct.{Converted, over}
 use Rattle.meaning.proofs.Laws.Sums.{sum-from}
 use Rattle.meaning.proofs.Laws.Prefix.{fitsWord-length}
 use Rattle.meaning.proofs.Laws.Direct.{over-whole}
-use Rattle.meaning.proofs.Laws.Choosing.{getD-tab, length-tab, rule-at}
+use Rattle.meaning.proofs.Laws.Choosing.{rule-at}
 use Rattle.meaning.proofs.Laws.Choice.{Fits, Chosen, best-chosen}
 
 -- the product of two numbers of 16 bits has 32

@@ -1,14 +1,14 @@
--- Demand 1 for feed and finish, of any words and session: the numbers of refusals, what stays as found, and that accepted calls keep soundness.
+-- Demand 1 for feed and finish, of any words and session: refusals, what stays as found, and kept soundness, of which request [2]'s sum is a part.
 -- The tests of an accepted call give sound words and a sound open session, whose run writes at most E for each character that it covers.
 use mathlib.Core.Bool.{not}
 use mathlib.Core.List.{List, [], _∷_, _++_}
-use mathlib.Core.Path.{_≡_, refl, sym, ap}
+use mathlib.Core.Path.{_≡_, refl, sym, ap, _∙_}
 use Prim.Native.Nat.{ℕ, _+_, _*_, _≤_}
 use native.Mathlib.Nat.{mul-le-mul-left}
 use native.Mathlib.Omega.{arith}
-use lib.Dec.{T, ltb, nltb→le}
+use lib.Dec.{T, not-T, ltb, nltb→le}
 use lib.ListN.{length, drop, length-append, length-take}
-use Rattle.lists.proofs.Laws.Tests.{not-not, Cases, by-cases}
+use Rattle.lists.proofs.Laws.Tests.{of-T, not-not, Cases, by-cases, select-here, select-next}
 use Rattle.lists.proofs.Laws.Parts.{length-pad}
 use Rattle.meaning.specs.Refusal.{Outcome, refused, accepted, RefusedBy}
 use Rattle.meaning.specs.Meaning.{textOf, covered}
@@ -21,11 +21,11 @@ use Rattle.automaton.proofs.Laws.Words.{sound-good, sound-short}
 use Rattle.reckoning.specs.Machine.{Status, Open, Closed, Stopped}
 use Rattle.reckoning.specs.Session.{Session, store, isOpen, soundSession}
 use Rattle.reckoning.specs.Calls.{Answer, CallOutcome, admits, resumed, callBy, feed, finish}
-use Rattle.reckoning.specs.Reckoning.{Call, ofFeed, ofFinish, piece, bufferOf, room, ends, called}
-use Rattle.reckoning.specs.Claims.{CallAnswers, CallsAnswer, CallsKeep}
+use Rattle.reckoning.specs.Reckoning.{Call, ofFeed, ofFinish, piece, bufferOf, room, ends, called, serveCall, serve}
+use Rattle.reckoning.specs.Claims.{CallAnswers, CallsAnswer, CallsKeep, SoundAddsUp, CallsAddUp, RefusesOthers}
 use Rattle.reckoning.proofs.Laws.Trace.{trace, logOf, statusOf}
 use Rattle.reckoning.proofs.Laws.Rounds.{bounded, counted-most}
-use Rattle.reckoning.proofs.Laws.Kept.{trace-few, call-tells, kept-sound}
+use Rattle.reckoning.proofs.Laws.Kept.{trace-few, sound-facts, call-tells, kept-sound}
 
 pub called-by : (w : List ℕ) (s : Session) (c : Call) →
     called w s c ≡ callBy (admits w s (length (piece c)) (room c)) (fromWords w) s (piece c) (ends c) (bufferOf c)
@@ -125,6 +125,16 @@ module _ (w : List ℕ) (s : Session) (c : Call) where
     length-pad 8 (resumed (fromWords w) s (piece c) (ends c) .final .store),
   )
 
+  stays-by : (o : Outcome (Unit {0})) → Tested o → T (soundSession w s) → length (s .held) ≡ 8 →
+      T (soundSession w (outcome o .session)) × (length (outcome o .session .held) ≡ 8)
+  stays-by (refused k) h t eight = (t, eight)
+  stays-by (accepted x) h t eight = keeps-by (accepted x) _ h eight refl
+
+  -- a call, accepted or refused, leaves a sound session of eight places sound, and of eight places
+  pub call-stays : T (soundSession w s) → length (s .held) ≡ 8 → T (soundSession w (called w s c .session)) × (length (called w s c .session .held) ≡ 8)
+  call-stays t eight =
+      let n = length (piece c) in rw (called-by w s c) (stays-by (admits w s n (room c)) (admission w s n (room c)) t eight)
+
   call-answers : CallAnswers s (bufferOf c) (called w s c)
   call-answers =
       let o = admits w s (length (piece c)) (room c) in
@@ -142,3 +152,26 @@ unfolding CallsKeep
 calls-keep w s c a eight e =
     let n = length (piece c) in
     rw (called-by w s c) (keeps-by w s c (admits w s n (room c)) a (admission w s n (room c)) eight (rw (called-by w s c) at e))
+
+-- REQUEST [2], of a sound session
+pub sound-adds-up : SoundAddsUp
+unfolding SoundAddsUp
+sound-adds-up w s W t =
+    let f = sound-facts w s t .uses in
+    record { sum = f .sum; lacking = f .lacking; undefaulted = λ z. f .undefaulted (omega arith) }
+
+-- and of what any list of calls leaves of one
+pub calls-add-up : CallsAddUp
+unfolding CallsAddUp SoundAddsUp serve
+calls-add-up w [] v W t eight = sound-adds-up w (v .session) W t
+calls-add-up w (c ∷ cs) v W t eight =
+    let k = call-stays w (v .session) c t eight in calls-add-up w cs (serveCall w v c) W (k .0) (k .1)
+
+-- and a session that does not add up is refused by 12
+pub refuses-others : RefusesOthers
+unfolding RefusesOthers SoundAddsUp admits
+refuses-others w s c W n =
+    let unsound : T (not (soundSession w s)) = not-T (soundSession w s) (λ t. n (sound-adds-up w s W t)) in
+    ap (λ (o : CallOutcome). o .answer) (called-by w s c)
+    ∙ ap (λ o. callBy o (fromWords w) s (piece c) (ends c) (bufferOf c) .answer)
+    (select-next _ _ _ (ap not (of-T (sound w) W)) ∙ select-here _ _ _ (of-T (not (soundSession w s)) unsound))

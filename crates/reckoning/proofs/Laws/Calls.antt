@@ -25,6 +25,7 @@ use Rattle.automaton.specs.Automaton.{Automaton, fromTable, fromWords}
 use Rattle.automaton.proofs.Laws.Good.{after, Good, Reads, Alike, Writes}
 use Rattle.automaton.proofs.Laws.Words.{sound-good, sound-longest}
 use Rattle.reckoning.specs.Machine.{Status, Open, Closed, Stopped, Ended, start}
+use Rattle.reckoning.specs.Uses.{usesOf, usesAfter}
 use Rattle.reckoning.specs.Session.{Session, fresh, consumed, isOpen, soundSession}
 use Rattle.reckoning.specs.Calls.{Answer, CallOutcome, admits, receivedBy, resumed, later, callBy}
 use Rattle.reckoning.specs.Reckoning.{Call, piece, bufferOf, room, ends, Served, unserved, outputBy, serveCall, serve, Input, noInput, ran, ranText, reckoned, answerBy, inputBy, reckonCall, reckon}
@@ -32,6 +33,7 @@ use Rattle.reckoning.proofs.Laws.Trace.{Trace, trace, cost, logOf, held
 use Rattle.reckoning.proofs.Laws.Rounds.{Joined, trace-graft, graft-open, not-open, rests-open, trace-rests, Counted, bounded, trace-ended}
 use Rattle.reckoning.proofs.Laws.Run.{Tells, run-tells}
 use Rattle.reckoning.proofs.Laws.Swap.{trace-alike, trace-emits, text-same}
+use Rattle.reckoning.proofs.Laws.Uses.{uses-append}
 use Rattle.reckoning.proofs.Laws.Kept.{fresh-sound, kept-sound, sound-facts}
 use Rattle.reckoning.proofs.Laws.Answers.{called-by, Passed, pass-cases}
 
@@ -48,10 +50,11 @@ told B t m =
       received = receivedBy (statusOf t) m (covered (logOf t));
       produced = length (textOf (B .write) (logOf t));
       steps = cost t;
+      uses = usesOf (logOf t);
     }
 
 fresh-told : (B : Automaton) → fresh ≡ told B (trace B false 0 []) 0
-unfolding fresh trace statusOf stateOf heldOf logOf cost textOf covered
+unfolding fresh trace statusOf stateOf heldOf logOf cost textOf covered pad
 fresh-told B = refl
 
 -- One accepted call.
@@ -101,6 +104,8 @@ module _ (B : Automaton) (L n : ℕ) (H : Good B L n) (small : L ≤ 8) (e : Boo
       let sp : cost before + ended-as .final .steps ≡ cost after-call = let a = tells .steps in let j = joined .costs in omega arith in
       let pr : length (textOf (B .write) (logOf before)) + length (textOf (B .write) (ended-as .final .log)) ≡ length (textOf (B .write) (logOf after-call)) =
       sym (length-append (textOf (B .write) (logOf before)) (textOf (B .write) (ended-as .final .log))) ∙ ap length text-later in
+      let us : usesAfter (usesOf (logOf before)) (ended-as .final .log) ≡ usesOf (logOf after-call) =
+      ap (usesAfter (usesOf (logOf before))) (tells .log) ∙ uses-append (logOf before) (logOf rest) ∙ ap usesOf (sym (joined .log)) in
       λ i. record {
         status = st i;
         state = (tells .state ∙ sym (joined .state)) i;
@@ -109,6 +114,7 @@ module _ (B : Automaton) (L n : ℕ) (H : Good B L n) (small : L ≤ 8) (e : Boo
         received = receivedBy (st i) (rc i) (co i);
         produced = pr i;
         steps = sp i;
+        uses = us i;
       }
 
 -- the refusals 13 to 15 are the same, reckoned with what was received or with the input's length

@@ -26,6 +26,7 @@ use Rattle.automaton.proofs.Laws.Sound.{compiled-sound}
 use Rattle.automaton.proofs.Laws.Compile.{compile-accepts}
 use Rattle.automaton.specs.Automaton.{Automaton, fromTable, fromWords}
 use Rattle.reckoning.specs.Machine.{Status, Open, Closed, Stopped}
+use Rattle.reckoning.specs.Uses.{usesOf}
 use Rattle.reckoning.specs.Session.{Session, consumed}
 use Rattle.reckoning.specs.Calls.{Answer, receivedBy}
 use Rattle.reckoning.specs.Reckoning.{Call, piece, ends, Served, unserved, serve, acceptedPieces, Input, noInput, ran, ranText, reckoned, answerBy, inputBy, reckonCall, reckon}
@@ -154,6 +155,7 @@ module _ (t : Table) (w : List ℕ) (K : Compiled t w) where
         consumes = con ∙ ap covered (sym (tells .log));
         received =
             ap (λ (z : Session). z .received) s ∙ (λ j. receivedBy (sym (tells .status) j) (length u) (covered (sym (tells .log) j)));
+        uses = ap (λ (z : Session). z .uses) s ∙ ap usesOf (sym (tells .log));
         bound = rw s (b .whole);
         text = λ h. out ∙ ap (textOf (A .write)) (tells .log ∙ log-is h) ∙ text-is (convert t u .log);
         closed = λ h. closed-iff (v .session .status) (convert t u .closed) (end-is h);

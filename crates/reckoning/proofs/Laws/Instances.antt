@@ -25,6 +25,7 @@ use Rattle.automaton.specs.Compile.{compile}
 use Rattle.automaton.specs.Claims.{KeepsCompiling}
 use Rattle.automaton.proofs.Laws.Opened.{machine-opened}
 use Rattle.reckoning.specs.Machine.{Ended, fallBack, step, steps, run}
+use Rattle.reckoning.specs.Uses.{usesOf}
 use Rattle.reckoning.specs.Session.{Session, consumed}
 use Rattle.reckoning.specs.Calls.{receivedBy}
 use Rattle.reckoning.specs.Reckoning.{piece, Served, unserved, serve, noInput, ran, ranText, reckoned, reckon}
@@ -47,6 +48,7 @@ leftBy t r n =
       received = receivedBy (r .status) n (covered (r .final .log));
       produced = length (ranText t r);
       steps = r .final .steps;
+      uses = usesOf (r .final .log);
     }
 
 module _ (x : Case) (t : Table) where
@@ -101,6 +103,7 @@ module _ (x : Case) (t : Table) where
           received = a .received j;
           produced = a .produced j;
           steps = a .steps j;
+          uses = a .uses j;
         } in
         λ j. record { answers = a .answers j; output = (a .output ∙ c .writes) j; session = (session ∙ c .leaves) j }
 

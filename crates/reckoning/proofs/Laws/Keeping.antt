@@ -19,6 +19,7 @@ use Rattle.meaning.specs.Direct.{limit}
 use Rattle.automaton.specs.Sound.{stateCount, longestWord, expansionWord, used, sound}
 use Rattle.automaton.specs.Automaton.{Automaton, fromWords}
 use Rattle.automaton.proofs.Laws.Words.{sound-header, sound-good}
+use Rattle.reckoning.specs.Uses.{soundUses}
 use Rattle.reckoning.specs.Session.{Session, consumed, store, isOpen, settled, pathIf, path, isAt, soundSession}
 
 and-none : (b : Bool) → b && false ≡ false
@@ -105,7 +106,7 @@ unfolding path
 path-inside w sure q c r b e =
     inside (leadsOn (fromWords w) q c) (fromWords w .target q c) r (stateCount w) (sound-good w sure .inside q c b) e
 
--- the test of a session: the counts, the places not in use, and what its status asks
+-- the test of a session: the counts, the places not in use, how often each rule was used, and what its status asks
 module _ (w : List ℕ) (s : Session) where
   abbrev pub countsTest : ℕ → Bool
   countsTest most =
@@ -114,6 +115,9 @@ module _ (w : List ℕ) (s : Session) where
   abbrev pub othersTest : Bool
   othersTest = all (eqb 0) (drop (s .count) (s .held))
 
+  abbrev pub usesTest : Bool
+  usesTest = soundUses w (s .uses) (consumed s)
+
   abbrev pub openTest : Bool
   openTest =
       allOf (isAt (s .state) (path (fromWords w) 0 (store s)) ∷ leb (s .steps) ((longestWord w + 3) * consumed s + s .count) ∷ [])
@@ -121,12 +125,12 @@ module _ (w : List ℕ) (s : Session) where
   abbrev pub endedTest : Bool
   endedTest = allOf (eqb (s .state) 0 ∷ eqb (s .count) 0 ∷ leb (s .steps) ((longestWord w + 3) * (consumed s + 1)) ∷ [])
 
-  pub session-parts : soundSession w s ≡ allOf (countsTest (expansionWord w) ∷ othersTest ∷ cond (isOpen (s .status)) openTest endedTest ∷ [])
+  pub session-parts : soundSession w s ≡ allOf (countsTest (expansionWord w) ∷ othersTest ∷ usesTest ∷ cond (isOpen (s .status)) openTest endedTest ∷ [])
   unfolding soundSession
   session-parts =
       all-front
       (leb (s .received) limit ∷ leb (s .count) (s .received) ∷ leb (s .produced) (expansionWord w * consumed s) ∷ leb (s .count) 8 ∷ [])
-      (othersTest ∷ cond (isOpen (s .status)) openTest endedTest ∷ [])
+      (othersTest ∷ usesTest ∷ cond (isOpen (s .status)) openTest endedTest ∷ [])
 
   pub counts-known : (most : ℕ) → countsTest most ≡ true → (s .received ≤ limit) × (s .count ≤ s .received) × (s .count ≤ 8)
   counts-known most e =

@@ -21,12 +21,14 @@ use Rattle.automaton.specs.Automaton.{Automaton, fromWords}
 use Rattle.automaton.proofs.Laws.Good.{after, Leads, Good, after-inside, Short}
 use Rattle.automaton.proofs.Laws.Words.{sound-good, sound-short, sound-longest}
 use Rattle.reckoning.specs.Machine.{Status, Open, Closed, Stopped, Ended, start}
+use Rattle.reckoning.specs.Uses.{usesAfter, soundUses}
 use Rattle.reckoning.specs.Session.{Session, fresh, consumed, store, isOpen, settled, pathIf, path, isAt, soundSession}
 use Rattle.reckoning.specs.Calls.{receivedBy, resumed, later}
 use Rattle.reckoning.proofs.Laws.Trace.{Round, waits, closes, stops, accepts, defaults, back, onWait, onEnd, walk, Trace, lastOf, handle, trace, cost, logOf, heldOf, stateOf, statusOf}
 use Rattle.reckoning.proofs.Laws.Walk.{settled-both, settled-hit, on-character-elim, go-none, Takes, walk-takes}
 use Rattle.reckoning.proofs.Laws.Rounds.{NotOpen, not-open, trace-rests, rests-open, ended-empty, trace-ended, Counted, spare-of, bounded}
 use Rattle.reckoning.proofs.Laws.Run.{Tells, run-tells, tells-unique}
+use Rattle.reckoning.proofs.Laws.Uses.{UsesFacts, uses-facts, facts-uses, uses-fresh, uses-kept, trace-fits}
 
 -- What is written against what is covered.
 module _ (A : Automaton) (L E n : ℕ) (G : Good A L n) (S : Short A E n) where
@@ -163,6 +165,7 @@ pub record SoundFacts (w : List ℕ) (s : Session) : Type 0 where
   pub few : s .produced ≤ expansionWord w * consumed s
   pub places : s .count ≤ 8
   pub zeros : T (all (eqb 0) (drop (s .count) (s .held)))
+  pub uses : UsesFacts w (s .uses) (consumed s)
   pub stands : Stands w s (s .status)
 
 module _ (w : List ℕ) (s : Session) where
@@ -199,6 +202,7 @@ module _ (w : List ℕ) (s : Session) where
       ∷ leb (s .produced) (expansionWord w * consumed s)
       ∷ leb (s .count) 8
       ∷ all (eqb 0) (drop (s .count) (s .held))
+      ∷ soundUses w (s .uses) (consumed s)
       ∷ cond (isOpen (s .status)) (allOf whenOpen) (allOf whenEnded)
       ∷ []
 
@@ -212,7 +216,8 @@ module _ (w : List ℕ) (s : Session) where
         few = leb→le (s .produced) (expansionWord w * consumed s) (k .1 .1 .0);
         places = leb→le (s .count) 8 (k .1 .1 .1 .0);
         zeros = k .1 .1 .1 .1 .0;
-        stands = of-status (s .status) (k .1 .1 .1 .1 .1 .0);
+        uses = uses-facts w (s .uses) (consumed s) (k .1 .1 .1 .1 .1 .0);
+        stands = of-status (s .status) (k .1 .1 .1 .1 .1 .1 .0);
       }
 
   pub facts-sound : SoundFacts w s → T (soundSession w s)
@@ -222,7 +227,8 @@ module _ (w : List ℕ) (s : Session) where
       let b = le→leb (s .count) (s .received) (k .enough) in
       let c = le→leb (s .produced) (expansionWord w * consumed s) (k .few) in
       let d = le→leb (s .count) 8 (k .places) in
-      to-allOf tests (a, (b, (c, (d, (k .zeros, (to-status (s .status) (k .stands), tt))))))
+      let e = facts-uses w (s .uses) (consumed s) (k .uses) in
+      to-allOf tests (a, (b, (c, (d, (k .zeros, (e, (to-status (s .status) (k .stands), tt)))))))
 
 pub fresh-sound : (w : List ℕ) → T (soundSession w fresh)
 unfolding fresh path
@@ -232,6 +238,7 @@ fresh-sound w = facts-sound w fresh (record {
   few = omega arith;
   places = omega arith;
   zeros = pad-zeros 8 [];
+  uses = uses-fresh w;
   stands = (tt, omega arith);
 })
 
@@ -323,6 +330,9 @@ module _ (w : List ℕ) (W : T (sound w)) (s : Session) (piece : List ℕ) (ende
             (trace-few A (longestWord w) (expansionWord w) n G (sound-short w W) ended 0 (store s ++ piece)));
         places = omega (arith, sound-longest w W, trace-held A (longestWord w) n G ended (store s ++ piece));
         zeros = pad-zeros 8 (heldOf t);
+        uses =
+            subst (UsesFacts w (usesAfter (s .uses) (logOf t))) (sym (add-up .2))
+            (uses-kept w W (s .uses) (consumed s) (logOf t) (f .uses) (trace-fits w W ended 0 (store s ++ piece)));
         stands = left-stands (statusOf t) refl;
       }
 

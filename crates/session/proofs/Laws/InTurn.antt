@@ -1,17 +1,24 @@
--- Demand 3 of the code: what a caller sees of calls that keep their contracts is what the outcome functions serve.
--- Each contract is an equation with its outcome function, so one call after the other is served as it was seen.
+-- Demand 3 of the code: what a caller sees of calls that keep their contracts is what the outcome functions serve. Request [2] of the code: they leave a sound session sound, whose counts of uses add up.
+-- Each contract is an equation with its outcome function, so one call after the other is served as it was seen, and keeps what an outcome keeps.
 use mathlib.Core.List.{List, [], _∷_, _++_}
-use mathlib.Core.Path.{_≡_, refl, sym, ap, _∙_}
+use mathlib.Core.Path.{_≡_, refl, sym, ap, subst, _∙_}
 use Prim.Native.Nat.{ℕ}
+use lib.Dec.{T}
+use lib.ListN.{length}
 use Rattle.lists.specs.Lists.{Each}
+use Rattle.meaning.specs.Refusal.{Outcome, refused, accepted}
 use Rattle.meaning.specs.Table.{Characters}
-use Rattle.reckoning.specs.Calls.{CallOutcome}
+use Rattle.reckoning.specs.Session as Spec
+use Rattle.reckoning.specs.Session.{soundSession}
+use Rattle.reckoning.specs.Calls.{Answer, CallOutcome}
 use Rattle.reckoning.specs.Reckoning.{Call, ofFeed, ofFinish, piece, Served, unserved, called, outputBy, serveCall, serve, noInput, reckon}
-use Rattle.reckoning.specs.Claims.{OutcomesAgree}
+use Rattle.reckoning.specs.Claims.{OutcomesAgree, SoundAddsUp}
 use Rattle.session.specs.Keeping.{sessionOf}
 use Rattle.session.specs.Contracts.{outcomeOf}
 use Rattle.session.specs.Demand3.{Made, MeetsContract, InTurn, callsOf, seenCall, seen, unseen, Demand3}
+use Rattle.session.specs.Uses.{leftBy, UsesAddUp}
 use Rattle.session.specs.declared.kept.Session.{Session}
+use Rattle.reckoning.proofs.Laws.Answers.{call-stays, sound-adds-up}
 use Rattle.reckoning.proofs.Laws.Demand3.{outcomes-agree}
 
 -- one call: what came back is its outcome
@@ -49,3 +56,13 @@ demand-3 table buffer words t keeps room is-compiled s is-fresh ms chars made =
     let i = reckon t cs noInput in
     let same : seen ms (unseen s) ≡ serve words cs unserved = all-served words ms s (unseen s) refl made ∙ ap (serve words cs) first in
     rw (same, is-compiled) (outcomes-agree table buffer t keeps room cs (each-call ms chars))
+
+-- REQUEST [2]
+pub uses-add-up : UsesAddUp
+unfolding UsesAddUp SoundAddsUp InTurn leftBy
+uses-add-up w s W sure eight [] made = (sure, sound-adds-up w (sessionOf s) W sure)
+uses-add-up w s W sure eight (m ∷ ms) made =
+    let same : sessionOf (m .session) ≡ called w (sessionOf s) (m .call) .session =
+    ap (λ (o : CallOutcome). o .session) (kept-outcome w s (m .call) m (made .0)) in
+    let k = subst (λ x. T (soundSession w x) × (length (x .held) ≡ 8)) (sym same) (call-stays w (sessionOf s) (m .call) sure eight) in
+    uses-add-up w (m .session) W (k .0) (k .1) ms (made .1)

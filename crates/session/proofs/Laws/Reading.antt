@@ -10,17 +10,23 @@ use native.Mathlib.Omega.{arith}
 use lib.Dec.{T, eqb, leb, eqb→eq}
 use lib.ListN.{length, getD, set, take, drop, length-append, length-drop, List·getD-append}
 use lib.Seq.{take-all, drop-nil, drop-cons, getD-drop, drop-append-add, getD-set-same, getD-set-other}
+use Rattle.lists.specs.Lists.{pad}
+use Rattle.lists.proofs.Laws.Parts.{length-pad}
 use Rattle.lists.proofs.Laws.Tests.{holds, below, of-cond, of-between}
+use Rattle.meaning.specs.Table.{defaultNumber}
 use Rattle.meaning.specs.Block.{at, blockOutput}
 use Rattle.automaton.specs.Sound.{longestWord, expansionWord, stateCount, depthWord, acceptWord, targetWord, classCount, blockAt, soundState, sound}
 use Rattle.automaton.specs.Classes.{classOf}
 use Rattle.automaton.specs.Automaton.{fromWords}
 use Rattle.words.specs.declared.numbers.StateNo.{StateNo}
 use Rattle.automaton.proofs.Laws.Words.{sound-state, sound-class, sound-good}
-use Rattle.session.specs.bridge.Running.{firstOf, Placed, Advances, Beyond, Passes, Between, ReadsOn, readTo, Read, Back}
+use Rattle.reckoning.specs.Uses.{useCounts}
+use Rattle.session.specs.bridge.Counting.{bumped}
+use Rattle.session.specs.bridge.Running.{firstOf, Placed, Lent, lent, Proceeds, Beyond, Passes, PassesByDefaults, Between, ReadsOn, readTo, Read, Back}
 use Rattle.session.specs.declared.kept.Status.the-variants as Code
 use Rattle.session.specs.declared.run.Ran.{Ran}
 use Rattle.session.specs.declared.run.Ahead.{Ahead}
+use Rattle.session.proofs.Laws.Counting.{bumped-none, bumped-again}
 use Rattle.session.proofs.Laws.Running.{first-at, character-backs, character-reads, decides-character, turn-room, default-words, advances-read, advances-default, beyond-on}
 use Rattle.automaton.specs.Layout.{classesFrom}
 
@@ -79,9 +85,9 @@ module _ (given piece part : List ℕ) (n : ℕ) (e : part ≡ partOf given piec
 
 -- A run that leads on, and then on again.
 
-passes-same : (w u : List ℕ) (room : ℕ) (old new : Ran) (output : List ℕ) → Placed w u room old → new .state .0 ≡ old .state .0 → new .from ≡ old .from →
-    new .at ≡ old .at → new .count ≡ old .count → new .steps ≡ old .steps → Passes w u room old output new output
-passes-same w u room old new output P e₁ e₂ e₃ e₄ e₅ =
+passes-same : (w u : List ℕ) (room : ℕ) (old new : Ran) (has : Lent) → Placed w u room old → new .state .0 ≡ old .state .0 → new .from ≡ old .from →
+    new .at ≡ old .at → new .count ≡ old .count → new .steps ≡ old .steps → Passes w u room old has new has
+passes-same w u room old new has P e₁ e₂ e₃ e₄ e₅ =
     let i₁ = P .order in
     let i₂ = P .inside in
     let i₃ = P .few in
@@ -98,23 +104,25 @@ passes-same w u room old new output P e₁ e₂ e₃ e₄ e₅ =
     } in (
       placed,
       omega arith,
-      λ ended r G. record {
+      λ ended r found G. record {
         log = G .log;
         runs = rw (e₁, e₂, e₃, e₅) (G .runs);
         covers = G .covers ∙ sym e₂;
         count = e₄ ∙ G .count;
-        text = ap (λ k. take k output) e₄ ∙ G .text;
+        text = ap (λ k. take k (has .output)) e₄ ∙ G .text;
+        uses = G .uses;
       },
     )
 
-passes-on : (w u : List ℕ) (room : ℕ) (old mid new : Ran) (before between after : List ℕ) → Passes w u room old before mid between →
-    ((ended : Bool) → Advances w u ended room mid between false new after) → Passes w u room old before new after
+passes-on : (w u : List ℕ) (room : ℕ) (old mid new : Ran) (before between after : Lent) → Passes w u room old before mid between →
+    ((ended : Bool) → Proceeds w u ended room mid between new after) → Passes w u room old before new after
 passes-on w u room old mid new before between after p f =
-    (f false .0, omega (arith, p .1, f false .1), λ ended r G. f ended .2 r (p .2 ended r G))
+    (f false .0, omega (arith, p .1, f false .1), λ ended r found G. f ended .2 r found (p .2 ended r found G))
 
-passes-both : (w u : List ℕ) (room : ℕ) (old mid new : Ran) (before between after : List ℕ) → Passes w u room old before mid between →
+passes-both : (w u : List ℕ) (room : ℕ) (old mid new : Ran) (before between after : Lent) → Passes w u room old before mid between →
     Passes w u room mid between new after → Passes w u room old before new after
-passes-both w u room old mid new before between after p f = (f .0, omega (arith, p .1, f .1), λ ended r G. f .2 ended r (p .2 ended r G))
+passes-both w u room old mid new before between after p f =
+    (f .0, omega (arith, p .1, f .1), λ ended r found G. f .2 ended r found (p .2 ended r found G))
 
 -- How far the machine reads by targets.
 
@@ -125,8 +133,8 @@ ahead q n = record { state = q; at = n; stuck = false }
 abbrev pub Reaches : List ℕ → List ℕ → StateNo → ℕ → StateNo → ℕ → Type 0
 Reaches w u q n p m =
     (p .0 < stateCount w)
-    × ((now : Ran) (output : List ℕ) → now .state .0 ≡ q .0 → now .at ≡ n → Placed w u (length output) now →
-    Passes w u (length output) now output (readTo now (ahead p m)) output)
+    × ((now : Ran) (has : Lent) → now .state .0 ≡ q .0 → now .at ≡ n → Placed w u (length (has .output)) now →
+    Passes w u (length (has .output)) now has (readTo now (ahead p m)) has)
 
 abbrev pub classIn : List ℕ → ℕ → ℕ
 classIn w x = classOf (take (classCount w) (drop classesFrom w)) x
@@ -134,7 +142,7 @@ classIn w x = classOf (take (classCount w) (drop classesFrom w)) x
 module _ (w u : List ℕ) (q : StateNo) (n : ℕ) where
   pub reaches-none : (m : ℕ) → m ≡ n → q .0 < stateCount w → Reaches w u q n q m
   reaches-none m z h =
-      (h, λ now output e a P. passes-same w u (length output) now (readTo now (ahead q m)) output P (sym e) refl (z ∙ sym a) refl (omega arith))
+      (h, λ now has e a P. passes-same w u (length (has .output)) now (readTo now (ahead q m)) has P (sym e) refl (z ∙ sym a) refl (omega arith))
 
   pub reaches-next : T (sound w) → (p : StateNo) (m : ℕ) → Reaches w u q n p m → (t : StateNo) (k : ℕ) → k ≡ m + 1 → n ≤ m → m < length u →
       t .0 ≡ targetWord w (p .0) (classIn w (getD u m 0)) → t .0 ≢ 0 → Reaches w u q n t k
@@ -143,11 +151,11 @@ module _ (w u : List ℕ) (q : StateNo) (n : ℕ) where
       let f = sound-state w W (p .0) (r .0) .target (classIn w x) (sound-class w W x) (λ y. h (e ∙ y)) in
       let c = character-reads w W (p .0) (r .0) x t (sym (f .no-accept)) e h in (
         c .1 .0,
-        λ now output s a P.
+        λ now has s a P.
             let mid = readTo now (ahead p m) in
-            let l = r .1 now output s a P in
-            passes-on w u (length output) now mid (readTo now (ahead t k)) output output output l
-            (λ ended. advances-read w u ended W mid output (l .0) (readTo now (ahead t k)) t
+            let l = r .1 now has s a P in
+            passes-on w u (length (has .output)) now mid (readTo now (ahead t k)) has has has l
+            (λ ended. advances-read w u ended W mid has (l .0) (readTo now (ahead t k)) t
             (decides-character w u ended (p .0) (mid .from) m (Read t) x some refl (c .0)) (c .1) some refl refl z refl (omega arith)),
       )
 
@@ -157,7 +165,7 @@ module _ (w u : List ℕ) (now : Ran) (a : Ahead) (o : now .at ≤ a .at) (r : R
   reads-stuck e h z =
       record {
         onward = o;
-        passes = λ output P. r .1 now output refl refl P;
+        passes = λ has P. r .1 now has refl refl P;
         stuck = λ _. (h, z);
         free = λ f _. absurd (subst T (sym e ∙ f) tt);
       }
@@ -166,7 +174,7 @@ module _ (w u : List ℕ) (now : Ran) (a : Ahead) (o : now .at ≤ a .at) (r : R
   reads-free e h =
       record {
         onward = o;
-        passes = λ output P. r .1 now output refl refl P;
+        passes = λ has P. r .1 now has refl refl P;
         stuck = λ t. absurd (subst T (sym t ∙ e) tt);
         free = λ _. h;
       }
@@ -190,16 +198,32 @@ first-accept w W = sound-good w W .accept-0
 abbrev betweenAt : Ran → ℕ → ℕ → ℕ → Ran
 betweenAt now place written made = record { done = false; status = Code.Open; state = now .state; from = place; at = place; count = written; steps = made }
 
--- a run with an empty store at place n, with a count and steps, writes defaults up to another place
+-- a run with an empty store at place n, with a count and steps, writes defaults up to another place, and uses the default for each character
 abbrev pub Defaulted : List ℕ → List ℕ → ℕ → ℕ → ℕ → List ℕ → ℕ → ℕ → ℕ → List ℕ → Type 0
 Defaulted w u n count made before m written more after =
     (now : Ran) → now .from ≡ n → now .at ≡ n → now .count ≡ count → now .steps ≡ made → Placed w u (length before) now →
-    Passes w u (length before) now before (betweenAt now m written more) after × Beyond now before (betweenAt now m written more) after
+    (n ≤ m)
+    × ((uses : List ℕ) → length uses ≡ useCounts →
+    Passes w u (length before) now (lent before uses) (betweenAt now m written more) (lent after (bumped uses defaultNumber (m - n))))
+    × Beyond now before (betweenAt now m written more) after
+
+-- the run keeps its bounds, whatever the counts of uses
+defaulted-placed : (w u : List ℕ) (room : ℕ) (old new : Ran) (before after : List ℕ) (n : ℕ) →
+    ((uses : List ℕ) → length uses ≡ useCounts → Passes w u room old (lent before uses) new (lent after (bumped uses defaultNumber n))) → Placed w u room new
+defaulted-placed w u room old new before after n f = f (pad useCounts []) (length-pad useCounts []) .0
 
 module _ (w u : List ℕ) (n count made : ℕ) (before : List ℕ) where
   pub defaulted-none : (m more : ℕ) → m ≡ n → more ≡ made → Defaulted w u n count made before m count more before
   defaulted-none m more z y now e₁ e₂ e₃ e₄ P =
-      (passes-same w u (length before) now (betweenAt now m count more) before P refl (z ∙ sym e₁) (z ∙ sym e₂) (sym e₃) (y ∙ sym e₄), (omega arith, refl))
+      let new = betweenAt now m count more in
+      let none : m - n ≡ 0 = omega arith in
+      let same : (uses : List ℕ) → uses ≡ bumped uses defaultNumber (m - n) = λ uses. sym (ap (bumped uses defaultNumber) none ∙ bumped-none uses defaultNumber) in (
+        omega arith,
+        λ uses _.
+            subst (λ l. Passes w u (length before) now (lent before uses) new (lent before l)) (same uses)
+            (passes-same w u (length before) now new (lent before uses) P refl (z ∙ sym e₁) (z ∙ sym e₂) (sym e₃) (y ∙ sym e₄)),
+        (omega arith, refl),
+      )
 
   pub defaulted-next : T (sound w) → at w 5 ≡ 1 → (m written more : ℕ) (between : List ℕ) → length between ≡ length before →
       Defaulted w u n count made before m written more between → m < length u → targetWord w 0 (classIn w (getD u m 0)) ≡ 0 → (m′ written′ more′ : ℕ) (after : List ℕ) →
@@ -213,27 +237,48 @@ module _ (w u : List ℕ) (n count made : ℕ) (before : List ℕ) where
       let new = betweenAt now m′ written′ more′ in
       let l = f now e₁ e₂ e₃ e₄ P in
       let z : q ≡ 0 = first-state w W q (P .state) (P .depth ∙ omega arith) in
-      let placed : Placed w u (length between) old = subst (λ room. Placed w u room old) (sym size) (l .0 .0) in
+      let placed : Placed w u (length between) old =
+      subst (λ room. Placed w u room old) (sym size) (defaulted-placed w u (length before) now old before between (m - n) (l .1)) in
       let back = character-backs w W q (P .state) x (sym (ap (acceptWord w) z ∙ first-accept w W)) (ap (λ s. targetWord w s (classIn w x)) z ∙ none) in
       let default : fromWords w .default ≡ true = default-words w true (sym (ap (λ k. eqb k 1) one)) in
-      let on : (ended : Bool) → Advances w u ended (length between) old between false new after × Beyond old between new after =
-      λ ended. advances-default w u ended W old between placed new (decides-character w u ended q m m Back x some refl back) some after default z p₁ p₁ p₂ p₃ wrote in (
-        passes-on w u (length before) now old new before between after (l .0) (λ ended. subst (λ room. Advances w u ended room old between false new after) size (on ended .0)),
-        (omega (arith, l .1 .0, on false .1 .0), beyond-on old new before between after (l .1 .1) (on false .1)),
+      let next : m′ - n ≡ m - n + 1 = omega (arith, l .0) in
+      let counted : (uses : List ℕ) → length uses ≡ useCounts → bumped uses defaultNumber (m′ - n) ≡ bumped (bumped uses defaultNumber (m - n)) defaultNumber 1 =
+      λ uses e. ap (bumped uses defaultNumber) next ∙ sym (bumped-again uses defaultNumber (m - n) 1 (omega (arith, e))) in
+      let on : (uses : List ℕ) → length uses ≡ useCounts → (ended : Bool) →
+      Proceeds w u ended (length between) old (lent between (bumped uses defaultNumber (m - n))) new (lent after (bumped uses defaultNumber (m′ - n)))
+      × Beyond old between new after =
+      λ uses e ended. advances-default w u ended W old (lent between (bumped uses defaultNumber (m - n))) placed new (decides-character w u ended q m m Back x some refl back) some
+      (lent after (bumped uses defaultNumber (m′ - n))) default z p₁ p₁ p₂ p₃ wrote (counted uses e) in
+      let beyond = on (pad useCounts []) (length-pad useCounts []) false .1 in (
+        omega (arith, l .0),
+        λ uses e.
+            passes-on w u (length before) now old new (lent before uses) (lent between (bumped uses defaultNumber (m - n))) (lent after (bumped uses defaultNumber (m′ - n))) (l .1 uses e)
+            (λ ended. subst (λ room. Proceeds w u ended room old (lent between (bumped uses defaultNumber (m - n))) new (lent after (bumped uses defaultNumber (m′ - n)))) size (on uses e ended .0)),
+        (omega (arith, l .2 .0, beyond .0), beyond-on old new before between after (l .2 .1) beyond),
       )
 
   -- the default has room
   pub defaulted-room : (now : Ran) → now .from ≡ n → now .at ≡ n → now .count ≡ count → now .steps ≡ made → Placed w u (length before) now → (m written more : ℕ) (after : List ℕ) →
       Defaulted w u n count made before m written more after → m < length u → (k : ℕ) → k ≤ expansionWord w → written + k ≤ length before
   defaulted-room now e₁ e₂ e₃ e₄ P m written more after f some k few =
-      turn-room w u (length before) (betweenAt now m written more) (f now e₁ e₂ e₃ e₄ P .0 .0) some k few
+      let new = betweenAt now m written more in
+      turn-room w u (length before) new (defaulted-placed w u (length before) now new before after (m - n) (f now e₁ e₂ e₃ e₄ P .1)) some k few
 
   pub defaulted-end : T (sound w) → (now : Ran) → now .from ≡ n → now .at ≡ n → now .count ≡ count → now .steps ≡ made → Placed w u (length before) now →
       (m written more : ℕ) (after : List ℕ) → Defaulted w u n count made before m written more after → (new : Ran) → Between m written more new →
-      Passes w u (length before) now before new after × Beyond now before new after
+      PassesByDefaults w u now before new after × Beyond now before new after
   defaulted-end W now e₁ e₂ e₃ e₄ P m written more after f new B =
       let old = betweenAt now m written more in
       let l = f now e₁ e₂ e₃ e₄ P in
       let z : now .state .0 ≡ 0 = first-state w W (now .state .0) (P .state) (P .depth ∙ omega arith) in
-      let same = passes-same w u (length before) old new after (l .0 .0) (B .state ∙ sym z) (B .from) (B .at) (B .count) (B .steps) in
-      (passes-both w u (length before) now old new before after after (l .0) same, rw (B .count) (l .1))
+      let here : new .from ≡ m = B .from in
+      let placed = defaulted-placed w u (length before) now old before after (m - n) (l .1) in
+      let same : (uses : List ℕ) → Passes w u (length before) old (lent after uses) new (lent after uses) =
+      λ uses. passes-same w u (length before) old new (lent after uses) placed (B .state ∙ sym z) here (B .at) (B .count) (B .steps) in
+      let passes : (uses : List ℕ) → length uses ≡ useCounts →
+      Passes w u (length before) now (lent before uses) new (lent after (bumped uses defaultNumber (new .from - now .from))) =
+      λ uses e.
+      subst (λ k. Passes w u (length before) now (lent before uses) new (lent after (bumped uses defaultNumber k))) (λ i. sym here i - sym e₁ i)
+      (passes-both w u (length before) now old new (lent before uses) (lent after (bumped uses defaultNumber (m - n))) (lent after (bumped uses defaultNumber (m - n))) (l .1 uses e)
+      (same (bumped uses defaultNumber (m - n)))) in
+      ((omega (arith, l .0), passes), rw (B .count) (l .2))

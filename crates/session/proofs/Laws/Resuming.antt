@@ -1,6 +1,6 @@
--- An admitted call as the code makes it: what its run asks, that the sums of the session's and the run's numbers are small, and what it leaves.
+-- A call as the code makes it: what the run of an admitted one asks, that the sums of its numbers are small, and what it leaves; and that a refused one changes nothing.
 -- The session that the definition leaves is sound, which bounds every sum; field by field the finished run is the definition's.
-use mathlib.Core.Bool.{Bool}
+use mathlib.Core.Bool.{Bool, true, true≢false}
 use mathlib.Core.List.{List, [], _∷_, _++_}
 use mathlib.Core.Path.{_≡_, refl, sym, ap, subst, _∙_}
 use Prim.Native.Nat.{ℕ, zero, suc, _+_, _*_, _-_, _≤_}
@@ -10,24 +10,32 @@ use lib.Dec.{T}
 use lib.ListN.{length, drop, length-append, length-drop}
 use lib.Seq.{length-take-le}
 use Rattle.lists.specs.Lists.{pad}
-use Rattle.meaning.specs.Refusal.{accepted}
+use Rattle.meaning.specs.Refusal.{Outcome, refused, accepted}
 use Rattle.meaning.specs.Meaning.{textOf}
 use Rattle.meaning.specs.Direct.{limit, over}
+use Rattle.meaning.proofs.Laws.Refusal.{accepted-not}
 use Rattle.automaton.specs.Sound.{sound, longestWord, expansionWord}
-use Rattle.automaton.specs.Automaton.{fromWords}
+use Rattle.automaton.specs.Automaton.{Automaton, fromWords}
 use Rattle.automaton.proofs.Laws.Words.{sound-header}
 use Rattle.reckoning.specs.Machine.{Status, Open, Closed, Stopped, Ended}
+use Rattle.reckoning.specs.Uses.{useCounts}
 use Rattle.reckoning.specs.Session.{Session, consumed, store, path, isAt}
-use Rattle.reckoning.specs.Calls.{admits, receivedBy, resumed, later, callBy}
-use Rattle.session.specs.Keeping.{sessionOf}
-use Rattle.session.specs.bridge.Running.{storeOf, EndsAs}
-use Rattle.session.specs.Contracts.{outcomeOf}
-use Rattle.session.specs.bridge.Later.{laterOf, Small}
-use Rattle.session.specs.declared.kept.Session as Code
+use Rattle.reckoning.specs.Calls as Spec
+use Rattle.reckoning.specs.Calls.{CallOutcome, admits, receivedBy, resumed, later, callBy}
+use Rattle.session.specs.Keeping.{together, sessionOf}
+use Rattle.session.specs.bridge.Counting.{Counted}
+use Rattle.session.specs.bridge.Running.{storeOf, Lent, EndsAs}
+use Rattle.session.specs.Contracts.{answerOf, outcomeOf, isAccepted, Said, Told}
+use Rattle.session.specs.bridge.Later.{laterOf, Leaves, Small, refusing, joined}
+use Rattle.session.specs.declared.kept.Kept.{Kept}
 use Rattle.session.specs.declared.run.Ran.{Ran}
-use Rattle.session.specs.declared.call.Answer.the-variants.{Accepted}
+use Rattle.session.specs.declared.call.Answer.{Answer}
+use Rattle.session.specs.declared.call.Answer.the-variants.{Accepted, Refused}
+use Rattle.session.specs.declared.call.Went.{Went}
+use Rattle.reckoning.proofs.Laws.Uses.{facts-uses}
 use Rattle.reckoning.proofs.Laws.Kept.{Stands, SoundFacts, sound-facts, kept-sound}
 use Rattle.reckoning.proofs.Laws.Answers.{Admitted, Admits, admission}
+use Rattle.session.proofs.Laws.Counting.{counted-sound}
 
 pub admitted : (w : List ℕ) (s : Session) (n room : ℕ) → admits w s n room ≡ accepted tt → Admitted w s n room
 admitted w s n room e = subst (Admits w s n room) e (admission w s n room)
@@ -60,7 +68,10 @@ module _ (w : List ℕ) (W : T (sound w)) (s : Session) (f : SoundFacts w s) whe
   produced-most : s .produced ≤ 8 * limit
   produced-most = omega (arith, f .few, mul-le-mul (sound-header w W .expansion) consumed-most)
 
-module _ (w : List ℕ) (s : Session) (piece : List ℕ) (ended : Bool) (room : ℕ) (a : Admitted w s (length piece) room) (eight : length (s .held) ≡ 8) where
+module _ (w : List ℕ) (found : Kept) (uses piece : List ℕ) (ended : Bool) (room : ℕ) (a : Admitted w (sessionOf (together found uses)) (length piece) room) (eight : length (found .held) ≡ 8) where
+  abbrev s : Session
+  s = sessionOf (together found uses)
+
   facts : SoundFacts w s
   facts = sound-facts w s (a .sound-session)
 
@@ -71,15 +82,20 @@ module _ (w : List ℕ) (s : Session) (piece : List ℕ) (ended : Bool) (room : 
   stored = sym (length-take-le (s .count) (s .held) count-inside)
 
   -- what the run over machine words requires
-  pub run-asks : (T (sound w) × T (isAt (s .state) (path (fromWords w) 0 (store s))))
-      × (((length (store s) ≤ 8) × (length (store s) + length piece ≤ 1099511627784)) × (expansionWord w * (length (store s) + length piece) ≤ room))
-  run-asks =
+  pub run-asks : length uses ≡ useCounts →
+      (T (sound w) × T (isAt (s .state) (path (fromWords w) 0 (store s))))
+      × (((length (store s) ≤ 8) × (length (store s) + length piece ≤ 1099511627784))
+      × ((expansionWord w * (length (store s) + length piece) ≤ room) × Counted uses 0))
+  run-asks whole =
       let stands : Stands w s Open = subst (Stands w s) (a .passed .0) (facts .stands) in
       let total = a .passed .1 in (
         (a .sound-words, stands .0),
         (
           (omega (arith, stored, facts .places), omega (arith, stored, facts .places)),
-          subst (λ n. expansionWord w * (n + length piece) ≤ room) stored (a .passed .2),
+          (
+            subst (λ n. expansionWord w * (n + length piece) ≤ room) stored (a .passed .2),
+            counted-sound w uses (consumed s) (a .sound-words) (facts-uses w uses (consumed s) (facts .uses)) (consumed-most w (a .sound-words) s facts) whole,
+          ),
         ),
       )
 
@@ -95,7 +111,7 @@ module _ (w : List ℕ) (s : Session) (piece : List ℕ) (ended : Bool) (room : 
   left-facts : SoundFacts w left
   left-facts = sound-facts w left (kept-sound w (a .sound-words) s piece ended (a .sound-session) (a .passed .0) eight (a .passed .1))
 
-  module _ (ran : Ran) (output : List ℕ) (f : EndsAs w (store s ++ piece) r ran output) where
+  module _ (ran : Ran) (has : Lent) (f : EndsAs w (store s ++ piece) r uses ran has) where
     held-count : ran .at - ran .from ≡ length (r .final .store)
     held-count =
         let n : ran .at - ran .from ≤ length (drop (ran .from) (store s ++ piece)) = omega (arith, length-drop (ran .from) (store s ++ piece), f .inside) in
@@ -106,7 +122,7 @@ module _ (w : List ℕ) (s : Session) (piece : List ℕ) (ended : Bool) (room : 
     gather-asks =
         (f .order, omega (arith, f .inside, length-append (store s) piece), omega (arith, held-count, left-facts .places))
 
-    pub small : Small s (length piece) ran
+    pub small : Small found (length piece) ran
     small = record {
       held = facts .enough;
       received = a .passed .1;
@@ -117,7 +133,7 @@ module _ (w : List ℕ) (s : Session) (piece : List ℕ) (ended : Bool) (room : 
       steps = omega (arith, steps-most w (a .sound-words) left left-facts (left .status) (left-facts .stands), f .steps);
     }
 
-    same-session : (held : List ℕ) → held ≡ over (storeOf (store s ++ piece) ran) (pad 8 []) → laterOf s (length piece) ran held ≡ left
+    same-session : (held : List ℕ) → held ≡ over (storeOf (store s ++ piece) ran) (pad 8 []) → laterOf s (length piece) ran held (has .uses) ≡ left
     same-session held e =
         let h : held ≡ pad 8 (r .final .store) = e ∙ ap (λ l. over l (pad 8 [])) (f .store) ∙ over-zeros 8 (r .final .store) (left-facts .places) in
         λ i. record {
@@ -128,12 +144,46 @@ module _ (w : List ℕ) (s : Session) (piece : List ℕ) (ended : Bool) (room : 
           received = receivedBy (f .status i) (s .received + length piece) (consumed s + sym (f .covers) i);
           produced = s .produced + f .count i;
           steps = s .steps + f .steps i;
+          uses = f .uses i;
         }
 
     -- what the code leaves is what the definition leaves
-    pub same-outcome : (buffer held : List ℕ) (after : Code.Session) → output ≡ over text buffer → held ≡ over (storeOf (store s ++ piece) ran) (pad 8 []) →
-        sessionOf after ≡ laterOf s (length piece) ran held →
-        outcomeOf (Accepted (ran .count) (ran .status)) after output ≡ callBy (accepted tt) (fromWords w) s piece ended buffer
+    pub same-outcome : (buffer held : List ℕ) (after : Kept) → has .output ≡ over text buffer → held ≡ over (storeOf (store s ++ piece) ran) (pad 8 []) →
+        Leaves found (length piece) ran held after →
+        outcomeOf (Accepted (ran .count) (ran .status)) (together after (has .uses)) (has .output) ≡ callBy (accepted tt) (fromWords w) s piece ended buffer
     same-outcome buffer held after e₁ e₂ e₃ =
-        let q : sessionOf after ≡ left = e₃ ∙ same-session held e₂ in
+        let q : sessionOf (together after (has .uses)) ≡ left = e₃ uses (has .uses) ∙ same-session held e₂ in
         λ i. record { answer = accepted (record { count = f .count i; status = f .status i }); session = q i; output = e₁ i }
+
+-- What a call comes to by the answer of its tests.
+
+accepted-is : (a : Answer) (x : Spec.Answer) → answerOf a ≡ accepted x → isAccepted a ≡ true
+accepted-is (Accepted count status) x e = refl
+accepted-is (Refused n) x e = absurd (accepted-not x n (sym e))
+
+module _ (m : Automaton) (found : Kept) (uses piece : List ℕ) (ended : Bool) (buffer : List ℕ) (tests : Outcome (Unit {0})) where
+  abbrev outcome : Outcome (Unit {0}) → CallOutcome
+  outcome o = callBy o m (sessionOf (together found uses)) piece ended buffer
+
+  -- what the contracts of a feed and a finish say of it, where the counts and the buffer are left so
+  abbrev Comes : Went → List ℕ → List ℕ → Type 0
+  Comes r after output = Said r found uses after × (outcomeOf (r .answer) (together (r .kept) after) output ≡ outcome tests)
+
+  pub refused-comes : (n : ℕ) (r : Went) → r ≡ refusing n found → tests ≡ refused n → Comes r uses buffer
+  refused-comes n r e k =
+      subst (λ x. Comes x uses buffer) (sym e) (record { accepted = refl; unchanged = λ _. (refl, refl) }, sym (ap outcome k))
+
+  pub accepted-comes : (r : Went) (after output : List ℕ) → r .accepted ≡ true → outcomeOf (r .answer) (together (r .kept) after) output ≡ outcome (accepted tt) →
+      tests ≡ accepted tt → Comes r after output
+  accepted-comes r after output e o k = (
+    record {
+      accepted = e ∙ sym (accepted-is (r .answer) _ (ap (λ (x : CallOutcome). x .answer) o));
+      unchanged = λ z. absurd (true≢false (sym e ∙ z));
+    },
+    o ∙ sym (ap outcome k),
+  )
+
+-- a call that is lent the counts of uses, as a call by value
+pub told-joined : (r : Went) (found : Kept) (before after : List ℕ) → Said r found before after → Told (joined r after) (together found before)
+told-joined r found before after k =
+    record { accepted = k .accepted; unchanged = λ z. let u = k .unchanged z in λ i. together (u .0 i) (u .1 i) }

@@ -24,11 +24,14 @@ use Rattle.words.specs.declared.numbers.StateNo.{StateNo}
 use Rattle.automaton.proofs.Laws.Good.{after, Leads}
 use Rattle.automaton.proofs.Laws.Words.{Names, sound-header, sound-rule, sound-default, sound-state, sound-class, sound-good, sound-longest, length-blockOutput}
 use Rattle.reckoning.specs.Machine.{Configuration, Status, Open, Closed, Stopped, onward, halt, step, Ended, steps, run, start}
+use Rattle.reckoning.specs.Uses.{useCounts, usesAfter}
 use Rattle.reckoning.specs.Session.{path, isAt}
 use Rattle.session.specs.Keeping.{meantStatus}
-use Rattle.session.specs.bridge.Running.{firstOf, standing, stepBy, Fits, Decides, storeOf, Placed, Going, EndsAs, left, Advances, Beyond, Move, Emit, Read, Back, Wait, Close}
+use Rattle.session.specs.bridge.Counting.{bumped, Counted}
+use Rattle.session.specs.bridge.Running.{firstOf, standing, stepBy, Fits, Decides, storeOf, Placed, Lent, Going, EndsAs, left, Proceeds, Advances, Beyond, Move, Emit, Read, Back, Wait, Close}
 use Rattle.session.specs.declared.run.Ran.{Ran}
 use Rattle.reckoning.proofs.Laws.Run.{step-accept, step-read, step-back, due-read, due-stop, due-emit, steps-onward, steps-halt, fuel-enough}
+use Rattle.reckoning.proofs.Laws.Uses.{uses-none, uses-emitted}
 use Rattle.reckoning.proofs.Laws.Kept.{path-leads}
 use Rattle.automaton.specs.Layout.{classesFrom}
 
@@ -204,7 +207,7 @@ default-block w W b e t =
     (omega (arith, s .positive, s .size), s .outputs)
 
 -- One turn, from `old` to `new`.
-module _ (w u : List ℕ) (ended : Bool) (W : T (sound w)) (old : Ran) (before : List ℕ) (P : Placed w u (length before) old) (new : Ran) where
+module _ (w u : List ℕ) (ended : Bool) (W : T (sound w)) (old : Ran) (before : Lent) (P : Placed w u (length (before .output)) old) (new : Ran) where
   abbrev A : Automaton
   A = fromWords w
 
@@ -222,11 +225,11 @@ module _ (w u : List ℕ) (ended : Bool) (W : T (sound w)) (old : Ran) (before :
   shallow = omega (arith, P .depth, sound-state w W (old .state .0) (P .state) .shallow, sound-header w W .longest)
 
   -- the run ended with the old log
-  ended-as : (r : Ended) (G : Going w u ended r old before) (b : Status) (f : Configuration) → r ≡ record { status = b; final = f } → meantStatus (new .status) ≡ b →
+  ended-as : (r : Ended) (found : List ℕ) (G : Going w u ended r found old before) (b : Status) (f : Configuration) → r ≡ record { status = b; final = f } → meantStatus (new .status) ≡ b →
       new .state .0 ≡ f .state → storeOf u new ≡ f .store → new .from ≡ old .from → new .count ≡ old .count → new .steps ≡ f .steps → f .log ≡ G .log →
-      new .from ≤ new .at → new .at ≤ old .at → EndsAs w u r new before
-  ended-as r G b f e e₀ e₁ e₂ e₃ e₄ e₅ e₆ p₁ p₂ =
-      subst (λ z. EndsAs w u z new before) (sym e) (record {
+      new .from ≤ new .at → new .at ≤ old .at → EndsAs w u r found new before
+  ended-as r found G b f e e₀ e₁ e₂ e₃ e₄ e₅ e₆ p₁ p₂ =
+      subst (λ z. EndsAs w u z found new before) (sym e) (record {
         status = e₀;
         state = e₁;
         order = p₁;
@@ -234,7 +237,8 @@ module _ (w u : List ℕ) (ended : Bool) (W : T (sound w)) (old : Ran) (before :
         store = e₂;
         covers = ap covered e₆ ∙ G .covers ∙ sym e₃;
         count = e₄ ∙ G .count ∙ ap (λ l. length (textOf (fromWords w .write) l)) (sym e₆);
-        text = ap (λ k. take k before) e₄ ∙ G .text ∙ ap (textOf (fromWords w .write)) (sym e₆);
+        text = ap (λ k. take k (before .output)) e₄ ∙ G .text ∙ ap (textOf (fromWords w .write)) (sym e₆);
+        uses = G .uses ∙ ap (usesAfter found) (sym e₆);
         steps = e₅;
       })
 
@@ -252,7 +256,7 @@ module _ (w u : List ℕ) (ended : Bool) (W : T (sound w)) (old : Ran) (before :
         let q : d ≡ standing (storeOf u new) (drop (new .at) u) (new .state .0) log (new .steps) = λ i. standing (s i) (t i) (sym e₁ i) log (sym e₅ i) in
         subst (Runs A ended most r) q (runs-on A ended most r (stood log (old .steps)) d (st log (old .steps)) h)
 
-    pub advances-read : Advances w u ended (length before) old before false new before
+    pub advances-read : Proceeds w u ended (length (before .output)) old before new before
     advances-read =
         let i₁ = P .order in
         let i₂ = P .depth in
@@ -260,7 +264,7 @@ module _ (w u : List ℕ) (ended : Bool) (W : T (sound w)) (old : Ran) (before :
         let i₄ = P .written in
         let i₅ = fits .0 in
         let d : depthWord w (new .state .0) ≡ suc (depthWord w (old .state .0)) = ap (depthWord w) e₁ ∙ fits .1 in
-        let placed : Placed w u (length before) new =
+        let placed : Placed w u (length (before .output)) new =
         record {
           order = omega arith;
           inside = omega arith;
@@ -273,21 +277,23 @@ module _ (w u : List ℕ) (ended : Bool) (W : T (sound w)) (old : Ran) (before :
         } in (
           placed,
           omega (arith, shallow),
-          λ r G. record {
+          λ r found G. record {
             log = G .log;
             runs = read-runs r (G .log) (G .runs);
             covers = G .covers ∙ sym e₂;
             count = e₄ ∙ G .count;
-            text = ap (λ k. take k before) e₄ ∙ G .text;
+            text = ap (λ k. take k (before .output)) e₄ ∙ G .text;
+            uses = G .uses;
           },
         )
 
   -- group g is written for the next n characters from the store's first on; the state is 0 and the store empty after it
-  module _ (g n : ℕ) (after : List ℕ) (j : ℕ) (e₁ : new .state .0 ≡ 0) (e₂ : new .from ≡ old .from + n) (e₃ : new .at ≡ old .from + n)
+  module _ (g n : ℕ) (after : Lent) (j : ℕ) (e₁ : new .state .0 ≡ 0) (e₂ : new .from ≡ old .from + n) (e₃ : new .at ≡ old .from + n)
       (e₄ : new .count ≡ old .count + at (blockAt w g) 2) (e₅ : new .steps ≡ old .steps + j)
       (some : 0 < n) (inside : old .from + n ≤ length u) (cheap : old .at - old .from + j ≤ 11 * n) (ahead : old .at - old .from < 9 * n)
       (few : at (blockAt w g) 2 ≤ expansionWord w)
-      (wrote : after ≡ take (old .count) before ++ blockOutput (blockAt w g) (take n (drop (old .from) u)) ++ drop (old .count + at (blockAt w g) 2) before)
+      (wrote : after .output ≡ take (old .count) (before .output) ++ blockOutput (blockAt w g) (take n (drop (old .from) u)) ++ drop (old .count + at (blockAt w g) 2) (before .output))
+      (known : g < useCounts) (counted : after .uses ≡ bumped (before .uses) g 1)
       (leads : (r : Ended) (log : List Emission) → Runs A ended most r (stood log (old .steps)) →
       Runs A ended most r (standing [] (drop (old .from + n) u) 0 (log ++ (record { group = g; word = take n (drop (old .from) u) } ∷ [])) (old .steps + j))) where
     abbrev word : List ℕ
@@ -296,10 +302,12 @@ module _ (w u : List ℕ) (ended : Bool) (W : T (sound w)) (old : Ran) (before :
     abbrev k : ℕ
     k = at (blockAt w g) 2
 
-    text-put : (take (old .count + k) after ≡ take (old .count) before ++ blockOutput (blockAt w g) word) × (drop (old .count + k) after ≡ drop (old .count + k) before)
-    text-put = group-put w u old before P g word after wrote
+    text-put :
+        (take (old .count + k) (after .output) ≡ take (old .count) (before .output) ++ blockOutput (blockAt w g) word)
+        × (drop (old .count + k) (after .output) ≡ drop (old .count + k) (before .output))
+    text-put = group-put w u old (before .output) P g word (after .output) wrote
 
-    emit-placed : Placed w u (length before) new
+    emit-placed : Placed w u (length (before .output)) new
     emit-placed =
         let z : expansionWord w * (old .from + 1) ≤ expansionWord w * (old .from + n) = mul-le-mul-left (expansionWord w) (omega arith) in
         let y : expansionWord w * new .from ≡ expansionWord w * (old .from + n) = ap (λ x. expansionWord w * x) e₂ in
@@ -318,9 +326,9 @@ module _ (w u : List ℕ) (ended : Bool) (W : T (sound w)) (old : Ran) (before :
           few = omega arith;
         }
 
-    emit-going : (r : Ended) → Going w u ended r old before → Going w u ended r new after
+    emit-going : (r : Ended) (found : List ℕ) → Going w u ended r found old before → Going w u ended r found new after
     unfolding fromWords
-    emit-going r G =
+    emit-going r found G =
         let log : List Emission = G .log in
         let later : List Emission = log ++ (record { group = g; word = word } ∷ []) in
         let s : [] ≡ storeOf u new = sym (none-of u (new .at) (new .from) (e₃ ∙ sym e₂)) in
@@ -338,17 +346,20 @@ module _ (w u : List ℕ) (ended : Bool) (W : T (sound w)) (old : Ran) (before :
           runs = subst (Runs A ended most r) q (leads r log (G .runs));
           covers = omega arith;
           count = omega arith;
-          text = ap (λ x. take x after) e₄ ∙ text-put .0 ∙ ap (λ l. l ++ blockOutput (blockAt w g) word) (G .text) ∙ sym t;
+          text = ap (λ x. take x (after .output)) e₄ ∙ text-put .0 ∙ ap (λ l. l ++ blockOutput (blockAt w g) word) (G .text) ∙ sym t;
+          uses = counted ∙ ap (λ l. bumped l g 1) (G .uses) ∙ uses-emitted found log g word known;
         }
 
-    advances-put : Advances w u ended (length before) old before false new after
+    advances-put : Proceeds w u ended (length (before .output)) old before new after
     advances-put = (emit-placed, omega (arith, P .order, P .inside), emit-going)
 
   -- *emit*
-  module _ (g : RuleNo) (after : List ℕ) (st : (log : List Emission) (n : ℕ) → step A ended (stood log n) ≡ stepBy (Emit g) (stood log n))
+  module _ (g : RuleNo) (after : Lent) (st : (log : List Emission) (n : ℕ) → step A ended (stood log n) ≡ stepBy (Emit g) (stood log n))
       (fits : Fits w (old .state .0) (Emit g)) (e₁ : new .state .0 ≡ 0) (e₂ : new .from ≡ old .at) (e₃ : new .at ≡ old .at)
       (e₄ : new .count ≡ old .count + at (blockAt w (g .0)) 2) (e₅ : new .steps ≡ old .steps + 1)
-      (wrote : after ≡ take (old .count) before ++ blockOutput (blockAt w (g .0)) (storeOf u old) ++ drop (old .count + at (blockAt w (g .0)) 2) before) where
+      (wrote : after .output
+      ≡ take (old .count) (before .output) ++ blockOutput (blockAt w (g .0)) (storeOf u old) ++ drop (old .count + at (blockAt w (g .0)) 2) (before .output))
+      (counted : after .uses ≡ bumped (before .uses) (g .0) 1) where
     to-end : old .from + (old .at - old .from) ≡ old .at
     to-end = omega (arith, P .order)
 
@@ -360,7 +371,7 @@ module _ (w u : List ℕ) (ended : Bool) (W : T (sound w)) (old : Ran) (before :
         subst (Runs A ended most r) (λ i. standing [] (drop (sym to-end i) u) 0 later (old .steps + 1))
         (runs-on A ended most r (stood log (old .steps)) d (st log (old .steps)) h)
 
-    pub advances-emit : Advances w u ended (length before) old before false new after
+    pub advances-emit : Proceeds w u ended (length (before .output)) old before new after
     advances-emit =
         let i₁ = fits .2 in
         let i₂ = P .depth in
@@ -371,7 +382,7 @@ module _ (w u : List ℕ) (ended : Bool) (W : T (sound w)) (old : Ran) (before :
         let p₄ : n < 9 * n = omega arith in
         let p₅ : new .from ≡ old .from + n = e₂ ∙ sym to-end in
         let p₆ : new .at ≡ old .from + n = e₃ ∙ sym to-end in
-        advances-put (g .0) n after 1 e₁ p₅ p₆ e₄ e₅ p₁ p₂ p₃ p₄ (fits .3) wrote emit-leads
+        advances-put (g .0) n after 1 e₁ p₅ p₆ e₄ e₅ p₁ p₂ p₃ p₄ (fits .3) wrote (omega (arith, fits .0)) counted emit-leads
 
   -- *back*, where something stands before the end
   module _ (st : (log : List Emission) (n : ℕ) → step A ended (stood log n) ≡ stepBy Back (stood log n)) (some : old .from < length u) where
@@ -392,10 +403,12 @@ module _ (w u : List ℕ) (ended : Bool) (W : T (sound w)) (old : Ran) (before :
     back-step : (log : List Emission) → step A ended (stood log (old .steps)) ≡ onward (due [] (y ∷ v) log (old .steps + 1))
     back-step log = st log (old .steps) ∙ ap (λ z. onward (due [] z log (old .steps + 1))) given-back
 
-    module _ (after : List ℕ) (d : A .default ≡ true) (e₁ : new .state .0 ≡ 0) (e₂ : new .from ≡ old .from + 1) (e₃ : new .at ≡ old .from + 1)
+    module _ (after : Lent) (d : A .default ≡ true) (e₁ : new .state .0 ≡ 0) (e₂ : new .from ≡ old .from + 1) (e₃ : new .at ≡ old .from + 1)
         (e₄ : new .count ≡ old .count + at (blockAt w defaultNumber) 2) (e₅ : new .steps ≡ old .steps + 3)
-        (wrote : after ≡ take (old .count) before ++ blockOutput (blockAt w defaultNumber) (take 1 (drop (old .from) u))
-        ++ drop (old .count + at (blockAt w defaultNumber) 2) before) where
+        (wrote : after .output
+        ≡ take (old .count) (before .output) ++ blockOutput (blockAt w defaultNumber) (take 1 (drop (old .from) u))
+        ++ drop (old .count + at (blockAt w defaultNumber) 2) (before .output))
+        (counted : after .uses ≡ bumped (before .uses) defaultNumber 1) where
       default-leads : (r : Ended) (log : List Emission) → Runs A ended most r (stood log (old .steps)) →
           Runs A ended most r (standing [] v 0 (log ++ (record { group = defaultNumber; word = take 1 (drop (old .from) u) } ∷ [])) (old .steps + 3))
       default-leads r log h =
@@ -414,63 +427,67 @@ module _ (w u : List ℕ) (ended : Bool) (W : T (sound w)) (old : Ran) (before :
       unfolding fromWords
       few-default = sound-default w W (eqb→eq (at w 5) 1 (to-T (eqb (at w 5) 1) d)) .outputs
 
-      pub advances-default : Advances w u ended (length before) old before false new after × Beyond old before new after
+      pub advances-default : Proceeds w u ended (length (before .output)) old before new after × Beyond old (before .output) new (after .output)
       advances-default =
           let p₁ : 0 < 1 = omega arith in
           let p₂ : old .from + 1 ≤ length u = omega arith in
           let p₃ : old .at - old .from + 3 ≤ 11 * 1 = omega (arith, shallow) in
           let p₄ : old .at - old .from < 9 * 1 = omega (arith, shallow) in
-          (advances-put defaultNumber 1 after 3 e₁ e₂ e₃ e₄ e₅ p₁ p₂ p₃ p₄ few-default wrote default-leads, beyond-put w u old before P new defaultNumber (take 1 (drop (old .from) u)) after e₄ wrote)
+          let p₅ : defaultNumber < useCounts = omega arith in (
+            advances-put defaultNumber 1 after 3 e₁ e₂ e₃ e₄ e₅ p₁ p₂ p₃ p₄ few-default wrote p₅ counted default-leads,
+            beyond-put w u old (before .output) P new defaultNumber (take 1 (drop (old .from) u)) (after .output) e₄ wrote,
+          )
 
     pub advances-stop : A .default ≡ false → meantStatus (new .status) ≡ Stopped → new .state .0 ≡ 0 → new .from ≡ old .from → new .at ≡ old .from →
-        new .count ≡ old .count → new .steps ≡ old .steps + 2 → Advances w u ended (length before) old before true new before
-    advances-stop d e₀ e₁ e₂ e₃ e₄ e₅ r G =
+        new .count ≡ old .count → new .steps ≡ old .steps + 2 → Advances w u ended (length (before .output)) old before true new before
+    advances-stop d e₀ e₁ e₂ e₃ e₄ e₅ r found G =
         let s : ℕ = old .steps in
         let c₁ : Configuration = due [] (y ∷ v) (G .log) (s + 1) in
         let f : Configuration = standing [] [] 0 (G .log) (s + 1 + 1) in
         let h₁ : Runs A ended most r c₁ = runs-on A ended most r (stood (G .log) s) c₁ (back-step (G .log)) (G .runs) in
         let e : r ≡ record { status = Stopped; final = f } = runs-halt A ended most r c₁ f Stopped (due-stop A ended (y ∷ v) (G .log) (s + 1) d) h₁ in
-        ended-as r G Stopped f e e₀ e₁ (none-of u (new .at) (new .from) (e₃ ∙ sym e₂)) e₂ e₄ (omega arith) refl (omega arith) (omega (arith, P .order))
+        ended-as r found G Stopped f e e₀ e₁ (none-of u (new .at) (new .from) (e₃ ∙ sym e₂)) e₂ e₄ (omega arith) refl (omega arith) (omega (arith, P .order))
 
   -- the run waits, or closes
   pub advances-wait : ((log : List Emission) (n : ℕ) → step A ended (stood log n) ≡ stepBy Wait (stood log n)) → meantStatus (new .status) ≡ Open →
       new .state .0 ≡ old .state .0 → new .from ≡ old .from → new .at ≡ old .at → new .count ≡ old .count → new .steps ≡ old .steps →
-      Advances w u ended (length before) old before true new before
-  advances-wait st e₀ e₁ e₂ e₃ e₄ e₅ r G =
+      Advances w u ended (length (before .output)) old before true new before
+  advances-wait st e₀ e₁ e₂ e₃ e₄ e₅ r found G =
       let f : Configuration = stood (G .log) (old .steps) in
       let s : storeOf u new ≡ storeOf u old = λ i. take (e₃ i - e₂ i) (drop (e₂ i) u) in
-      ended-as r G Open f (runs-halt A ended most r f f Open (st (G .log) (old .steps)) (G .runs)) e₀ e₁ s e₂ e₄ e₅ refl (omega (arith, P .order)) (omega arith)
+      ended-as r found G Open f (runs-halt A ended most r f f Open (st (G .log) (old .steps)) (G .runs)) e₀ e₁ s e₂ e₄ e₅ refl (omega (arith, P .order)) (omega arith)
 
   pub advances-close : ((log : List Emission) (n : ℕ) → step A ended (stood log n) ≡ stepBy Close (stood log n)) → meantStatus (new .status) ≡ Closed →
       new .state .0 ≡ 0 → new .from ≡ old .from → new .at ≡ old .from → new .count ≡ old .count → new .steps ≡ old .steps + 1 →
-      Advances w u ended (length before) old before true new before
-  advances-close st e₀ e₁ e₂ e₃ e₄ e₅ r G =
+      Advances w u ended (length (before .output)) old before true new before
+  advances-close st e₀ e₁ e₂ e₃ e₄ e₅ r found G =
       let f : Configuration = standing [] [] 0 (G .log) (old .steps + 1) in
-      ended-as r G Closed f (runs-halt A ended most r (stood (G .log) (old .steps)) f Closed (st (G .log) (old .steps)) (G .runs)) e₀ e₁
+      ended-as r found G Closed f (runs-halt A ended most r (stood (G .log) (old .steps)) f Closed (st (G .log) (old .steps)) (G .runs)) e₀ e₁
       (none-of u (new .at) (new .from) (e₃ ∙ sym e₂)) e₂ e₄ e₅ refl (omega arith) (omega (arith, P .order))
 
 -- A whole run: done, or placed and going on.
 
-abbrev pub Stage : List ℕ → List ℕ → Bool → ℕ → Ended → Bool → Ran → List ℕ → Type 0
-Stage w u ended room r true now output = EndsAs w u r now output
-Stage w u ended room r false now output = Placed w u room now × Going w u ended r now output
+abbrev pub Stage : List ℕ → List ℕ → Bool → ℕ → Ended → List ℕ → Bool → Ran → Lent → Type 0
+Stage w u ended room r found true now has = EndsAs w u r found now has
+Stage w u ended room r found false now has = Placed w u room now × Counted (has .uses) (now .from) × Going w u ended r found now has
 
 -- turns that are left at most
 abbrev pub toGo : List ℕ → Bool → Ran → ℕ
 toGo u true now = 0
 toGo u false now = suc (left u now)
 
-pub stage-on : (w u : List ℕ) (ended : Bool) (room : ℕ) (r : Ended) (old new : Ran) (before after : List ℕ) (b : Bool) → Advances w u ended room old before b new after →
-    Going w u ended r old before → Stage w u ended room r b new after × (toGo u b new < suc (left u old))
-stage-on w u ended room r old new before after true f G = (f r G, omega arith)
-stage-on w u ended room r old new before after false f G = ((f .0, f .2 r G), omega (arith, f .1))
+pub stage-on : (w u : List ℕ) (ended : Bool) (room : ℕ) (r : Ended) (found : List ℕ) (old new : Ran) (before after : Lent) (b : Bool) →
+    Advances w u ended room old before b new after → Going w u ended r found old before → Stage w u ended room r found b new after × (toGo u b new < suc (left u old))
+stage-on w u ended room r found old new before after true f G = (f r found G, omega arith)
+stage-on w u ended room r found old new before after false f G = ((f .0 .0, f .1, f .0 .2 r found G), omega (arith, f .0 .1))
 
 -- what a finished run has written
-pub ends-over : (w u : List ℕ) (r : Ended) (now : Ran) (output found : List ℕ) → EndsAs w u r now output → drop (now .count) output ≡ drop (now .count) found →
-    output ≡ over (textOf (fromWords w .write) (r .final .log)) found
-ends-over w u r now output found F e =
+pub ends-over : (w u : List ℕ) (r : Ended) (found : List ℕ) (now : Ran) (has : Lent) (buffer : List ℕ) → EndsAs w u r found now has →
+    drop (now .count) (has .output) ≡ drop (now .count) buffer → has .output ≡ over (textOf (fromWords w .write) (r .final .log)) buffer
+ends-over w u r found now has buffer F e =
+    let output = has .output in
     sym (take-append-drop (now .count) output) ∙ ap (λ l. l ++ drop (now .count) output) (F .text) ∙ ap (λ l. textOf (fromWords w .write) (r .final .log) ++ l) e
-    ∙ ap (λ k. textOf (fromWords w .write) (r .final .log) ++ drop k found) (F .count)
+    ∙ ap (λ k. textOf (fromWords w .write) (r .final .log) ++ drop k buffer) (F .count)
 
 pub beyond-on : (old new : Ran) (found before after : List ℕ) → drop (old .count) before ≡ drop (old .count) found → Beyond old before new after →
     drop (new .count) after ≡ drop (new .count) found
@@ -491,8 +508,9 @@ depth-after w W q (x ∷ h) i l =
     (k .0, omega (arith, k .1, f .deeper))
 
 -- The run as it begins: the given characters are the store.
-module _ (w given piece : List ℕ) (ended : Bool) (W : T (sound w)) (q : ℕ) (at-path : T (isAt q (path (fromWords w) 0 given))) (found : List ℕ)
-    (short : length given + length piece ≤ 1099511627784) (enough : expansionWord w * (length given + length piece) ≤ length found) (now : Ran)
+module _ (w given piece : List ℕ) (ended : Bool) (W : T (sound w)) (q : ℕ) (at-path : T (isAt q (path (fromWords w) 0 given))) (has : Lent)
+    (short : length given + length piece ≤ 1099511627784) (enough : expansionWord w * (length given + length piece) ≤ length (has .output))
+    (counted : Counted (has .uses) 0) (now : Ran)
     (e₁ : now .state .0 ≡ q) (e₂ : now .from ≡ 0) (e₃ : now .at ≡ length given) (e₄ : now .count ≡ 0) (e₅ : now .steps ≡ 0) where
   abbrev u : List ℕ
   u = given ++ piece
@@ -500,7 +518,7 @@ module _ (w given piece : List ℕ) (ended : Bool) (W : T (sound w)) (q : ℕ) (
   size : length u ≡ length given + length piece
   size = length-append given piece
 
-  begin-placed : Placed w u (length found) now
+  begin-placed : Placed w u (length (has .output)) now
   begin-placed =
       let h = sound-header w W in
       let l = path-leads (fromWords w) 0 q given at-path in
@@ -520,7 +538,7 @@ module _ (w given piece : List ℕ) (ended : Bool) (W : T (sound w)) (q : ℕ) (
         few = omega arith;
       }
 
-  begin-going : Going w u ended (run (fromWords w) ended (start given piece q)) now found
+  begin-going : Going w u ended (run (fromWords w) ended (start given piece q)) (has .uses) now has
   unfolding covered textOf
   begin-going =
       let l = path-leads (fromWords w) 0 q given at-path in
@@ -536,8 +554,9 @@ module _ (w given piece : List ℕ) (ended : Bool) (W : T (sound w)) (q : ℕ) (
             (fuel-enough (fromWords w) (longestWord w) (stateCount w) (sound-good w W) (sound-longest w W) ended given piece q (l .0) (l .1) m (omega (arith, size)));
         covers = sym e₂;
         count = e₄;
-        text = ap (λ k. take k found) e₄;
+        text = ap (λ k. take k (has .output)) e₄;
+        uses = sym (uses-none (has .uses) (counted .whole));
       }
 
-  pub begins : Stage w u ended (length found) (run (fromWords w) ended (start given piece q)) false now found
-  begins = (begin-placed, begin-going)
+  pub begins : Stage w u ended (length (has .output)) (run (fromWords w) ended (start given piece q)) (has .uses) false now has
+  begins = (begin-placed, subst (Counted (has .uses)) (sym e₂) counted, begin-going)

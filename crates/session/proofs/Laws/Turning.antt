@@ -4,11 +4,10 @@ use mathlib.Core.Bool.{Bool, true, false, _&&_, cond}
 use mathlib.Core.List.{List, [], _∷_, _++_}
 use mathlib.Core.Path.{_≡_, refl, sym, ap, subst, _∙_}
 use Prim.Native.Nat.{ℕ, suc, pred, _+_, _-_, _≤_, _<_}
-use native.Mathlib.Nat.{min-le-left}
 use native.Mathlib.Omega.{arith}
 use lib.Dec.{T, eqb}
-use lib.ListN.{length, getD, take, drop, length-append, length-take, drop-of-length-le}
-use lib.Seq.{drop-cons, length-take-le, take-at}
+use lib.ListN.{length, getD, take, drop, drop-of-length-le}
+use lib.Seq.{drop-cons}
 use Rattle.lists.proofs.Laws.Tests.{to-T}
 use Rattle.meaning.specs.Table.{defaultNumber}
 use Rattle.meaning.specs.Block.{at, blockOutput}
@@ -19,11 +18,13 @@ use Rattle.words.specs.declared.numbers.RuleNo.{RuleNo}
 use Rattle.automaton.proofs.Laws.Words.{sound-state}
 use Rattle.reckoning.specs.Machine.{Stopped, Closed, step}
 use Rattle.reckoning.specs.Session.{settled}
-use Rattle.session.specs.bridge.Running.{Move, Emit, Back, Wait, Close, standing, stepBy, Fits, Decides, storeOf, Placed, Advances, Beyond, Classed, Between, Halted, Waits, readTo, Passes, Stands, ReadsOn, Moves, acceptNow}
+use Rattle.session.specs.bridge.Counting.{bumped, Counted}
+use Rattle.session.specs.bridge.Running.{Move, Emit, Back, Wait, Close, standing, stepBy, Fits, Decides, storeOf, Placed, Lent, Advances, Beyond, Between, Halted, Waits, readTo, Passes, Stands, ReadsOn, Moves, acceptNow}
 use Rattle.session.specs.declared.run.Ran.{Ran}
 use Rattle.session.specs.declared.run.Ahead.{Ahead}
 use Rattle.reckoning.proofs.Laws.Walk.{settled-both}
 use Rattle.reckoning.proofs.Laws.Run.{step-settled, step-wait, step-end, step-close, step-giveBack}
+use Rattle.session.proofs.Laws.Counting.{counted-bumped}
 use Rattle.session.proofs.Laws.Running.{rule-fits, character-emits, character-backs, decides-character, beyond-put, advances-emit, advances-default, advances-stop, advances-wait, advances-close, beyond-on}
 
 -- The machine's step where the run stands.
@@ -100,45 +101,61 @@ module _ (w u : List ℕ) (W : T (sound w)) (q : ℕ) (b : q < stateCount w) (be
       subst (λ l. step (fromWords w) true (standing l [] q log n) ≡ stepBy Close (standing l [] q log n)) s (step-close (fromWords w) q log n e))
 
 -- What is done, where the machine's step is known.
-module _ (w u : List ℕ) (W : T (sound w)) (old : Ran) (before : List ℕ) (P : Placed w u (length before) old) (new : Ran) where
+module _ (w u : List ℕ) (W : T (sound w)) (old : Ran) (before : Lent) (P : Placed w u (length (before .output)) old)
+    (C : Counted (before .uses) (old .from)) (new : Ran) where
   -- a run that goes on, or is done
-  on-as : (ended : Bool) (after : List ℕ) (b : Bool) → new .done ≡ b → Advances w u ended (length before) old before b new after →
-      Advances w u ended (length before) old before (new .done) new after
-  on-as ended after b e f = subst (λ d. Advances w u ended (length before) old before d new after) (sym e) f
+  on-as : (ended : Bool) (after : Lent) (b : Bool) → new .done ≡ b → Advances w u ended (length (before .output)) old before b new after →
+      Advances w u ended (length (before .output)) old before (new .done) new after
+  on-as ended after b e f = subst (λ d. Advances w u ended (length (before .output)) old before d new after) (sym e) f
 
-  pub emit-moves : (g : RuleNo) (after : List ℕ) → Fits w (old .state .0) (Emit g) → Between (old .at) (old .count + at (blockAt w (g .0)) 2) (old .steps + 1) new →
-      after ≡ take (old .count) before ++ blockOutput (blockAt w (g .0)) (storeOf u old) ++ drop (old .count + at (blockAt w (g .0)) 2) before →
-      Moves w u (length before) old before (Emit g) new after × Beyond old before new after
-  emit-moves g after f B e = (
-    λ ended d. on-as ended after false (B .going) (advances-emit w u ended W old before P new g after d f (B .state) (B .from) (B .at) (B .count) (B .steps) e),
-    beyond-put w u old before P new (g .0) (storeOf u old) after (B .count) e,
+  -- one more use is counted
+  counted-on : (g : ℕ) (after : Lent) → after .uses ≡ bumped (before .uses) g 1 → old .from + 1 ≤ new .from → Counted (after .uses) (new .from)
+  counted-on g after e h = subst (λ l. Counted l (new .from)) (sym e) (counted-bumped (before .uses) g 1 (old .from) (new .from) C h)
+
+  pub emit-moves : (g : RuleNo) (after : Lent) → Fits w (old .state .0) (Emit g) → Between (old .at) (old .count + at (blockAt w (g .0)) 2) (old .steps + 1) new →
+      after .output
+      ≡ take (old .count) (before .output) ++ blockOutput (blockAt w (g .0)) (storeOf u old) ++ drop (old .count + at (blockAt w (g .0)) 2) (before .output) →
+      after .uses ≡ bumped (before .uses) (g .0) 1 →
+      Moves w u (length (before .output)) old before (Emit g) new after × Beyond old (before .output) new (after .output)
+  emit-moves g after f B e c = (
+    λ ended d. on-as ended after false (B .going) (
+      advances-emit w u ended W old before P new g after d f (B .state) (B .from) (B .at) (B .count) (B .steps) e c,
+      counted-on (g .0) after c (omega (arith, f .2, P .depth, B .from)),
+    ),
+    beyond-put w u old (before .output) P new (g .0) (storeOf u old) (after .output) (B .count) e,
   )
 
-  pub default-moves : (after : List ℕ) → old .from < length u → fromWords w .default ≡ true →
+  pub default-moves : (after : Lent) → old .from < length u → fromWords w .default ≡ true →
       Between (old .from + 1) (old .count + at (blockAt w defaultNumber) 2) (old .steps + 3) new →
-      after ≡ take (old .count) before ++ blockOutput (blockAt w defaultNumber) (take 1 (drop (old .from) u)) ++ drop (old .count + at (blockAt w defaultNumber) 2) before →
-      Moves w u (length before) old before Back new after × Beyond old before new after
-  default-moves after some d B e = (
-    λ ended st. on-as ended after false (B .going) (advances-default w u ended W old before P new st some after d (B .state) (B .from) (B .at) (B .count) (B .steps) e .0),
-    beyond-put w u old before P new defaultNumber (take 1 (drop (old .from) u)) after (B .count) e,
+      after .output
+      ≡ take (old .count) (before .output) ++ blockOutput (blockAt w defaultNumber) (take 1 (drop (old .from) u))
+      ++ drop (old .count + at (blockAt w defaultNumber) 2) (before .output) →
+      after .uses ≡ bumped (before .uses) defaultNumber 1 →
+      Moves w u (length (before .output)) old before Back new after × Beyond old (before .output) new (after .output)
+  default-moves after some d B e c = (
+    λ ended st. on-as ended after false (B .going) (
+      advances-default w u ended W old before P new st some after d (B .state) (B .from) (B .at) (B .count) (B .steps) e c .0,
+      counted-on defaultNumber after c (omega (arith, B .from)),
+    ),
+    beyond-put w u old (before .output) P new defaultNumber (take 1 (drop (old .from) u)) (after .output) (B .count) e,
   )
 
   pub stop-moves : old .from < length u → fromWords w .default ≡ false → Halted Stopped (old .steps + 2) old new →
-      Moves w u (length before) old before Back new before × Beyond old before new before
+      Moves w u (length (before .output)) old before Back new before × Beyond old (before .output) new (before .output)
   stop-moves some d H = (
     λ ended st. on-as ended before true (H .done) (advances-stop w u ended W old before P new st some d (H .status) (H .state) (H .from) (H .at) (H .count) (H .steps)),
     (omega (arith, H .count), refl),
   )
 
   pub wait-moves : (ended : Bool) → Decides w u ended (old .state .0) (old .from) (old .at) Wait → Waits old new →
-      Advances w u ended (length before) old before (new .done) new before × Beyond old before new before
+      Advances w u ended (length (before .output)) old before (new .done) new before × Beyond old (before .output) new (before .output)
   wait-moves ended st H = (
     on-as ended before true (H .done) (advances-wait w u ended W old before P new st (H .status) (H .state) (H .from) (H .at) (H .count) (H .steps)),
     (omega (arith, H .count), refl),
   )
 
   pub close-moves : (ended : Bool) → Decides w u ended (old .state .0) (old .from) (old .at) Close → Halted Closed (old .steps + 1) old new →
-      Advances w u ended (length before) old before (new .done) new before × Beyond old before new before
+      Advances w u ended (length (before .output)) old before (new .done) new before × Beyond old (before .output) new (before .output)
   close-moves ended st H = (
     on-as ended before true (H .done) (advances-close w u ended W old before P new st (H .status) (H .state) (H .from) (H .at) (H .count) (H .steps)),
     (omega (arith, H .count), refl),
@@ -152,31 +169,19 @@ stands w u now a R true e f h = R .stuck e
 stands w u now a R false e f h = let k = f refl in omega arith
 
 -- something was read, and the text is not at its end
-pub read-more : (w u : List ℕ) (ended : Bool) (now : Ran) (output : List ℕ) (a : Ahead) → ReadsOn w u now a → Placed w u (length output) now →
-    a .stuck ≡ false → a .at < length u → Advances w u ended (length output) now output false (readTo now a) output
-read-more w u ended now output a R P e h =
-    let p = R .passes output P in
+pub read-more : (w u : List ℕ) (ended : Bool) (now : Ran) (has : Lent) (a : Ahead) → ReadsOn w u now a → Placed w u (length (has .output)) now →
+    Counted (has .uses) (now .from) → a .stuck ≡ false → a .at < length u → Advances w u ended (length (has .output)) now has false (readTo now a) has
+read-more w u ended now has a R P C e h =
+    let p = R .passes has P in
     let k = R .free e h in
-    (p .0, omega (arith, P .order, h), p .2 ended)
+    ((p .0, omega (arith, P .order, h), p .2 ended), C)
 
 -- what leads on after a passage leads on from before it
-pub advances-after : (w u : List ℕ) (ended : Bool) (room : ℕ) (old mid new : Ran) (before between after : List ℕ) (b : Bool) →
+pub advances-after : (w u : List ℕ) (ended : Bool) (room : ℕ) (old mid new : Ran) (before between after : Lent) (b : Bool) →
     Passes w u room old before mid between → Advances w u ended room mid between b new after → Advances w u ended room old before b new after
-advances-after w u ended room old mid new before between after true p f = λ r G. f r (p .2 ended r G)
-advances-after w u ended room old mid new before between after false p f = (f .0, omega (arith, p .1, f .1), λ r G. f .2 r (p .2 ended r G))
+advances-after w u ended room old mid new before between after true p f = λ r found G. f r found (p .2 ended r found G)
+advances-after w u ended room old mid new before between after false p f =
+    ((f .0 .0, omega (arith, p .1, f .0 .1), λ r found G. f .0 .2 r found (p .2 ended r found G)), f .1)
 
 pub beyond-join : (old mid new : Ran) (before between after : List ℕ) → Beyond old before mid between → Beyond mid between new after → Beyond old before new after
 beyond-join old mid new before between after a b = (omega (arith, a .0, b .0), beyond-on mid new before between after (a .1) b)
-
--- The first places of a table, which were filled with classes.
-
-pub few-places : (n : ℕ) (table : List ℕ) → n ≤ 256 → length (take n table) ≤ 65536
-few-places n table h =
-    let i : length (take n table) ≤ n = subst (λ k. k ≤ n) (sym (length-take n table)) (min-le-left n (length table)) in
-    omega arith
-
-pub front-classed : (w table front : List ℕ) (n : ℕ) → n ≤ length table → length front ≡ length (take n table) → Classed w front →
-    Classed w (take n (front ++ drop n table)) × (n ≤ length (front ++ drop n table))
-front-classed w table front n h e f =
-    let z : length front ≡ n = e ∙ length-take-le n table h in
-    (subst (Classed w) (sym (take-at front (drop n table) n z)) f, omega (arith, z, length-append front (drop n table)))

@@ -1,21 +1,27 @@
 -- Where held characters lead, and the session that a run leaves, as the code works them out.
+use mathlib.Core.Bool.{false}
 use mathlib.Core.List.{List}
 use mathlib.Core.Option.{Option, none, some}
+use mathlib.Core.Path.{_≡_}
 use Prim.Native.Nat.{ℕ, _+_, _*_, _-_, _≤_}
 use Rattle.meaning.specs.Direct.{limit}
 use Rattle.reckoning.specs.Calls.{receivedBy}
-use Rattle.session.specs.Keeping.{meantStatus}
+use Rattle.session.specs.Keeping.{meantStatus, together, sessionOf}
 use Rattle.session.specs.declared.kept.Path.{Path}
 use Rattle.session.specs.declared.kept.Path.the-variants.{To, Nowhere}
 use Rattle.session.specs.declared.run.Ran.{Ran}
+use Rattle.session.specs.declared.kept.Kept.{Kept}
+use Rattle.session.specs.declared.call.Answer.the-variants.{Refused}
+use Rattle.session.specs.declared.call.Called.{Called}
+use Rattle.session.specs.declared.call.Went.{Went}
 
 abbrev pub pathOf : Path → Option ℕ
 pathOf (To q) = some (q .0)
 pathOf Nowhere = none
 
--- the session s after a run over n more characters, with the characters that it holds
-abbrev pub laterOf : Rattle.reckoning.specs.Session.Session → ℕ → Ran → List ℕ → Rattle.reckoning.specs.Session.Session
-laterOf s n ran held =
+-- the session s after a run over n more characters, with the characters that it holds and the counts of uses
+abbrev pub laterOf : Rattle.reckoning.specs.Session.Session → ℕ → Ran → List ℕ → List ℕ → Rattle.reckoning.specs.Session.Session
+laterOf s n ran held uses =
     record {
       status = meantStatus (ran .status);
       state = ran .state .0;
@@ -24,14 +30,27 @@ laterOf s n ran held =
       received = receivedBy (meantStatus (ran .status)) (s .received + n) (s .received - s .count + ran .from);
       produced = s .produced + ran .count;
       steps = s .steps + ran .steps;
+      uses = uses;
     }
 
--- the numbers of a session and of a run over n more characters are so small that none of their sums overflows
-pub record Small (s : Rattle.reckoning.specs.Session.Session) (n : ℕ) (ran : Ran) : Type 0 where
-  pub held : s .count ≤ s .received
-  pub received : s .received + n ≤ limit
+-- what is kept after such a run, whatever the counts of uses before and after it
+abbrev pub Leaves : Kept → ℕ → Ran → List ℕ → Kept → Type 0
+Leaves found n ran held left = (before after : List ℕ) → sessionOf (together left after) ≡ laterOf (sessionOf (together found before)) n ran held after
+
+-- the numbers of what is kept and of a run over n more characters are so small that none of their sums overflows
+pub record Small (found : Kept) (n : ℕ) (ran : Ran) : Type 0 where
+  pub held : found .«held_count» ≤ found .received
+  pub received : found .received + n ≤ limit
   pub order : ran .from ≤ ran .at
   pub store : ran .at ≤ ran .from + 8
-  pub inside : ran .at ≤ s .count + n
-  pub produced : s .produced + ran .count ≤ 8 * limit
-  pub steps : s .steps + ran .steps ≤ 11 * (limit + 1)
+  pub inside : ran .at ≤ found .«held_count» + n
+  pub produced : found .tally .produced + ran .count ≤ 8 * limit
+  pub steps : found .tally .steps + ran .steps ≤ 11 * (limit + 1)
+
+-- a refused call
+abbrev pub refusing : ℕ → Kept → Went
+refusing n found = record { answer = Refused n; accepted = false; kept = found }
+
+-- what a call that is lent the counts of uses comes to, with the counts
+abbrev pub joined : Went → List ℕ → Called
+joined went uses = record { answer = went .answer; accepted = went .accepted; session = together (went .kept) uses }

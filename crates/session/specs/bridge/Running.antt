@@ -1,17 +1,22 @@
 -- The run over machine words as it is kept on the way: where the store lies in the text, and what the machine does next.
 use mathlib.Core.Bool.{Bool, true, false, _&&_, cond}
-use mathlib.Core.List.{List, [], _∷_}
+use mathlib.Core.List.{List, [], _∷_, _++_}
 use mathlib.Core.Path.{_≡_}
 use Prim.Native.Nat.{ℕ, suc, _+_, _*_, _-_, _≤_, _<_}
-use lib.Dec.{eqb}
+use lib.Dec.{T, eqb}
 use lib.ListN.{length, getD, take, drop}
 use Rattle.meaning.specs.Meaning.{Emission, textOf, covered}
+use Rattle.meaning.specs.Table.{defaultNumber}
+use Rattle.meaning.specs.Direct.{over}
 use Rattle.meaning.specs.Block.{at}
 use Rattle.automaton.specs.Classes.{classOf}
-use Rattle.automaton.specs.Sound.{expansionWord, classCount, stateCount, depthWord, acceptWord, acceptAtEndWord, used, blockAt}
+use Rattle.automaton.specs.Sound.{sound, expansionWord, classCount, stateCount, depthWord, acceptWord, acceptAtEndWord, used, blockAt}
 use Rattle.automaton.specs.Automaton.{fromWords}
-use Rattle.reckoning.specs.Machine.{Configuration, Step, Status, Open, Closed, halt, emit, read, rollBack, end, step, Ended, steps}
+use Rattle.reckoning.specs.Machine.{Configuration, Step, Status, Open, Closed, halt, emit, read, rollBack, end, step, Ended, steps, run, start}
+use Rattle.reckoning.specs.Session.{path, isAt}
+use Rattle.reckoning.specs.Uses.{usesAfter}
 use Rattle.session.specs.Keeping.{meantStatus}
+use Rattle.session.specs.bridge.Counting.{bumped, Counted}
 use Rattle.words.specs.declared.numbers.RuleNo.{RuleNo}
 use Rattle.words.specs.declared.numbers.StateNo.{StateNo}
 use Rattle.session.specs.declared.kept.Status.the-variants as Code
@@ -72,16 +77,25 @@ pub record Placed (w u : List ℕ) (room : ℕ) (now : Ran) : Type 0 where
   pub short : length u ≤ 1099511627784
   pub few : now .steps ≤ 11 * now .from + (now .at - now .from)
 
--- the run goes on to end as r; the log is what was emitted so far
-pub record Going (w u : List ℕ) (ended : Bool) (r : Ended) (now : Ran) (output : List ℕ) : Type 0 where
+-- what a run is lent: the output, and the counts of uses
+pub record Lent : Type 0 where
+  pub output : List ℕ
+  pub uses : List ℕ
+
+abbrev pub lent : List ℕ → List ℕ → Lent
+lent output uses = record { output = output; uses = uses }
+
+-- the run, which found these counts of uses, goes on to end as r; the log is what was emitted so far
+pub record Going (w u : List ℕ) (ended : Bool) (r : Ended) (found : List ℕ) (now : Ran) (has : Lent) : Type 0 where
   pub log : List Emission
   pub runs : (m : ℕ) → 11 * (length u + 1) ≤ m → steps (fromWords w) ended m (standing (storeOf u now) (drop (now .at) u) (now .state .0) log (now .steps)) ≡ r
   pub covers : covered log ≡ now .from
   pub count : now .count ≡ length (textOf (fromWords w .write) log)
-  pub text : take (now .count) output ≡ textOf (fromWords w .write) log
+  pub text : take (now .count) (has .output) ≡ textOf (fromWords w .write) log
+  pub uses : has .uses ≡ usesAfter found log
 
--- the run ended as r
-pub record EndsAs (w u : List ℕ) (r : Ended) (now : Ran) (output : List ℕ) : Type 0 where
+-- the run, which found these counts of uses, ended as r
+pub record EndsAs (w u : List ℕ) (r : Ended) (found : List ℕ) (now : Ran) (has : Lent) : Type 0 where
   pub status : meantStatus (now .status) ≡ r .status
   pub state : now .state .0 ≡ r .final .state
   pub order : now .from ≤ now .at
@@ -89,18 +103,25 @@ pub record EndsAs (w u : List ℕ) (r : Ended) (now : Ran) (output : List ℕ) :
   pub store : storeOf u now ≡ r .final .store
   pub covers : covered (r .final .log) ≡ now .from
   pub count : now .count ≡ length (textOf (fromWords w .write) (r .final .log))
-  pub text : take (now .count) output ≡ textOf (fromWords w .write) (r .final .log)
+  pub text : take (now .count) (has .output) ≡ textOf (fromWords w .write) (r .final .log)
+  pub uses : has .uses ≡ usesAfter found (r .final .log)
   pub steps : now .steps ≡ r .final .steps
 
 -- what is left to do of a run
 abbrev pub left : List ℕ → Ran → ℕ
 left u now = 9 * (length u - now .from) - (now .at - now .from)
 
+-- what was done led on
+abbrev pub Proceeds : List ℕ → List ℕ → Bool → ℕ → Ran → Lent → Ran → Lent → Type 0
+Proceeds w u ended room old before new after =
+    Placed w u room new
+    × (left u new < left u old)
+    × ((r : Ended) (found : List ℕ) → Going w u ended r found old before → Going w u ended r found new after)
+
 -- a turn led on or, where it is done, ended the run
-abbrev pub Advances : List ℕ → List ℕ → Bool → ℕ → Ran → List ℕ → Bool → Ran → List ℕ → Type 0
-Advances w u ended room old before true new after = (r : Ended) → Going w u ended r old before → EndsAs w u r new after
-Advances w u ended room old before false new after =
-    Placed w u room new × (left u new < left u old) × ((r : Ended) → Going w u ended r old before → Going w u ended r new after)
+abbrev pub Advances : List ℕ → List ℕ → Bool → ℕ → Ran → Lent → Bool → Ran → Lent → Type 0
+Advances w u ended room old before true new after = (r : Ended) (found : List ℕ) → Going w u ended r found old before → EndsAs w u r found new after
+Advances w u ended room old before false new after = Proceeds w u ended room old before new after × Counted (after .uses) (new .from)
 
 -- what stands beyond the characters written is as found
 abbrev pub Beyond : Ran → List ℕ → Ran → List ℕ → Type 0
@@ -157,9 +178,18 @@ readTo now a =
     }
 
 -- the run led on, whether or not the input has ended
-abbrev pub Passes : List ℕ → List ℕ → ℕ → Ran → List ℕ → Ran → List ℕ → Type 0
+abbrev pub Passes : List ℕ → List ℕ → ℕ → Ran → Lent → Ran → Lent → Type 0
 Passes w u room old before new after =
-    Placed w u room new × (left u new ≤ left u old) × ((ended : Bool) (r : Ended) → Going w u ended r old before → Going w u ended r new after)
+    Placed w u room new
+    × (left u new ≤ left u old)
+    × ((ended : Bool) (r : Ended) (found : List ℕ) → Going w u ended r found old before → Going w u ended r found new after)
+
+-- the run led on by writing defaults, whatever counts of uses it has, if they are then counted
+abbrev pub PassesByDefaults : List ℕ → List ℕ → Ran → List ℕ → Ran → List ℕ → Type 0
+PassesByDefaults w u old before new after =
+    (old .from ≤ new .from)
+    × ((uses : List ℕ) → length uses ≡ 33 →
+    Passes w u (length before) old (lent before uses) new (lent after (bumped uses defaultNumber (new .from - old .from))))
 
 -- the run stands before a character without a target, or at the text's end
 abbrev pub Stands : List ℕ → List ℕ → Bool → ℕ → ℕ → Type 0
@@ -169,12 +199,12 @@ Stands w u false q after = after ≡ length u
 -- the machine read on, up to a character without a target or the end of the part of the text where it was
 pub record ReadsOn (w u : List ℕ) (now : Ran) (a : Ahead) : Type 0 where
   pub onward : now .at ≤ a .at
-  pub passes : (output : List ℕ) → Placed w u (length output) now → Passes w u (length output) now output (readTo now a) output
+  pub passes : (has : Lent) → Placed w u (length (has .output)) now → Passes w u (length (has .output)) now has (readTo now a) has
   pub stuck : a .stuck ≡ true → Stands w u true (a .state .0) (a .at)
   pub free : a .stuck ≡ false → a .at < length u → now .at < a .at
 
 -- what is done where the machine's next step is this move
-abbrev pub Moves : List ℕ → List ℕ → ℕ → Ran → List ℕ → Move → Ran → List ℕ → Type 0
+abbrev pub Moves : List ℕ → List ℕ → ℕ → Ran → Lent → Move → Ran → Lent → Type 0
 Moves w u room old before v new after =
     (ended : Bool) → Decides w u ended (old .state .0) (old .from) (old .at) v → Advances w u ended room old before (new .done) new after
 
@@ -183,3 +213,16 @@ abbrev pub acceptNow : List ℕ → ℕ → Bool → Bool → ℕ
 acceptNow w q true ended = acceptWord w q
 acceptNow w q false true = acceptAtEndWord w q
 acceptNow w q false false = cond (used (acceptWord w q) && eqb (acceptWord w q) (acceptAtEndWord w q)) (acceptWord w q) 0
+
+-- what a run over a piece asks: sound words, few given characters, which lead to state q, room for all that may be written, and counted uses
+abbrev pub Runnable : List ℕ → List ℕ → List ℕ → ℕ → Lent → Type 0
+Runnable w given piece q has =
+    (T (sound w) × T (isAt q (path (fromWords w) 0 given)))
+    × (((length given ≤ 8) × (length given + length piece ≤ 1099511627784))
+    × ((expansionWord w * (length given + length piece) ≤ length (has .output)) × Counted (has .uses) 0))
+
+-- the run is the machine's, and what stands beyond the characters written is as found
+abbrev pub RunsTo : List ℕ → List ℕ → List ℕ → ℕ → Bool → Lent → Ran → Lent → Type 0
+RunsTo w given piece q ended found now has =
+    let r = run (fromWords w) ended (start given piece q) in
+    EndsAs w (given ++ piece) r (found .uses) now has × (has .output ≡ over (textOf (fromWords w .write) (r .final .log)) (found .output))

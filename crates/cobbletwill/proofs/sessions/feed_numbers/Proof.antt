@@ -1,12 +1,12 @@
 -- `cobbletwill::sessions::feed_numbers` meets its contract. Numbers with a status above 2 are refused by what `no_session` answers; of others
--- `feed_by_value` comes to what feed of their session comes to, and `hand_over` hands that over.
+-- `feed_kept` comes to what feed of their session comes to, and `hand_over` hands that over.
 use mathlib.Core.Path.{refl}
 use denote.Ref.{now}
 use borrow.Author.Needs.{needs}
 use Rattle.reckoning.specs.Session.{Session}
 use Rattle.reckoning.specs.Calls as Call
 use Rattle.reckoning.specs.Calls.{CallOutcome}
-use Rattle.session.specs.Keeping.{sessionOf}
+use Rattle.session.specs.Keeping.{together, sessionOf}
 use Rattle.session.specs.Contracts.{outcomeOf}
 use Rattle.cobbletwill.specs.Sessions.{feed}
 use Rattle.cobbletwill.proofs.Laws.Sessions.{refused-numbers, handed-over, unchanged}
@@ -25,20 +25,20 @@ returns : tie.Need-returns
 unfolding feed
 returns c =
     let s = entry (c .before .before) in
-    (λ e. refl, refused-numbers (call s) _ _ _ _ _ (c .before .if1 .taken) (c .no-session .ensures))
+    (λ e. refl, refused-numbers (call s) _ _ _ _ _ _ (c .before .if1 .taken) (c .no-session .ensures))
 
 returns-2 : tie.Need-returns-2
 unfolding feed
 returns-2 c =
     let called = c .before .before .before .before in
-    let from = called .before .before in
+    let from = called .before .before .before in
     let s = entry (from .before .before) in
-    let r = called .feed-by-value .result in
+    let r = called .feed-kept .result in
     let handed = c .hand-over .ensures in
     let small = from .before .if1 .left in (
-      unchanged (s .args .numbers) (from .session-from .result) r (c .hand-over .result) small (from .session-from .ensures) (called .feed-by-value .ensures .0) (handed .0) (handed .1 .1 .0),
-      handed-over (call s) _ _ _ _ _ _ _ (sessionOf (from .session-from .result)) (outcomeOf (r .answer) (r .session) _) small
-          (from .session-from .ensures) (called .feed-by-value .ensures .1) (handed .1 .0) (handed .1 .1 .0) (handed .1 .1 .1),
+      unchanged (s .args .numbers) (from .kept-from .result) _ _ r (c .hand-over .result) small (from .kept-from .ensures) (called .feed-kept .ensures .0) (handed .0) (handed .1 .1 .0),
+      handed-over (call s) _ _ _ _ _ _ _ _ (sessionOf (together (from .kept-from .result) (now (s .args .uses)))) (outcomeOf (r .answer) (together (r .kept) _) _) small
+          (from .kept-from .ensures (now (s .args .uses))) (called .feed-kept .ensures .1) (handed .1 .0) (handed .1 .1 .0) (handed .1 .1 .1),
     )
 
 pub feed-numbers-spec : {M : Type 1} → statement M

@@ -5,7 +5,7 @@ use Prim.Native.Nat.{ℕ}
 use native.Mathlib.Omega.{arith}
 use borrow.Author.Needs.{needs}
 use Rattle.reckoning.specs.Session.{Session}
-use Rattle.session.specs.Keeping.{sessionOf}
+use Rattle.session.specs.Keeping.{together, sessionOf}
 use Rattle.session.specs.bridge.Later.{laterOf}
 use Rattle.session.specs.bridge.Counting.{plus, countedBy, Addable}
 use Rattle.session.specs.declared.tally.Tally.{Tally}
@@ -23,6 +23,7 @@ counting s n t =
       received = n;
       produced = t .produced;
       steps = t .steps;
+      uses = s .uses;
     }
 
 cast-consumed : tie.Need-cast-consumed
@@ -52,13 +53,13 @@ of-run-requires c κs = search needs
 add-requires : tie.Need-add-requires
 add-requires c κs =
     let s = c .before .before .before .before .before .before .before .before in
-    subst (Addable (s .args .session .tally)) (sym (c .of-run .ensures)) (record { produced = omega (arith, s .pre .produced); steps = omega (arith, s .pre .steps) })
+    subst (Addable (s .args .kept .tally)) (sym (c .of-run .ensures)) (record { produced = omega (arith, s .pre .produced); steps = omega (arith, s .pre .steps) })
 
 returns : tie.Need-returns
 returns c =
     let a = c .before .before .before .before .before .before .before .before .before .args in
-    let t : c .add .result ≡ plus (a .session .tally) (countedBy (a .ran)) = c .add .ensures ∙ ap (plus (a .session .tally)) (c .before .of-run .ensures) in
-    λ i. counting (laterOf (sessionOf (a .session)) (a .size) (a .ran) (a .held)) (c .before .before .received-by .ensures i) (t i)
+    let t : c .add .result ≡ plus (a .kept .tally) (countedBy (a .ran)) = c .add .ensures ∙ ap (plus (a .kept .tally)) (c .before .of-run .ensures) in
+    λ before after i. counting (laterOf (sessionOf (together (a .kept) before)) (a .size) (a .ran) (a .held) after) (c .before .before .received-by .ensures i) (t i)
 
 pub later-spec : {M : Type 1} → statement M
 later-spec =

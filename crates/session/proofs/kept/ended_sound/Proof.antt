@@ -34,7 +34,7 @@ returns-3 c =
     let second = c .before .before in
     let first = second .before .before in
     let a = first .before .before .before .args in
-    ap (λ x. leb (a .session .tally .steps) (x * (a .consumed + 1))) (c .before .cost .ensures)
+    ap (λ x. leb (a .kept .tally .steps) (x * (a .consumed + 1))) (c .before .cost .ensures)
     ∙ sym (all-next _ (eq-eqb _ _ (first .if1 .left)) ∙ all-next _ (eq-eqb _ _ (second .if2 .left)) ∙ all-last _)
 
 pub ended-sound-spec : {M : Type 1} → statement M

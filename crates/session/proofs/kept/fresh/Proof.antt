@@ -6,6 +6,7 @@ use mathlib.Core.List.{[]}
 use Rattle.lists.specs.Lists.{pad}
 use Rattle.reckoning.specs.Session.{Session, fresh}
 use Rattle.reckoning.specs.Machine.{Open}
+use Rattle.reckoning.specs.Uses.{useCounts}
 use Rattle.session.specs.declared.tally.Tally.{Tally}
 use Rattle.session.proofs.kept.fresh.Statement.{statement}
 use Rattle.session.proofs.kept.fresh.Tie as tie
@@ -13,7 +14,16 @@ use Rattle.session.proofs.kept.fresh.Tie as tie
 -- a fresh session but for its tally
 abbrev withTally : Tally → Session
 withTally t =
-    record { status = Open; state = 0; held = pad 8 []; count = 0; received = 0; produced = t .produced; steps = t .steps }
+    record {
+      status = Open;
+      state = 0;
+      held = pad 8 [];
+      count = 0;
+      received = 0;
+      produced = t .produced;
+      steps = t .steps;
+      uses = pad useCounts [];
+    }
 
 returns : tie.Need-returns
 unfolding fresh pad

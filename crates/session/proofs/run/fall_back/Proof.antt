@@ -6,7 +6,7 @@ use mathlib.Core.Path.{_≡_, sym, subst, _∙_}
 use Prim.Native.Nat.{ℕ, _<_}
 use native.Mathlib.Omega.{arith}
 use borrow.Author.Needs.{needs}
-use Rattle.session.specs.bridge.Running.{Move, Back, Wait, Close, Decides, Stands, acceptNow}
+use Rattle.session.specs.bridge.Running.{lent, Move, Back, Wait, Close, Decides, Stands, acceptNow}
 use Rattle.session.proofs.Laws.Running.{of-not-true, of-not-false}
 use Rattle.session.proofs.Laws.Turning.{stuck-backs, pause-waits, end-backs, end-closes, wait-moves, close-moves}
 use Rattle.session.proofs.run.fall_back.Statement.{statement}
@@ -31,8 +31,9 @@ Decided s v ended = Decides (s .args .words .now) (text s) ended (s .args .run .
 
 roll-back-requires : tie.Need-roll-back-requires
 roll-back-requires c κs =
-    let s = c .before .before .before .before .before .before in
-    let i = standing s true (c .before .if1 .taken) .0 in
+    let t = c .before .before in
+    let s = t .before .before .before .before .before in
+    let i = standing s true (t .if1 .taken) .0 in
     (s .pre .0, omega (arith, i, s .pre .0 .1 .order))
 
 same-length : tie.Need-same-length
@@ -41,7 +42,7 @@ same-length c = search needs
 returns : tie.Need-returns
 returns c =
     let d = c .before .before in
-    let t = d .before .before in
+    let t = d .before .before .before in
     let s = t .before .before .before .before .before in
     let a = s .args in
     let e = t .if1 .taken in
@@ -66,12 +67,13 @@ returns-2 c =
     let decided : Decided s Wait (a .ended) =
     subst (Decided s Wait) (sym f)
     (pause-waits (a .words .now) (text s) (s .pre .0 .0) (a .run .state .0) (P .state) (a .run .from) (a .run .at) (standing s false e) (none s false false e f)) in
-    wait-moves (a .words .now) (text s) (s .pre .0 .0) (a .run) (a .output .now) P (c .waiting .result) (a .ended) decided (c .waiting .ensures)
+    wait-moves (a .words .now) (text s) (s .pre .0 .0) (a .run) (lent (a .output .now) (a .uses .now)) P (s .pre .0 .2) (c .waiting .result) (a .ended) decided (c .waiting .ensures)
 
 roll-back-requires-2 : tie.Need-roll-back-requires-2
 roll-back-requires-2 c κs =
-    let s = c .before .before .before .before .before .before .before .before .before in
-    let i : s .args .run .from < s .args .run .at = c .before .if3 .taken in
+    let t = c .before .before in
+    let s = t .before .before .before .before .before .before .before .before in
+    let i : s .args .run .from < s .args .run .at = t .if3 .taken in
     (s .pre .0, omega (arith, i, s .pre .0 .1 .inside))
 
 same-length-2 : tie.Need-same-length-2
@@ -80,7 +82,7 @@ same-length-2 c = search needs
 returns-3 : tie.Need-returns-3
 returns-3 c =
     let d = c .before .before in
-    let t = d .before .before in
+    let t = d .before .before .before in
     let l = t .before .before in
     let s = l .before .before .before .before .before .before in
     let a = s .args in
@@ -107,7 +109,7 @@ returns-4 c =
     let decided : Decided s Close (a .ended) =
     subst (Decided s Close) (sym f)
     (end-closes (a .words .now) (text s) (s .pre .0 .0) (a .run .state .0) (P .state) (a .run .from) (a .run .at) (standing s false e) (t .if3 .left) (none s false true e f)) in
-    close-moves (a .words .now) (text s) (s .pre .0 .0) (a .run) (a .output .now) P (c .halted .result) (a .ended) decided (c .halted .ensures)
+    close-moves (a .words .now) (text s) (s .pre .0 .0) (a .run) (lent (a .output .now) (a .uses .now)) P (s .pre .0 .2) (c .halted .result) (a .ended) decided (c .halted .ensures)
 
 pub fall-back-spec : {M : Type 1} → statement M
 fall-back-spec =

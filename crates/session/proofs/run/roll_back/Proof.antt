@@ -11,7 +11,8 @@ use Rattle.meaning.specs.Table.{defaultNumber}
 use Rattle.meaning.specs.Block.{at, blockOutput}
 use Rattle.automaton.specs.Sound.{blockAt}
 use Rattle.automaton.proofs.Laws.Words.{sound-header}
-use Rattle.session.specs.bridge.Running.{Between}
+use Rattle.session.specs.bridge.Running.{lent, Between}
+use Rattle.session.proofs.Laws.Counting.{counted-room}
 use Rattle.session.proofs.Laws.Running.{of-not-true, of-not-false, turn-room, default-words, default-block}
 use Rattle.session.proofs.Laws.Reading.{part-some, part-one}
 use Rattle.session.proofs.Laws.Turning.{stop-moves, default-moves}
@@ -34,7 +35,7 @@ returns c =
     let a = s .args in
     let w = a .words .now in
     let no : d .result ≡ false = of-not-true (d .result) (c .before .if1 .taken) in
-    stop-moves w (text s) (s .pre .0 .0) (a .run) (a .output .now) (s .pre .0 .1) (c .halted .result) (s .pre .1) (default-words w (d .result) (d .ensures) ∙ no)
+    stop-moves w (text s) (s .pre .0 .0) (a .run) (lent (a .output .now) (a .uses .now)) (s .pre .0 .1) (s .pre .0 .2) (c .halted .result) (s .pre .1) (default-words w (d .result) (d .ensures) ∙ no)
     (c .halted .ensures)
 
 unread-requires : tie.Need-unread-requires
@@ -56,14 +57,20 @@ write-default-requires c κs =
       (omega (arith, b .1, h .expansion), turn-room w (text s) (length (a .output .now)) (a .run) (s .pre .0 .1) (s .pre .1) (at (blockAt w defaultNumber) 2) (b .1)),
     )
 
+count-uses-requires : tie.Need-count-uses-requires
+count-uses-requires c κs =
+    let s = c .before .before .before .before .before .before .before .before .before .before .before .before in
+    let C = s .pre .0 .2 in
+    (C .whole, omega arith, counted-room (s .args .uses .now) _ 1 (s .args .run .from) C (omega (arith, s .pre .1, s .pre .0 .1 .short)))
+
 add-between : tie.Need-add-between
 add-between c =
-    let P = c .before .before .before .before .before .before .before .before .before .before .before .before .pre .0 .1 in
+    let P = c .before .before .before .before .before .before .before .before .before .before .before .before .before .before .pre .0 .1 in
     omega (arith, P .order, P .inside, P .short)
 
 add-between-2 : tie.Need-add-between-2
 add-between-2 c =
-    let P = c .before .before .before .before .before .before .before .before .before .before .before .before .before .pre .0 .1 in
+    let P = c .before .before .before .before .before .before .before .before .before .before .before .before .before .before .before .pre .0 .1 in
     omega (arith, P .few, P .order, P .inside, P .short)
 
 between-requires : tie.Need-between-requires
@@ -74,7 +81,8 @@ same-length c = search needs
 
 returns-2 : tie.Need-returns-2
 returns-2 c =
-    let d = c .before .before .before .before .before in
+    let counted = c .before .before .before in
+    let d = counted .before .before .before .before in
     let wrote = d .write-default .ensures in
     let part = d .before .before .unread in
     let e = d .before .before .before in
@@ -89,8 +97,9 @@ returns-2 c =
     let z : a .run .from + 0 ≡ a .run .from = omega arith in
     let one =
     part-one (a .given .now) (a .piece .now) (part .result .now) (a .run .from) (part .ensures) 0 some (omega (arith, s .pre .1)) ∙ ap (λ n. take 1 (drop n (text s))) z in
-    default-moves w (text s) (s .pre .0 .0) (a .run) (a .output .now) (s .pre .0 .1) (c .between .result) _ (s .pre .1) (default-words w (f .result) (f .ensures) ∙ yes) between
+    default-moves w (text s) (s .pre .0 .0) (a .run) (lent (a .output .now) (a .uses .now)) (s .pre .0 .1) (s .pre .0 .2) (c .between .result) _ (s .pre .1) (default-words w (f .result) (f .ensures) ∙ yes) between
     (wrote .1 ∙ ap (λ l. take (a .run .count) (a .output .now) ++ blockOutput b l ++ drop (a .run .count + at b 2) (a .output .now)) one)
+    (counted .count-uses .ensures)
 
 pub roll-back-spec : {M : Type 1} → statement M
 roll-back-spec =
@@ -101,6 +110,7 @@ roll-back-spec =
     returns
     unread-requires
     write-default-requires
+    count-uses-requires
     add-between
     add-between-2
     between-requires

@@ -11,7 +11,7 @@ use borrow.Author.Tests.{ltb-true, ltb-false}
 use lib.ListN.{length, length-append}
 use Rattle.words.specs.bridge.Readings.{wordOf}
 use Rattle.automaton.proofs.Laws.Words.{sound-header}
-use Rattle.session.specs.bridge.Running.{Emit, Fits, Decides, Placed, Passes, Stands, readTo}
+use Rattle.session.specs.bridge.Running.{Lent, lent, Emit, Fits, Decides, Placed, Passes, Stands, readTo}
 use Rattle.session.proofs.Laws.Running.{of-not-true, of-not-false}
 use Rattle.session.proofs.Laws.Turning.{rule-decides, stands, read-more, advances-after}
 use Rattle.session.proofs.run.turn.Statement.{statement}
@@ -23,11 +23,15 @@ begin d = d .before .before .before .before .before .before
 abbrev text : tie.Start → List ℕ
 text s = s .args .given .now ++ s .args .piece .now
 
+-- what the run is lent
+abbrev has : tie.Start → Lent
+has s = lent (s .args .output .now) (s .args .uses .now)
+
 -- the run that has read on
 passes : (d : tie.After-read-on) →
     let a = begin d .args in
-    Passes (a .words .now) (text (begin d)) (length (a .output .now)) (a .run) (a .output .now) (readTo (a .run) (d .read-on .result)) (a .output .now)
-passes d = d .read-on .ensures .passes (begin d .args .output .now) (begin d .pre .1)
+    Passes (a .words .now) (text (begin d)) (length (a .output .now)) (a .run) (has (begin d)) (readTo (a .run) (d .read-on .result)) (has (begin d))
+passes d = d .read-on .ensures .passes (has (begin d)) (begin d .pre .1 .0)
 
 here : (d : tie.After-read-on) →
     let a = begin d .args in
@@ -59,14 +63,16 @@ there j =
 read-on-requires : tie.Need-read-on-requires
 read-on-requires c κs = search needs
 
-sub-t13 : tie.Need-sub-t13
-sub-t13 c = search needs
+sub-t14 : tie.Need-sub-t14
+sub-t14 c = search needs
 
-add-t15 : tie.Need-add-t15
-add-t15 c = let P = here (c .before .before .before .before) in omega (arith, P .few, P .order, P .inside, P .short)
+add-t16 : tie.Need-add-t16
+add-t16 c = let P = here (c .before .before .before .before) in omega (arith, P .few, P .order, P .inside, P .short)
 
 add-if2 : tie.Need-add-if2
-add-if2 c = search needs
+add-if2 c =
+    let s = begin (c .before .before .before .before .before .before) in
+    omega (arith, s .pre .1 .0 .short, length-append (s .args .given .now) (s .args .piece .now))
 
 returns : tie.Need-returns
 returns c =
@@ -76,7 +82,7 @@ returns c =
     let a = s .args in
     let size = length-append (a .given .now) (a .piece .now) in
     let more = ltb-true (d .read-on .result .at) (length (a .given .now) + length (a .piece .now)) (c .if2 .taken) in (
-      read-more (a .words .now) (text s) (a .ended) (a .run) (a .output .now) (d .read-on .result) (d .read-on .ensures) (s .pre .1)
+      read-more (a .words .now) (text s) (a .ended) (a .run) (has s) (d .read-on .result) (d .read-on .ensures) (s .pre .1 .0) (s .pre .1 .1)
           (of-not-true (d .read-on .result .stuck) (t .if1 .taken)) (omega (arith, more, size)),
       (omega arith, refl),
     )
@@ -96,10 +102,11 @@ enum-told c = search needs
 
 fall-back-requires : tie.Need-fall-back-requires
 fall-back-requires c κs =
-    let e = c .before in
+    let e = c .before .before in
     let n = e .before .before in
     let j = n .before in
-    ((begin (reached j) .pre .0 .0, here (reached j)), (there j, sym (n .accept-now .ensures) ∙ ap wordOf (e .enum-told .given .1)))
+    let s = begin (reached j) in
+    ((s .pre .0 .0, here (reached j), s .pre .1 .1), (there j, sym (n .accept-now .ensures) ∙ ap wordOf (e .enum-told .given .1)))
 
 same-length : tie.Need-same-length
 same-length c = search needs
@@ -107,10 +114,10 @@ same-length c = search needs
 returns-2 : tie.Need-returns-2
 returns-2 c =
     let f = c .before .before .fall-back in
-    let d = reached (c .before .before .before .before .before .before .before) in
+    let d = reached (c .before .before .before .before .before .before .before .before) in
     let s = begin d in
     let a = s .args in (
-      advances-after (a .words .now) (text s) (a .ended) (length (a .output .now)) (a .run) (readTo (a .run) (d .read-on .result)) (f .result) (a .output .now) (a .output .now) _
+      advances-after (a .words .now) (text s) (a .ended) (length (a .output .now)) (a .run) (readTo (a .run) (d .read-on .result)) (f .result) (has s) (has s) _
           (f .result .done) (passes d) (f .ensures .0),
       f .ensures .1,
     )
@@ -132,9 +139,10 @@ ruled r =
 
 emit-rule-requires : tie.Need-emit-rule-requires
 emit-rule-requires c κs =
-    let r = c .before .before in
+    let r = c .before .before .before in
     let d = reached (r .before .before .before) in
-    ((begin d .pre .0 .0, here d), ruled r .1)
+    let s = begin d in
+    ((s .pre .0 .0, here d, s .pre .1 .1), ruled r .1)
 
 same-length-2 : tie.Need-same-length-2
 same-length-2 c = search needs
@@ -142,11 +150,11 @@ same-length-2 c = search needs
 returns-3 : tie.Need-returns-3
 returns-3 c =
     let f = c .before .before .emit-rule in
-    let r = c .before .before .before .before .before in
+    let r = c .before .before .before .before .before .before in
     let d = reached (r .before .before .before) in
     let s = begin d in
     let a = s .args in (
-      advances-after (a .words .now) (text s) (a .ended) (length (a .output .now)) (a .run) (readTo (a .run) (d .read-on .result)) (f .result) (a .output .now) (a .output .now) _
+      advances-after (a .words .now) (text s) (a .ended) (length (a .output .now)) (a .run) (readTo (a .run) (d .read-on .result)) (f .result) (has s) (has s) _
           (f .result .done) (passes d) (f .ensures .0 (a .ended) (ruled r .0)),
       f .ensures .1,
     )
@@ -156,8 +164,8 @@ turn-spec =
     tie.close
     (tie.spec
     read-on-requires
-    sub-t13
-    add-t15
+    sub-t14
+    add-t16
     add-if2
     returns
     accept-now-requires

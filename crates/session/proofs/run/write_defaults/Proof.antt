@@ -42,14 +42,14 @@ loop-holds c =
     let a = s .args in
     (omega arith, refl, defaulted-none (a .words .now) (text s) (a .run .at) (a .run .count) (a .run .steps) (a .output .now) (a .run .at + 0) (a .run .steps + 0) (omega arith) (omega arith))
 
-mul-class-in : tie.Need-mul-class-in Inv-loop μ-loop
-mul-class-in c = search needs
+mul-class-between : tie.Need-mul-class-between Inv-loop μ-loop
+mul-class-between c = search needs
 
-shared-slice-read-class-in : tie.Need-shared-slice-read-class-in Inv-loop μ-loop
-shared-slice-read-class-in c = search needs
+shared-slice-read-class-between : tie.Need-shared-slice-read-class-between Inv-loop μ-loop
+shared-slice-read-class-between c = search needs
 
-class-in-requires : tie.Need-class-in-requires Inv-loop μ-loop
-class-in-requires c κs = search needs
+class-between-requires : tie.Need-class-between-requires Inv-loop μ-loop
+class-between-requires c κs = search needs
 
 target-requires : tie.Need-target-requires Inv-loop μ-loop
 target-requires c κs =
@@ -57,7 +57,7 @@ target-requires c κs =
     let w = s .args .words .now in
     let h = sound-header w (s .pre .0 .0) in
     let x = getD (c .before .before .before .before .unread .result .now) (c .before .before .before .loop .read) 0 in
-    let e : c .class-in .result .0 ≡ classIn w x = c .class-in .ensures in
+    let e : c .class-between .result .0 ≡ classIn w x = c .class-between .ensures in
     (h .long, omega arith, omega (arith, h .few-classes, sound-class w (s .pre .0 .0) x, e))
 
 enum-told : tie.Need-enum-told Inv-loop μ-loop
@@ -113,7 +113,7 @@ leads c =
     let w = a .words .now in
     let x = part-at (a .given .now) (a .piece .now) (p .result .now) (a .run .at) (p .ensures) (l .read) t in (
       omega (arith, t, within s (p .result .now) (p .ensures) (l .read + 1) (omega (arith, t))),
-      subst (λ k. Leads (c .target .result) (targetWord w 0 k)) (c .before .class-in .ensures ∙ ap (classIn w) x) (c .target .ensures),
+      subst (λ k. Leads (c .target .result) (targetWord w 0 k)) (c .before .class-between .ensures ∙ ap (classIn w) x) (c .target .ensures),
     )
 
 returns : tie.Need-returns Inv-loop μ-loop
@@ -216,9 +216,9 @@ write-defaults-spec =
     μ-loop
     unread-requires
     loop-holds
-    mul-class-in
-    shared-slice-read-class-in
-    class-in-requires
+    mul-class-between
+    shared-slice-read-class-between
+    class-between-requires
     target-requires
     enum-told
     enum-told-2

@@ -1,0 +1,77 @@
+-- `call::finish_kept` meets its contract: a refusal changes nothing, and what was admitted goes on as `resume` ensures, with an empty piece.
+-- Assumes nothing.
+use mathlib.Core.Bool.{true}
+use mathlib.Core.List.{[]}
+use mathlib.Core.Path.{_≡_, sym, ap, _∙_}
+use borrow.Author.Needs.{needs}
+use lib.ListN.{length}
+use Rattle.meaning.specs.Refusal.{accepted}
+use Rattle.rules.specs.Answers.{checkOf}
+use Rattle.automaton.specs.Automaton.{fromWords}
+use Rattle.reckoning.specs.Calls.{admits, finish}
+use Rattle.session.specs.Keeping.{together, sessionOf}
+use Rattle.session.proofs.Laws.Resuming.{refused-comes, accepted-comes}
+use Rattle.session.proofs.call.finish_kept.Statement.{statement}
+use Rattle.session.proofs.call.finish_kept.Tie as tie
+
+abbrev start : tie.After-admit → tie.Start
+start d = d .before .before .before .before
+
+-- where the call was admitted
+admitted : (c : tie.After-enum-told) →
+    let a = start (c .before .before) .args in
+    admits (a .words .now) (sessionOf (together (a .kept) (a .uses .now))) 0 (length (a .output .now)) ≡ accepted tt
+admitted c = sym (c .before .before .admit .ensures .1) ∙ ap checkOf (c .enum-told .given .1)
+
+admit-requires : tie.Need-admit-requires
+admit-requires c κs = search needs
+
+enum-known-number : tie.Need-enum-known-number
+enum-known-number c = search needs
+
+refuse-requires : tie.Need-refuse-requires
+refuse-requires c κs = search needs
+
+enum-told : tie.Need-enum-told
+enum-told c = search needs
+
+slice-aggregate-resume : tie.Need-slice-aggregate-resume
+slice-aggregate-resume c = search needs
+
+resume-requires : tie.Need-resume-requires
+resume-requires c κs = let t = c .before .before .before in (t .before .before .admit .ensures .0, admitted t)
+
+returns : tie.Need-returns
+unfolding finish
+returns c =
+    let n = c .before .before in
+    let d = n .before .before in
+    let a = start d .args in
+    refused-comes (fromWords (a .words .now)) (a .kept) (a .uses .now) [] true (a .output .now) _ _ (c .refuse .result) (c .refuse .ensures)
+    (sym (d .admit .ensures .1) ∙ ap checkOf (n .number .given .1))
+
+same-length : tie.Need-same-length
+same-length c = search needs
+
+returns-2 : tie.Need-returns-2
+unfolding finish
+returns-2 c =
+    let done = c .before .before in
+    let t = done .before .before .before .before in
+    let a = start (t .before .before) .args in
+    accepted-comes (fromWords (a .words .now)) (a .kept) (a .uses .now) [] true (a .output .now) _ (done .resume .result) _ _
+    (done .resume .ensures .0) (done .resume .ensures .1) (admitted t)
+
+pub finish-kept-spec : {M : Type 1} → statement M
+finish-kept-spec =
+    tie.close
+    (tie.spec
+    admit-requires
+    enum-known-number
+    refuse-requires
+    enum-told
+    slice-aggregate-resume
+    resume-requires
+    returns
+    same-length
+    returns-2)

@@ -1,0 +1,96 @@
+// How often each rule and the default were used: the counts as a run changes them, and the test of those that a session brings.
+use words::numbers::RuleNo;
+use words::read::group_size;
+use words::read::has_default;
+use words::read::rule_count;
+ghost use mathlib.Core.Path.{_≡_};
+ghost use Prim.Native.Nat.{_+_, _*_, _≤_, _<_};
+ghost use lib.Dec.{T, eqb};
+ghost use lib.ListN.{length, getD, take, drop};
+ghost use Rattle.lists.specs.Lists.{all, sumBelow};
+ghost use Rattle.meaning.specs.Block.{at};
+ghost use Rattle.meaning.specs.Direct.{limit};
+ghost use Rattle.automaton.specs.Sound.{ruleCount, blockAt, sound};
+ghost use Rattle.reckoning.specs.Uses.{soundUses};
+ghost use Rattle.session.specs.bridge.Counting.{bumped, restOf, less};
+
+// The group was used so many times more.
+pub fn count_uses(uses: &mut [u64; 33], group: RuleNo, times: u64)
+    requires { ⌜ (length (now uses) ≡ 33) × (group .0 < 33) × (getD (now uses) (group .0) 0 + times < 18446744073709551616) ⌝ }
+    ensures { λ _. ⌜ now (uses .exit) ≡ bumped (now (uses .entry)) (group .0) times ⌝ }
+{
+    let place = group.0 as usize;
+    uses[place] += times;
+}
+
+// The counts of the rules from `rules` on, which the machine lacks, are 0. They are joined bit by bit, without a branch for each.
+fn others_unused(uses: &[u64; 33], rules: usize) -> bool
+    requires { ⌜ (length (now uses) ≡ 33) × (rules ≤ 32) ⌝ }
+    ensures { λ r. ⌜ r ≡ all (eqb 0) (drop rules (take 32 (now (uses .entry)))) ⌝ }
+{
+    let mut joined: u64 = 0;
+    let mut i = rules;
+    while i < 32 {
+        joined = joined | uses[i];
+        i += 1;
+    }
+    joined == 0
+}
+
+// What is left of a number of characters without those that were taken, if they were as many.
+pub enum Rest {
+    Left(u64),
+    TooMany,
+}
+
+// Without those that a rule of so many characters took in so many uses. The product is made only where it can't overflow.
+fn without_rule(left: u64, times: u64, size: u64) -> Rest
+    requires { ⌜ (left ≤ limit) × (1 ≤ size) × (size ≤ 8) ⌝ }
+    ensures { λ r. ⌜ restOf r ≡ less left (times * size) ⌝ }
+{
+    if times > left {
+        return Rest::TooMany;
+    }
+    let taken = times * size;
+    if taken > left {
+        return Rest::TooMany;
+    }
+    Rest::Left(left - taken)
+}
+
+// Without those that all the rules took: "the sum over rules of count times K".
+fn without_rules(words: &[u16], uses: &[u64; 33], consumed: u64) -> Rest
+    requires { ⌜ T (sound (now words)) × (length (now uses) ≡ 33) × (consumed ≤ limit) ⌝ }
+    ensures { λ r. ⌜ restOf r
+        ≡ less consumed (sumBelow (ruleCount (now (words .entry))) (λ g. at (now (uses .entry)) g * at (blockAt (now (words .entry)) g) 0)) ⌝ }
+{
+    let rules = rule_count(words);
+    let mut left = consumed;
+    let mut rule: usize = 0;
+    while rule < rules {
+        let size = group_size(words, RuleNo(rule as u16)) as u64;
+        let Rest::Left(rest) = without_rule(left, uses[rule], size) else {
+            return Rest::TooMany;
+        };
+        left = rest;
+        rule += 1;
+    }
+    Rest::Left(left)
+}
+
+// The counts are sound for so many characters consumed.
+pub fn uses_sound(words: &[u16], uses: &[u64; 33], consumed: u64) -> bool
+    requires { ⌜ T (sound (now words)) × (length (now uses) ≡ 33) × (consumed ≤ limit) ⌝ }
+    ensures { λ r. ⌜ r ≡ soundUses (now (words .entry)) (now (uses .entry)) consumed ⌝ }
+{
+    let Rest::Left(left) = without_rules(words, uses, consumed) else {
+        return false;
+    };
+    if left != uses[32] {
+        return false;
+    }
+    if !others_unused(uses, rule_count(words)) {
+        return false;
+    }
+    has_default(words) || uses[32] == 0
+}
