@@ -1,4 +1,4 @@
-// The counts of a session, and those of a run.
+// The characters and steps that a session has counted, and those of a run. How often each rule was used stands in `uses`.
 use crate::run::Ran;
 ghost use mathlib.Core.Path.{_≡_};
 ghost use Rattle.session.specs.bridge.Counting.{none, plus, countedBy, Addable};
