@@ -1,5 +1,6 @@
 pub mod Opened
 pub mod Good
+pub mod Inserting
 pub mod Classes
 pub mod First
 pub mod Levels
@@ -19,6 +20,8 @@ pub mod Digits
 pub mod Compile
 pub mod Sets
 pub mod Gathering
+pub mod Placing
+pub mod Starts
 pub mod Checking
 pub mod Reading
 pub mod Meeting

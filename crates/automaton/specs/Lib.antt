@@ -6,4 +6,5 @@ pub mod Sound
 pub mod Automaton
 pub mod Claims
 pub mod Digits
+pub mod Starts
 pub mod bridge

@@ -1,16 +1,16 @@
 // The class starts of a table, put into their places in the machine words as they are met.
 ghost use mathlib.Core.Bool.{false, _&&_};
-ghost use mathlib.Core.List.{[], _∷_, _++_};
+ghost use mathlib.Core.List.{List, [], _∷_, _++_};
 ghost use mathlib.Core.Path.{_≡_};
 ghost use Prim.Native.Nat.{_+_, _-_, _*_, _≤_, _<_};
 ghost use lib.Dec.{eqb, ltb};
 ghost use lib.ListN.{length, take, drop};
-ghost use Rattle.lists.specs.Lists.{flatMap, pad};
+ghost use Rattle.meaning.specs.Table.{Range};
 ghost use Rattle.meaning.specs.Block.{at, blockSize};
 ghost use Rattle.meaning.specs.bridge.Flat.{slotsFrom, loadedSize, rangesAt, patternAt, tableAt, Flat};
-ghost use Rattle.automaton.specs.Classes.{edges, starts};
-ghost use Rattle.automaton.specs.bridge.Gathered.{placeIn, rangeFrom, Gathers, Gathered};
-ghost use Rattle.automaton.specs.Layout.{classesFrom, statesFrom};
+ghost use Rattle.automaton.specs.Layout.{classesFrom, wordCount};
+ghost use Rattle.automaton.specs.Starts.{patternRanges, rangesOf, holding, meet, meetRange, meetRanges, InPlace};
+ghost use Rattle.automaton.specs.bridge.Gathered.{placeIn, rangeFrom};
 use rules::layout::BLOCK;
 use rules::layout::RANGES_FROM;
 use rules::layout::SLOTS_FROM;
@@ -61,8 +61,8 @@ fn put_in(words: &mut [u16], place: usize, end: usize, start: u16)
 
 // `start` is put among the `count` starts met so far, unless it is there; the number after it. A count of 65 stands for more than fit.
 fn insert_start(words: &mut [u16], count: usize, start: u16) -> usize
-    requires { ⌜ (statesFrom ≤ length (now words)) × (count ≤ 65) ⌝ }
-    ensures { λ r. ⌜ Gathers (start ∷ []) (now (words .entry)) count (now (words .exit)) r ⌝ }
+    requires { ⌜ (wordCount ≤ length (now words)) × (count ≤ 65) ⌝ }
+    ensures { λ r. ⌜ holding (now (words .exit)) r ≡ meet start (holding (now (words .entry)) count) ⌝ }
 {
     if count > 64 {
         return 65;
@@ -78,10 +78,14 @@ fn insert_start(words: &mut [u16], count: usize, start: u16) -> usize
     count + 1
 }
 
-// The edges of the range whose two numbers start at `i`.
+// The range whose two numbers start at `i` is met. After it, whatever ranges were met before, the words from 6 are 0 and the starts met so far,
+// rising and without repeats, with zeros behind, until a 65th (request [3]).
 fn gather_range(loaded: &[u16], i: usize, words: &mut [u16], count: usize) -> usize
-    requires { ⌜ (i + 2 ≤ length (now loaded)) × (statesFrom ≤ length (now words)) × (count ≤ 65) ⌝ }
-    ensures { λ r. ⌜ Gathers (edges (rangeFrom (now (loaded .entry)) i)) (now (words .entry)) count (now (words .exit)) r ⌝ }
+    requires { ⌜ (i + 2 ≤ length (now loaded)) × (wordCount ≤ length (now words)) × (count ≤ 65) ⌝ }
+    ensures met { λ r. ⌜ holding (now (words .exit)) r ≡ meetRange (rangeFrom (now (loaded .entry)) i) (holding (now (words .entry)) count) ⌝ }
+    ensures in_place { λ r.
+        ⌜ ((rs : List Range) → InPlace rs (holding (now (words .entry)) count) →
+        InPlace (rs ++ rangeFrom (now (loaded .entry)) i ∷ []) (holding (now (words .exit)) r)) ⌝ }
 {
     let lowest = loaded[i];
     let highest = loaded[i + 1];
@@ -92,12 +96,12 @@ fn gather_range(loaded: &[u16], i: usize, words: &mut [u16], count: usize) -> us
     met
 }
 
-// The edges of a place's ranges: position p of group g has place 8 g + p.
+// The ranges of a place are met: position p of group g has place 8 g + p.
 fn gather_place(loaded: &[u16], place: usize, words: &mut [u16], count: usize) -> usize
     requires { ⌜ (place < 33 * 8) × (length (now loaded) ≡ loadedSize) × (at (now loaded) (slotsFrom + place) ≤ 4) ⌝ }
-    requires { ⌜ (statesFrom ≤ length (now words)) × (count ≤ 65) ⌝ }
+    requires { ⌜ (wordCount ≤ length (now words)) × (count ≤ 65) ⌝ }
     ensures { λ r.
-        ⌜ Gathers (flatMap edges (rangesAt (now (loaded .entry)) place)) (now (words .entry)) count (now (words .exit)) r ⌝ }
+        ⌜ holding (now (words .exit)) r ≡ meetRanges (rangesAt (now (loaded .entry)) place) (holding (now (words .entry)) count) ⌝ }
 {
     let number = loaded[SLOTS_FROM + place] as usize;
     let mut met = count;
@@ -109,13 +113,14 @@ fn gather_place(loaded: &[u16], place: usize, words: &mut [u16], count: usize) -
     met
 }
 
-// The edges of a rule's ranges.
+// A rule's ranges are met, position by position.
 fn gather_rule(loaded: &[u16], rule: RuleNo, words: &mut [u16], count: usize) -> usize
     requires { ⌜ Flat (now loaded) × (rule .0 < 32) ⌝ }
-    requires { ⌜ (statesFrom ≤ length (now words)) × (count ≤ 65) ⌝ }
+    requires { ⌜ (wordCount ≤ length (now words)) × (count ≤ 65) ⌝ }
     ensures { λ r.
-        ⌜ Gathers (flatMap (flatMap edges) (patternAt (now (loaded .entry)) (rule .0) (at (now (loaded .entry)) (blockSize * rule .0))))
-        (now (words .entry)) count (now (words .exit)) r ⌝ }
+        ⌜ holding (now (words .exit)) r
+        ≡ meetRanges (patternRanges (patternAt (now (loaded .entry)) (rule .0) (at (now (loaded .entry)) (blockSize * rule .0))))
+        (holding (now (words .entry)) count) ⌝ }
 {
     let group = rule.0 as usize;
     let size = loaded[BLOCK * group] as usize;
@@ -128,13 +133,13 @@ fn gather_rule(loaded: &[u16], rule: RuleNo, words: &mut [u16], count: usize) ->
     met
 }
 
-// The class starts of the table go to the words from word 6 on, which are 0; their number, and 65 for more than 64.
+// The table's ranges are met, rule by rule: their starts go to the words from word 6 on, where 0 stands as the first. Their number, and 65 for more
+// than 64.
 pub fn gather_starts(loaded: &[u16], rules: usize, words: &mut [u16]) -> usize
     requires { ⌜ Flat (now loaded) × (rules ≤ 32) ⌝ }
-    requires { ⌜ (statesFrom ≤ length (now words)) × (take 64 (drop classesFrom (now words)) ≡ pad 64 []) ⌝ }
+    requires { ⌜ wordCount ≤ length (now words) ⌝ }
     ensures { λ r.
-        ⌜ Gathered (starts (tableAt (now (loaded .entry)) rules false))
-        (now (words .entry)) (now (words .exit)) r ⌝ }
+        ⌜ holding (now (words .exit)) r ≡ meetRanges (rangesOf (tableAt (now (loaded .entry)) rules false)) (holding (now (words .entry)) 1) ⌝ }
 {
     let mut met: usize = 1;
     let mut rule = RuleNo(0);

@@ -1,20 +1,22 @@
 -- A character and the start of its class lie in the same ranges; the class starts rise from 0.
 -- Each edge of a range is a start, so none lies above the class start and not above the character.
 use mathlib.Core.Bool.{_&&_, _||_, cond}
-use mathlib.Core.List.{List, [], _∷_, List·Memᴰ, List·Memᴰ·head, List·Memᴰ·tail, List·Memᴰ·not-nil, List·Memᴰ·cases-cons}
-use mathlib.Core.Logic.{⊎-elim, _≢_}
+use mathlib.Core.List.{List, [], _∷_, List·Memᴰ, List·Memᴰ·head, List·Memᴰ·not-nil, List·Memᴰ·cases-cons}
+use mathlib.Core.Logic.{⊎-elim}
 use mathlib.Core.Path.{_≡_, refl, sym, ap₂, subst}
 use Prim.Native.Nat.{ℕ, zero, suc, pred, _+_, _≤_, _<_}
 use native.Mathlib.Omega.{arith}
-use lib.Dec.{leb, ltb, eqb, leb→le, le→leb, nleb→lt, ltb→lt, lt→ltb, nltb→le, eqb→eq}
+use lib.Dec.{leb, ltb, leb→le, le→leb, nleb→lt, lt→ltb}
 use lib.ListN.{length, getD}
 use Rattle.lists.specs.Lists.{Each, count, fold, flatMap}
-use Rattle.lists.proofs.Laws.Tests.{split, of-cond, test-eq, of-T, neqb→ne}
+use Rattle.lists.proofs.Laws.Tests.{split, of-cond, test-eq, of-T}
 use Rattle.lists.proofs.Laws.Each.{each-front, each-back, each-weaken, each-at, each-getD, each-anywhere, each-flatMap}
 use Rattle.lists.proofs.Laws.Members.{mem-getD}
 use Rattle.lists.proofs.Laws.Sets.{count-length}
 use Rattle.meaning.specs.Table.{Range, Table, within, inRanges, ruleAt, everyCharacter}
 use Rattle.automaton.specs.Classes.{insert, edges, allEdges, starts, classOf}
+use Rattle.automaton.specs.Starts.{Rising}
+use Rattle.automaton.proofs.Laws.Inserting.{insert-new, insert-old, rising-insert}
 
 -- what the class starts of a table are
 pub record Classed (t : Table) : Type 0 where
@@ -23,46 +25,10 @@ pub record Classed (t : Table) : Type 0 where
   pub rising : (k : ℕ) → suc k < length (starts t) → getD (starts t) k 0 < getD (starts t) (suc k) 0
   pub class-below : (c : ℕ) → classOf (starts t) c < length (starts t)
 
--- each number is above those before it
-abbrev pub Rising : List ℕ → Type 0
-Rising [] = Unit {0}
-Rising (y ∷ l) = Each (λ z. y < z) l × Rising l
-
 pub rising-at : (l : List ℕ) (k : ℕ) → Rising l → suc k < length l → getD l k 0 < getD l (suc k) 0
 rising-at [] k r h = absurd (omega arith)
 rising-at (y ∷ l) zero r h = each-getD (λ z. y < z) l 0 0 (r .0) (omega arith)
 rising-at (y ∷ l) (suc k) r h = rising-at l k (r .1) (omega arith)
-
--- inserting
-
-insert-new : (x : ℕ) (l : List ℕ) → List·Memᴰ x (insert x l)
-insert-new x [] = List·Memᴰ·head refl
-insert-new x (y ∷ l) =
-    of-cond (λ k. List·Memᴰ x k) (ltb x y) (x ∷ y ∷ l) (cond (eqb x y) (y ∷ l) (y ∷ insert x l)) (λ _. List·Memᴰ·head refl)
-    (λ _. of-cond (λ k. List·Memᴰ x k) (eqb x y) (y ∷ l) (y ∷ insert x l) (λ e. List·Memᴰ·head (eqb→eq x y e)) (λ _. List·Memᴰ·tail (insert-new x l)))
-
-insert-old : (x : ℕ) (l : List ℕ) {z : ℕ} → List·Memᴰ z l → List·Memᴰ z (insert x l)
-insert-old x [] m = absurd (List·Memᴰ·not-nil m)
-insert-old x (y ∷ l) {z} m =
-    of-cond (λ k. List·Memᴰ z k) (ltb x y) (x ∷ y ∷ l) (cond (eqb x y) (y ∷ l) (y ∷ insert x l)) (λ _. List·Memᴰ·tail m)
-    (λ _. of-cond (λ k. List·Memᴰ z k) (eqb x y) (y ∷ l) (y ∷ insert x l) (λ _. m)
-    (λ _. ⊎-elim (λ e. List·Memᴰ·head e) (λ r. List·Memᴰ·tail (insert-old x l r)) (List·Memᴰ·cases-cons m)))
-
-pub each-insert : (P : ℕ → Type 0) (x : ℕ) (l : List ℕ) → P x → Each P l → Each P (insert x l)
-each-insert P x [] h a = (h, tt)
-each-insert P x (y ∷ l) h a =
-    of-cond (Each P) (ltb x y) (x ∷ y ∷ l) (cond (eqb x y) (y ∷ l) (y ∷ insert x l)) (λ _. (h, a))
-    (λ _. of-cond (Each P) (eqb x y) (y ∷ l) (y ∷ insert x l) (λ _. a) (λ _. (a .0, each-insert P x l h (a .1))))
-
-rising-insert : (x : ℕ) (l : List ℕ) → Rising l → Rising (insert x l)
-rising-insert x [] r = (tt, tt)
-rising-insert x (y ∷ l) r =
-    of-cond Rising (ltb x y) (x ∷ y ∷ l) (cond (eqb x y) (y ∷ l) (y ∷ insert x l))
-    (λ t. let z : x < y = ltb→lt x y t in ((z, each-weaken (λ k. y < k) (λ k. x < k) l (λ k h. omega arith) (r .0)), r))
-    (λ n. of-cond Rising (eqb x y) (y ∷ l) (y ∷ insert x l) (λ _. r)
-    (λ e. let z : y ≤ x = nltb→le x y n in
-    let d : x ≢ y = neqb→ne x y e in
-    (each-insert (λ k. y < k) x l (omega arith) (r .0), rising-insert x l (r .1))))
 
 module _ (t : Table) where
   pub starts-rise : Rising (starts t)

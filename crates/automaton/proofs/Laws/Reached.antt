@@ -25,7 +25,8 @@ use Rattle.automaton.specs.States.{State, initial, acceptOf, longerRules
 use Rattle.automaton.specs.Automaton.{after, Leads, fromTable}
 use Rattle.automaton.specs.Claims.{fitsFirst, wordState, StatesOfWords}
 use Rattle.automaton.proofs.Laws.Good.{after-inside, stateAt}
-use Rattle.automaton.proofs.Laws.Classes.{startOf, class-member, each-insert}
+use Rattle.automaton.proofs.Laws.Classes.{startOf, class-member}
+use Rattle.automaton.proofs.Laws.Inserting.{each-insert}
 use Rattle.automaton.proofs.Laws.Levels.{IsRule, each-distinct, target-there, states-closed, successor-depth, numbered}
 use Rattle.automaton.proofs.Laws.States as laws
 

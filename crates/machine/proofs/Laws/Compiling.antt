@@ -34,10 +34,10 @@ use Rattle.rules.proofs.Laws.Converting.{of-read, is-shaped, is-narrow, is-refu
 use Rattle.automaton.specs.Classes.{starts}
 use Rattle.automaton.specs.States.{State, firstNumber, initial, acceptAtEndOf, acceptOf, successor, sameState, inhabited, distinct, nextLevel, levels, states, targetOf}
 use Rattle.automaton.specs.Layout.{wordCount, stateWords, targetWords, parts, words, blocksFrom, classesFrom, statesFrom, statesSize, targetsSize}
-use Rattle.automaton.specs.bridge.Gathered.{Gathered}
 use Rattle.automaton.specs.Compile.{CompileOutcome, small, compilable, compileBy, compile}
 use Rattle.machine.specs.bridge.Building.{longestAt, headerAt, wordsAt, builtBy, built}
-use Rattle.automaton.proofs.Laws.Gathering.{starts-bare}
+use Rattle.automaton.specs.Starts.{rangesOf}
+use Rattle.automaton.proofs.Laws.Gathering.{Gathered, same-starts, ranges-bare}
 use Rattle.automaton.proofs.Laws.Compile.{compile-answers}
 
 -- six stores
@@ -60,13 +60,16 @@ table-plain : (t : Table) → Shaped t → Narrow t → tableAt (loadedWords t) 
 unfolding tableAt
 table-plain t s w = ap (λ u. record { rules = u .rules; default = none }) (table-flat t s w)
 
+-- the ranges that the compiler meets are the table's
+pub ranges-loaded : (t : Table) → Shaped t → Narrow t → rangesOf (tableAt (loadedWords t) (length (t .rules)) false) ≡ rangesOf t
+ranges-loaded t s w = ap rangesOf (table-plain t s w) ∙ ranges-bare t
+
 module _ (t : Table) where
   rule-plain : (r : ℕ) → ruleAt (plain t) r ≡ bareGroup (ruleAt t r)
   rule-plain r = ruleAt-bare t r
 
   starts-plain : starts (plain t) ≡ starts t
-  unfolding starts
-  starts-plain = starts-bare t
+  starts-plain = same-starts (plain t) t (ranges-bare t)
 
   longest-plain : longest (plain t) ≡ longest t
   unfolding longest
@@ -170,12 +173,12 @@ module _ (w : List ℕ) (zeros : w ≡ pad wordCount [] ++ drop wordCount w) whe
 
   module _ (ss v : List ℕ) (n : ℕ) (g : Gathered ss w v n) where
     pub gathered-back : drop wordCount v ≡ drop wordCount w
-    gathered-back = drop-later statesFrom (wordCount - statesFrom) v w (g .back)
+    gathered-back = drop-later statesFrom (wordCount - statesFrom) v w (g .same .back)
 
     pub gathered-zero : (i : ℕ) → statesFrom ≤ i → i < blocksFrom → at v i ≡ 0
     gathered-zero i a b =
         let e : i ≡ statesFrom + (i - statesFrom) = omega arith in
-        ap (at v) e ∙ sym (getD-drop statesFrom v (i - statesFrom) 0) ∙ ap (λ l. at l (i - statesFrom)) (g .back) ∙ getD-drop statesFrom w (i - statesFrom) 0 ∙ ap (at w) (sym e) ∙ zero-at i (omega arith)
+        ap (at v) e ∙ sym (getD-drop statesFrom v (i - statesFrom) 0) ∙ ap (λ l. at l (i - statesFrom)) (g .same .back) ∙ getD-drop statesFrom w (i - statesFrom) 0 ∙ ap (at w) (sym e) ∙ zero-at i (omega arith)
 
     pub gathered-number : n ≤ 64 → n ≡ length ss
     gathered-number h = omega (arith, g .number)

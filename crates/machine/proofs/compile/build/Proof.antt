@@ -14,8 +14,8 @@ use Rattle.rules.proofs.Laws.Converting.{expansion-eight}
 use Rattle.automaton.specs.Classes.{starts}
 use Rattle.automaton.specs.States.{states}
 use Rattle.automaton.specs.Layout.{wordCount, blocksFrom}
-use Rattle.automaton.specs.bridge.Gathered.{Gathered}
 use Rattle.automaton.specs.bridge.Noted.{Kept}
+use Rattle.automaton.proofs.Laws.Gathering.{Gathered, gathered}
 use Rattle.machine.proofs.Laws.Compiling.{longest-eight, drop-later, zero-starts, gathered-back, gathered-zero, gathered-number, gathered-over, gathered-start, states-over, states-few, put-together, built-classes, built-states, built-words}
 use Rattle.machine.proofs.compile.build.Statement.{statement}
 use Rattle.machine.proofs.compile.build.Tie as tie
@@ -34,7 +34,11 @@ abbrev with-starts : tie.After-gather-starts → List ℕ
 with-starts g = g .gather-starts .last .1 .1 .0
 
 gathers : (g : tie.After-gather-starts) → Gathered (starts (table (start g))) (start g .args .words .now) (with-starts g) (g .gather-starts .result)
-gathers g = g .gather-starts .ensures
+gathers g =
+    let s = start g in
+    let w = s .args .words .now in
+    subst (λ k. Gathered (starts (table s)) w (k .words) (k .count)) (sym (g .gather-starts .ensures))
+    (gathered (table s) w (omega (arith, s .pre .1 .0)) (zero-starts w (s .pre .1 .1)))
 
 same-back : (g : tie.After-gather-starts) → drop wordCount (with-starts g) ≡ drop wordCount (start g .args .words .now)
 same-back g = gathered-back (start g .args .words .now) (start g .pre .1 .1) (starts (table (start g))) (with-starts g) (g .gather-starts .result) (gathers g)
@@ -61,12 +65,12 @@ kept b = b .build-states .ensures .1 .1
 long : (b : tie.After-build-states) → wordCount ≤ length (with-states b)
 long b =
     let g = before-states b in
-    subst (λ n. wordCount ≤ n) (sym (kept b .size ∙ gathers g .size)) (start g .pre .1 .0)
+    subst (λ n. wordCount ≤ n) (sym (kept b .size ∙ gathers g .same .size)) (start g .pre .1 .0)
 
 gather-starts-requires : tie.Need-gather-starts-requires
 gather-starts-requires c κs =
     let s = c .before .before .before in
-    (s .pre .0, (omega (arith, s .pre .1 .0), zero-starts (s .args .words .now) (s .pre .1 .1)))
+    (s .pre .0, s .pre .1 .0)
 
 clear-requires : tie.Need-clear-requires
 clear-requires c κs = search needs
@@ -100,7 +104,7 @@ build-states-requires c κs =
       s .pre .0 .0,
       (
         (s .pre .0 .1, gathered-number w z ss (with-starts g) n (gathers g) few, few, gathered-start w z ss (with-starts g) n (gathers g) (s .pre .1 .0) few),
-        (subst (λ m. wordCount ≤ m) (sym (gathers g .size)) (s .pre .1 .0), refl, gathered-zero w z ss (with-starts g) n (gathers g)),
+        (subst (λ m. wordCount ≤ m) (sym (gathers g .same .size)) (s .pre .1 .0), refl, gathered-zero w z ss (with-starts g) n (gathers g)),
       ),
     )
 

@@ -1,22 +1,28 @@
--- `gather::gather_rule` meets its contract. The invariant: the edges of the first p positions are gathered.
+-- `gather::gather_rule` meets its contract. The invariant: the ranges of the first p positions are met.
 -- The measure is the positions left. Assumes nothing.
-use mathlib.Core.Path.{_≡_}
-use Prim.Native.Nat.{_<_, _≤_, _+_, _-_, _*_}
+use mathlib.Core.List.{List}
+use mathlib.Core.Path.{_≡_, refl}
+use Prim.Native.Nat.{ℕ, _<_, _≤_, _+_, _-_, _*_}
 use native.Mathlib.Omega.{arith}
 use borrow.Author.Needs.{needs}
 use lib.ListN.{length}
-use Rattle.lists.specs.Lists.{flatMap, tabFrom}
+use Rattle.lists.specs.Lists.{tabFrom}
+use Rattle.meaning.specs.Table.{Range}
 use Rattle.meaning.specs.Block.{at, blockSize}
 use Rattle.meaning.specs.bridge.Flat.{patternAt, rangesAt}
-use Rattle.automaton.specs.Classes.{edges}
-use Rattle.automaton.specs.bridge.Gathered.{Gathers}
-use Rattle.automaton.proofs.Laws.Gathering.{gathers-next}
+use Rattle.automaton.specs.Starts.{patternRanges, holding, meetRanges}
+use Rattle.automaton.proofs.Laws.Gathering.{ranges-few, ranges-next}
 use Rattle.machine.proofs.gather.gather_rule.Statement.{statement}
 use Rattle.machine.proofs.gather.gather_rule.Tie as tie
 
+-- the ranges of each position
+abbrev ranges : List ℕ → ℕ → ℕ → List Range
+ranges loaded group p = rangesAt loaded (8 * group + p)
+
 abbrev Inv-loop : tie.InvT-loop
 Inv-loop loaded words₀ count group size met₀ p₀ words met p =
-    (p ≤ size) × (length words ≡ length words₀) × Gathers (flatMap (flatMap edges) (tabFrom 0 p (λ j. rangesAt loaded (8 * group + j)))) words₀ count words met
+    (p ≤ size) × (length words ≡ length words₀)
+    × (holding words met ≡ meetRanges (patternRanges (tabFrom 0 p (ranges loaded group))) (holding words₀ count))
 
 abbrev μ-loop : tie.MeasureT-loop
 μ-loop loaded words₀ count group size met₀ p₀ words met p = size - p
@@ -41,7 +47,7 @@ cast-size : tie.Need-cast-size Inv-loop μ-loop
 cast-size c = omega (arith, few (c .before .before .before .before))
 
 loop-holds : tie.Need-loop-holds Inv-loop μ-loop
-loop-holds c = search needs
+loop-holds c = (search needs, refl, refl)
 
 mul-gather-place : tie.Need-mul-gather-place Inv-loop μ-loop
 mul-gather-place c = search needs
@@ -53,7 +59,9 @@ gather-place-requires : tie.Need-gather-place-requires Inv-loop μ-loop
 gather-place-requires c κs =
     let s = c .before .before .before .before .before .before .before in
     let h : 8 * s .args .rule .0 + c .before .before .loop .p < 264 = omega (arith, few s) in
-    ((h, s .pre .0 .0 .long, s .pre .0 .0 .few (8 * s .args .rule .0 + c .before .before .loop .p) h), (search needs, search needs))
+    let l = c .before .before in
+    let few = ranges-few (patternRanges (tabFrom 0 (l .loop .p) (ranges (s .args .loaded .now) (s .args .rule .0)))) (holding (s .args .words .now) (s .args .count)) (l .loop .inv .2) (s .pre .1 .1) in
+    ((h, s .pre .0 .0 .long, s .pre .0 .0 .few (8 * s .args .rule .0 + l .loop .p) h), (search needs, few))
 
 add-p : tie.Need-add-p Inv-loop μ-loop
 add-p c = omega (arith, few (c .before .before .before .before .before .before .before .before .before .before))
@@ -65,7 +73,7 @@ loop-again : tie.Need-loop-again Inv-loop μ-loop
 loop-again c =
     let l = c .before .before .before .before .before in
     let a = l .before .before .before .before .before .args in
-    (search needs, search needs, gathers-next (flatMap edges) (λ j. rangesAt (a .loaded .now) (8 * a .rule .0 + j)) (l .loop .p) (l .loop .inv .2) (c .before .before .gather-place .ensures))
+    (search needs, search needs, ranges-next (λ rs. rs) (ranges (a .loaded .now) (a .rule .0)) (l .loop .p) (holding (a .words .now) (a .count)) (l .loop .inv .2) (c .before .before .gather-place .ensures))
 
 same-length : tie.Need-same-length Inv-loop μ-loop
 same-length c = search needs

@@ -1,9 +1,11 @@
 -- `gather::insert_start` meets its contract: there is no more room, or the start is there, or it is one too many, or it is put in.
 -- Assumes nothing.
 use Prim.Native.Nat.{_≤_, _<_}
+use Rattle.automaton.specs.Layout.{statesFrom}
+use lib.ListN.{length}
 use native.Mathlib.Omega.{arith}
 use borrow.Author.Needs.{needs}
-use Rattle.automaton.proofs.Laws.Gathering.{place-few, gathers-full, met-there, met-over, met-new}
+use Rattle.automaton.proofs.Laws.Placing.{place-few, met-full, met-there, met-over, met-new}
 use Rattle.machine.proofs.gather.insert_start.Statement.{statement}
 use Rattle.machine.proofs.gather.insert_start.Tie as tie
 
@@ -11,8 +13,15 @@ use Rattle.machine.proofs.gather.insert_start.Tie as tie
 few : (c : tie.After-place-of) → c .place-of .result ≤ c .before .before .before .before .args .count
 few c = let a = c .before .before .before .before .args in omega (arith, c .place-of .ensures, place-few (a .words .now) (a .count) (a .start))
 
+-- there is room for all starts, and the count is one of these
+room : (s : tie.Start) → statesFrom < length (s .args .words .now)
+room s = omega (arith, s .pre .0)
+
 returns : tie.Need-returns
-returns c = let a = c .before .before .args in gathers-full (a .words .now) (a .count) (a .start) (c .if1 .taken)
+returns c =
+    let s = c .before .before in
+    let a = s .args in
+    met-full (a .words .now) (a .count) (a .start) (room s) (s .pre .1) (c .if1 .taken)
 
 place-of-requires : tie.Need-place-of-requires
 place-of-requires c κs = search needs
@@ -32,8 +41,9 @@ same-length c = search needs
 returns-2 : tie.Need-returns-2
 returns-2 c =
     let t = c .before in
-    let a = t .before .before .before .before .before .before .args in
-    met-there (a .words .now) (a .count) (a .start) (t .before .before .place-of .result) (t .before .before .place-of .ensures) (t .stands-at .result) (t .stands-at .ensures)
+    let s = t .before .before .before .before .before .before in
+    let a = s .args in
+    met-there (a .words .now) (a .count) (a .start) (room s) (s .pre .1) (t .before .before .place-of .result) (t .before .before .place-of .ensures) (t .stands-at .result) (t .stands-at .ensures)
     (t .before .before .before .before .if1 .left) (c .if2 .taken)
 
 same-length-2 : tie.Need-same-length-2
@@ -42,8 +52,9 @@ same-length-2 c = search needs
 returns-3 : tie.Need-returns-3
 returns-3 c =
     let t = c .before .before in
-    let a = t .before .before .before .before .before .before .args in
-    met-over (a .words .now) (a .count) (a .start) (t .before .before .place-of .result) (t .before .before .place-of .ensures) (t .stands-at .result) (t .stands-at .ensures)
+    let s = t .before .before .before .before .before .before in
+    let a = s .args in
+    met-over (a .words .now) (a .count) (a .start) (room s) (s .pre .1) (t .before .before .place-of .result) (t .before .before .place-of .ensures) (t .stands-at .result) (t .stands-at .ensures)
     (c .if3 .taken) (c .before .if2 .left)
 
 add-put-in : tie.Need-add-put-in
@@ -64,10 +75,11 @@ same-length-3 c = search needs
 returns-4 : tie.Need-returns-4
 returns-4 c =
     let t = c .before .before .before .before .before .before in
-    let a = t .before .before .before .before .before .before .args in
+    let s = t .before .before .before .before .before .before in
+    let a = s .args in
     let h : a .count < 64 = omega (arith, t .before .before .before .before .if1 .left, c .before .before .before .before .if3 .left) in
-    met-new (a .words .now) (a .count) (a .start) (t .before .before .place-of .result) (t .before .before .place-of .ensures) (t .stands-at .result) (t .stands-at .ensures)
-    _ (t .before .before .before .before .before .before .pre .0) h (c .before .before .before .before .before .if2 .left) (c .before .before .put-in .ensures)
+    met-new (a .words .now) (a .count) (a .start) (room s) (s .pre .1) (t .before .before .place-of .result) (t .before .before .place-of .ensures) (t .stands-at .result) (t .stands-at .ensures)
+    _ h (c .before .before .before .before .before .if2 .left) (c .before .before .put-in .ensures)
 
 pub insert-start-spec : {M : Type 1} → statement M
 insert-start-spec =

@@ -5,7 +5,7 @@ use Prim.Native.Nat.{_≤_, _+_, _-_}
 use borrow.Author.Needs.{needs}
 use lib.ListN.{take, drop}
 use Rattle.automaton.specs.bridge.Gathered.{placeIn}
-use Rattle.automaton.proofs.Laws.Gathering.{place-start, place-further, place-found, place-end}
+use Rattle.automaton.proofs.Laws.Placing.{place-start, place-further, place-found, place-end}
 use Rattle.machine.proofs.gather.place_of.Statement.{statement}
 use Rattle.machine.proofs.gather.place_of.Tie as tie
 use Rattle.automaton.specs.Layout.{classesFrom}

@@ -7,7 +7,7 @@ use native.Mathlib.Omega.{arith}
 use borrow.Author.Needs.{needs}
 use lib.ListN.{set, length, getD, drop}
 use lib.Seq.{paste}
-use Rattle.automaton.proofs.Laws.Gathering.{move-start, move-next, move-ahead, move-end}
+use Rattle.automaton.proofs.Laws.Placing.{move-start, move-next, move-ahead, move-end}
 use Rattle.machine.proofs.gather.put_in.Statement.{statement}
 use Rattle.machine.proofs.gather.put_in.Tie as tie
 
