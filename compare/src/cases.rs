@@ -96,6 +96,30 @@ pub fn rules_apart(
     })
 }
 
+/// The table of another's first ranges, as many as asked: its last rule ends
+/// with the last of them. No group writes anything.
+pub fn first_ranges(table: &Table, count: usize) -> Table {
+    let mut left = count;
+    let mut first = |ranges: &Vec<Range>| {
+        let taken = ranges.len().min(left);
+        left -= taken;
+        ranges[..taken].to_vec()
+    };
+    let cut = |rule: &Group| {
+        let positions = rule.positions.iter().map(&mut first);
+        Group {
+            anchored: rule.anchored,
+            positions: positions.take_while(|ranges| !ranges.is_empty()).collect(),
+            outputs: Vec::new(),
+        }
+    };
+    let rules = table.rules.iter().map(cut);
+    Table {
+        rules: rules.take_while(|rule| rule.length() > 0).collect(),
+        default: None,
+    }
+}
+
 /// A random table with about 64 classes and 256 states, in the manner of
 /// [`large_table`]: some rules share a first character or are shorter, and some
 /// positions begin a class.

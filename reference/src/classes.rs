@@ -3,7 +3,7 @@
 use std::collections::BTreeSet;
 
 use crate::refusal::Refusal;
-use crate::table::Table;
+use crate::table::{Range, Table};
 
 /// The most classes of a compiled table.
 pub const MAX_CLASSES: usize = 64;
@@ -26,6 +26,14 @@ pub fn class_of(starts: &[u16], character: u16) -> ClassNo {
     ClassNo((not_above - 1) as u16)
 }
 
+/// "Class starts are 0, every range's lowest, and every highest + 1 up to
+/// 65535, without repeats, rising": those of some ranges.
+pub fn starts_of<'r>(ranges: impl IntoIterator<Item = &'r Range>) -> BTreeSet<u16> {
+    let edges = |range: &Range| [Some(range.low), range.high.checked_add(1)];
+    let starts = ranges.into_iter().flat_map(edges).flatten();
+    starts.chain([0]).collect()
+}
+
 /// The classes of a table.
 #[derive(Clone, Debug, PartialEq, Eq)]
 pub struct Classes {
@@ -33,19 +41,9 @@ pub struct Classes {
 }
 
 impl Classes {
-    /// "Class starts are 0, every range's lowest, and every highest + 1 up to
-    /// 65535, without repeats, rising"; a 65th is refused by 8.
+    /// The classes by the starts of all ranges; "a 65th class" is refused by 8.
     pub fn of(table: &Table) -> Result<Classes, Refusal> {
-        let ranges = table
-            .rules
-            .iter()
-            .flat_map(|rule| &rule.positions)
-            .flatten();
-        let starts: BTreeSet<u16> = ranges
-            .flat_map(|range| [Some(range.low), range.high.checked_add(1)])
-            .flatten()
-            .chain([0])
-            .collect();
+        let starts = starts_of(table.ranges());
         if starts.len() > MAX_CLASSES {
             return Err(Refusal::Classes);
         }

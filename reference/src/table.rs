@@ -222,6 +222,12 @@ impl Table {
         self.rules.iter().chain(&self.default)
     }
 
+    /// The ranges of the rules, as their records stand.
+    pub fn ranges(&self) -> impl Iterator<Item = &Range> {
+        let positions = self.rules.iter().flat_map(|rule| &rule.positions);
+        positions.flatten()
+    }
+
     /// L, the greatest K of the rules.
     pub fn longest(&self) -> usize {
         self.rules.iter().map(Group::length).max().unwrap_or(0)
