@@ -83,6 +83,8 @@ pub record StartsInPlace : Type 0 where
   -- "after each range met, until a 65th start, the words from 6 are 0 and the starts met so far, rising and without repeats, with zeros behind":
   -- after the first r ranges of a table, for every r
   pub after-each : (t : Table) (w : List ℕ) → Cleared w → (r : ℕ) → InPlace (take r (rangesOf t)) (meetRanges (take r (rangesOf t)) (holding w 1))
+  -- these words are on the way to those after all ranges, which the contract of the loop names: the others are met from there
+  pub on-the-way : (rs : List Range) (r : ℕ) (g : Gathering) → meetRanges rs g ≡ meetRanges (drop r rs) (meetRanges (take r rs) g)
   -- one range more, whatever was met before and whatever the words
   pub one-more : (rs : List Range) (r : Range) (g : Gathering) → wordCount ≤ length (g .words) → InPlace rs g → InPlace (rs ++ r ∷ []) (meetRange r g)
   -- "no list of them shall stand beside": nor elsewhere among the words

@@ -222,7 +222,7 @@ module _ (rs : List Range) (g : Gathering) (room : statesFrom < length (g .words
 
 -- ranges met after others
 
-ranges-then : (qs rs : List Range) (g : Gathering) → meetRanges (qs ++ rs) g ≡ meetRanges rs (meetRanges qs g)
+pub ranges-then : (qs rs : List Range) (g : Gathering) → meetRanges (qs ++ rs) g ≡ meetRanges rs (meetRanges qs g)
 ranges-then [] rs g = refl
 ranges-then (q ∷ qs) rs g = ranges-then qs rs (meetRange q g)
 

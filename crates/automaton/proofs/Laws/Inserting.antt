@@ -51,7 +51,7 @@ insert-old x (y ∷ l) {z} m =
     insert-cases x y l (List·Memᴰ z) (λ _. List·Memᴰ·tail m) (λ _. m)
     (λ _. ⊎-elim (λ e. List·Memᴰ·head e) (λ r. List·Memᴰ·tail (insert-old x l r)) (List·Memᴰ·cases-cons m))
 
-pub insert-only : (x : ℕ) (l : List ℕ) {z : ℕ} → List·Memᴰ z (insert x l) → (z ≡ x) ⊎ List·Memᴰ z l
+insert-only : (x : ℕ) (l : List ℕ) {z : ℕ} → List·Memᴰ z (insert x l) → (z ≡ x) ⊎ List·Memᴰ z l
 insert-only x [] m = inl (List·Memᴰ·eq-of-singleton m)
 insert-only x (y ∷ l) {z} m =
     insert-cases x y l (λ k. List·Memᴰ z k → (z ≡ x) ⊎ List·Memᴰ z (y ∷ l)) (λ _ i. List·Memᴰ·cases-cons i) (λ _ i. inr i)

@@ -2,20 +2,20 @@
 -- A range adds its edges to the members and leaves the list rising, and the words hold the list; two rising lists of the same members are one.
 use mathlib.Core.List.{List, [], _∷_, _++_, append-nil, append-assoc, List·Memᴰ, List·Memᴰ·head, List·Memᴰ·tail, List·Memᴰ·not-nil, List·Memᴰ·cases-cons, List·Memᴰ·eq-of-singleton, List·Memᴰ·append-cases, Memᴰ·append-left, Memᴰ·append-right}
 use mathlib.Core.Logic.{_⊎_, inl, inr, ⊎-elim}
-use mathlib.Core.Path.{_≡_, refl, sym, subst, _∙_}
+use mathlib.Core.Path.{_≡_, refl, sym, ap, subst, _∙_}
 use Prim.Native.Nat.{ℕ, suc, _+_, _≤_}
 use native.Mathlib.Numerals.{add-one}
 use native.Mathlib.Omega.{arith}
 use lib.Dec.{ltb, ltb→lt, nltb→le}
-use lib.ListN.{length, take}
+use lib.ListN.{length, take, drop, take-append-drop}
 use Rattle.lists.specs.Lists.{flatMap}
 use Rattle.lists.proofs.Laws.Tests.{of-cond}
 use Rattle.meaning.specs.Table.{Range}
 use Rattle.automaton.specs.Classes.{edges, starts}
 use Rattle.automaton.specs.Layout.{wordCount}
-use Rattle.automaton.specs.Starts.{rangesOf, Gathering, holding, meetRange, IsStart, StartsMet, InPlace, StartsInPlace}
+use Rattle.automaton.specs.Starts.{rangesOf, Gathering, holding, meetRange, meetRanges, IsStart, StartsMet, InPlace, StartsInPlace}
 use Rattle.automaton.proofs.Laws.Inserting.{insertAll, insertAll-append, all-new, all-old, all-only, all-rising, rising-one}
-use Rattle.automaton.proofs.Laws.Gathering.{Holds, range-holds, ranges-hold, ranges-same, zero-holds, starts-in-turn}
+use Rattle.automaton.proofs.Laws.Gathering.{Holds, range-holds, ranges-hold, ranges-same, ranges-then, zero-holds, starts-in-turn}
 
 -- the edges of a range
 module _ (r : Range) (x : ℕ) where
@@ -78,6 +78,7 @@ pub starts-in-place : StartsInPlace
 starts-in-place = record {
   after-each = λ t w c r. let rs = take r (rangesOf t) in
       in-place (met-all [] rs (0 ∷ []) met-zero) (ranges-hold rs (holding w 1) (omega (arith, c .room)) (0 ∷ []) (zero-holds w (c .zeros)));
+  on-the-way = λ rs r g. ap (λ k. meetRanges k g) (sym (take-append-drop r rs)) ∙ ranges-then (take r rs) (drop r rs) g;
   one-more = λ rs r g room p.
       in-place (met-next rs r (p .starts) (p .met)) (range-holds r (p .starts) g (omega arith) (record { number = p .count; kept = p .words }));
   nowhere-else = λ rs g room. ranges-same rs g (omega arith);
