@@ -18,7 +18,7 @@ use Rattle.meaning.specs.Table.{Range, Group, Table}
 use Rattle.meaning.proofs.Laws.Bare.{bareGroup, bare}
 use Rattle.automaton.specs.Classes.{insert, edges, allEdges, starts}
 use Rattle.automaton.specs.Layout.{classesFrom, statesFrom}
-use Rattle.automaton.specs.Starts.{patternRanges, rangesOf, Gathering, holding, withStarts, meet, meetRange, meetRanges, SameElsewhere}
+use Rattle.automaton.specs.Starts.{patternRanges, rangesOf, Gathering, holding, withStarts, meet, meetRange, meetRanges, SameElsewhere, Cleared}
 use Rattle.automaton.proofs.Laws.Inserting.{length-insert, insertAll, insertAll-fold}
 
 -- parts of lists
@@ -289,20 +289,22 @@ pub starts-in-turn : (t : Table) → starts t ≡ insertAll (flatMap edges (rang
 unfolding starts
 starts-in-turn t = sym (insertAll-fold (flatMap edges (rangesOf t)) (0 ∷ []) ∙ ap (fold insert (0 ∷ [])) (edges-of-ranges t))
 
--- 0 is a start of words that are 0
-pub zero-holds : (w : List ℕ) → take 64 (drop classesFrom w) ≡ pad 64 [] → Holds (0 ∷ []) (holding w 1)
+-- 0 is a start of cleared words
+pub zero-holds : (w : List ℕ) → Cleared w → Holds (0 ∷ []) (holding w 1)
 unfolding pad
-zero-holds w zeros = record { number = refl; kept = λ _. zeros }
+zero-holds w c = record { number = refl; kept = λ _. c .zeros }
 
-pub gathered : (t : Table) (w : List ℕ) → statesFrom < length w → take 64 (drop classesFrom w) ≡ pad 64 [] →
-    let g = meetRanges (rangesOf t) (holding w 1) in Gathered (starts t) w (g .words) (g .count)
-gathered t w room zeros = record { number = held .number; filled = whole; same = elsewhere }
+pub gathered : (t : Table) (w : List ℕ) → Cleared w → let g = meetRanges (rangesOf t) (holding w 1) in Gathered (starts t) w (g .words) (g .count)
+gathered t w c = record { number = held .number; filled = whole; same = elsewhere }
   where
+    room : statesFrom < length w
+    room = omega (arith, c .room)
+
     g : Gathering
     g = meetRanges (rangesOf t) (holding w 1)
 
     held : Holds (starts t) g
-    held = subst (λ ss. Holds ss g) (sym (starts-in-turn t)) (ranges-hold (rangesOf t) (holding w 1) room (0 ∷ []) (zero-holds w zeros))
+    held = subst (λ ss. Holds ss g) (sym (starts-in-turn t)) (ranges-hold (rangesOf t) (holding w 1) room (0 ∷ []) (zero-holds w c))
 
     elsewhere : SameElsewhere w (g .words)
     elsewhere = ranges-same (rangesOf t) (holding w 1) room

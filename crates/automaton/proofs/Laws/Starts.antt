@@ -77,7 +77,7 @@ in-place {rs} {ss} {g} p h = record { starts = ss; met = p; words = h .kept; cou
 pub starts-in-place : StartsInPlace
 starts-in-place = record {
   after-each = λ t w c r. let rs = take r (rangesOf t) in
-      in-place (met-all [] rs (0 ∷ []) met-zero) (ranges-hold rs (holding w 1) (omega (arith, c .room)) (0 ∷ []) (zero-holds w (c .zeros)));
+      in-place (met-all [] rs (0 ∷ []) met-zero) (ranges-hold rs (holding w 1) (omega (arith, c .room)) (0 ∷ []) (zero-holds w c));
   on-the-way = λ rs r g. ap (λ k. meetRanges k g) (sym (take-append-drop r rs)) ∙ ranges-then (take r rs) (drop r rs) g;
   one-more = λ rs r g room p.
       in-place (met-next rs r (p .starts) (p .met)) (range-holds r (p .starts) g (omega arith) (record { number = p .count; kept = p .words }));

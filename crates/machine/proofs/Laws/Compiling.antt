@@ -36,7 +36,7 @@ use Rattle.automaton.specs.States.{State, firstNumber, initial, acceptAtEndOf, 
 use Rattle.automaton.specs.Layout.{wordCount, stateWords, targetWords, parts, words, blocksFrom, classesFrom, statesFrom, statesSize, targetsSize}
 use Rattle.automaton.specs.Compile.{CompileOutcome, small, compilable, compileBy, compile}
 use Rattle.machine.specs.bridge.Building.{longestAt, headerAt, wordsAt, builtBy, built}
-use Rattle.automaton.specs.Starts.{rangesOf}
+use Rattle.automaton.specs.Starts.{rangesOf, Cleared}
 use Rattle.automaton.proofs.Laws.Gathering.{Gathered, same-starts, ranges-bare}
 use Rattle.automaton.proofs.Laws.Compile.{compile-answers}
 
@@ -164,12 +164,16 @@ module _ (w : List ℕ) (zeros : w ≡ pad wordCount [] ++ drop wordCount w) whe
       ap (λ l. at l i) zeros ∙ List·getD-append (pad wordCount []) (drop wordCount w) 0 i (subst (λ n. i < n) (sym (length-pad wordCount [])) h)
       ∙ getD-pad wordCount [] i h
 
-  pub zero-starts : take 64 (drop classesFrom w) ≡ pad 64 []
+  zero-starts : take 64 (drop classesFrom w) ≡ pad 64 []
   zero-starts =
       ap (λ l. take 64 (drop classesFrom l)) (zeros ∙ ap (λ l. l ++ drop wordCount w) (pad-none classesFrom (wordCount - classesFrom)) ∙ append-assoc (pad classesFrom []) (pad (wordCount - classesFrom) []) (drop wordCount w))
       ∙ ap (take 64) (drop-at (pad classesFrom []) (pad (wordCount - classesFrom) [] ++ drop wordCount w) classesFrom (length-pad classesFrom []))
       ∙ ap (take 64) (ap (λ l. l ++ drop wordCount w) (pad-none 64 (wordCount - statesFrom)) ∙ append-assoc (pad 64 []) (pad (wordCount - statesFrom) []) (drop wordCount w))
       ∙ take-at (pad 64 []) (pad (wordCount - statesFrom) [] ++ drop wordCount w) 64 (length-pad 64 [])
+
+  -- words as they are before the first range is met
+  pub before-ranges : wordCount ≤ length w → Cleared w
+  before-ranges room = record { room = room; zeros = zero-starts }
 
   module _ (ss v : List ℕ) (n : ℕ) (g : Gathered ss w v n) where
     pub gathered-back : drop wordCount v ≡ drop wordCount w

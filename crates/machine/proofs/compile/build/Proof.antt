@@ -16,7 +16,7 @@ use Rattle.automaton.specs.States.{states}
 use Rattle.automaton.specs.Layout.{wordCount, blocksFrom}
 use Rattle.automaton.specs.bridge.Noted.{Kept}
 use Rattle.automaton.proofs.Laws.Gathering.{Gathered, gathered}
-use Rattle.machine.proofs.Laws.Compiling.{longest-eight, drop-later, zero-starts, gathered-back, gathered-zero, gathered-number, gathered-over, gathered-start, states-over, states-few, put-together, built-classes, built-states, built-words}
+use Rattle.machine.proofs.Laws.Compiling.{longest-eight, drop-later, before-ranges, gathered-back, gathered-zero, gathered-number, gathered-over, gathered-start, states-over, states-few, put-together, built-classes, built-states, built-words}
 use Rattle.machine.proofs.compile.build.Statement.{statement}
 use Rattle.machine.proofs.compile.build.Tie as tie
 use Rattle.meaning.specs.Block.{blocksSize}
@@ -38,7 +38,7 @@ gathers g =
     let s = start g in
     let w = s .args .words .now in
     subst (λ k. Gathered (starts (table s)) w (k .words) (k .count)) (sym (g .gather-starts .ensures))
-    (gathered (table s) w (omega (arith, s .pre .1 .0)) (zero-starts w (s .pre .1 .1)))
+    (gathered (table s) w (before-ranges w (s .pre .1 .1) (s .pre .1 .0)))
 
 same-back : (g : tie.After-gather-starts) → drop wordCount (with-starts g) ≡ drop wordCount (start g .args .words .now)
 same-back g = gathered-back (start g .args .words .now) (start g .pre .1 .1) (starts (table (start g))) (with-starts g) (g .gather-starts .result) (gathers g)
