@@ -7,9 +7,9 @@ use mathlib.Core.Path.{_≡_}
 use Prim.Native.Nat.{ℕ, min, _+_, _≤_, _<_}
 use lib.Dec.{ltb}
 use lib.ListN.{length, take, drop}
-use Rattle.lists.specs.Lists.{Each, flatMap, pad}
+use Rattle.lists.specs.Lists.{Each, foldLeft, flatMap, pad}
 use Rattle.meaning.specs.Table.{Range, Table}
-use Rattle.automaton.specs.Classes.{insert, starts}
+use Rattle.automaton.specs.Classes.{insert, edges, starts}
 use Rattle.automaton.specs.Layout.{classesFrom, statesFrom, wordCount}
 
 -- the ranges of a pattern, position by position
@@ -38,23 +38,26 @@ meet x g =
     let ss = insert x (take (g .count) (drop classesFrom (g .words))) in
     cond (ltb 64 (length ss)) (holding (g .words) 65) (holding (withStarts ss (g .words)) (length ss))
 
--- a range met: its lowest, and its highest + 1 up to 65535
-unfoldable pub meetRange : Range → Gathering → Gathering
-meetRange r g = let low = meet (r .lowest) g in cond (ltb (r .highest) 65535) (meet (r .highest + 1) low) low
+-- a range met: its lowest, then its highest + 1 up to 65535
+abbrev pub meetRange : Range → Gathering → Gathering
+meetRange r g = foldLeft meet (edges r) g
 
 -- ranges met one after another
 abbrev pub meetRanges : List Range → Gathering → Gathering
-meetRanges [] g = g
-meetRanges (r ∷ rs) g = meetRanges rs (meetRange r g)
+meetRanges rs g = foldLeft meetRange rs g
 
 -- each number is above all before it
 abbrev pub Rising : List ℕ → Type 0
 Rising [] = Unit {0}
 Rising (y ∷ l) = Each (λ z. y < z) l × Rising l
 
--- 0, a range's lowest, or its highest + 1 up to 65535
+-- a range's lowest, or its highest + 1 up to 65535
+abbrev pub IsEdge : Range → ℕ → Type 0
+IsEdge r x = (x ≡ r .lowest) ⊎ ((x ≡ r .highest + 1) × (x ≤ 65535))
+
+-- 0, or an edge of one of the ranges
 abbrev pub IsStart : List Range → ℕ → Type 0
-IsStart rs x = (x ≡ 0) ⊎ ((r : Range) × List·Memᴰ r rs × ((x ≡ r .lowest) ⊎ ((x ≡ r .highest + 1) × (x ≤ 65535))))
+IsStart rs x = (x ≡ 0) ⊎ ((r : Range) × List·Memᴰ r rs × IsEdge r x)
 
 -- "0 and the starts met so far, rising and without repeats": these numbers and no others, after the ranges rs
 pub record StartsMet (rs : List Range) (ss : List ℕ) : Type 0 where

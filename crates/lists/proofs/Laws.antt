@@ -1,5 +1,6 @@
 pub mod Tests
 pub mod Each
 pub mod Members
+pub mod Folds
 pub mod Parts
 pub mod Sets

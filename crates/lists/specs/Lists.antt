@@ -30,6 +30,11 @@ abbrev pub fold : {A B : Type 0} → (A → B → B) → B → List A → B
 fold f b [] = b
 fold f b (x ∷ xs) = f x (fold f b xs)
 
+-- the elements taken in one after another, the first of them first
+abbrev pub foldLeft : {A B : Type 0} → (A → B → B) → List A → B → B
+foldLeft f [] b = b
+foldLeft f (x ∷ xs) b = foldLeft f xs (f x b)
+
 abbrev pub greatest : {A : Type 0} → (A → ℕ) → List A → ℕ
 greatest f xs = fold (λ x m. max (f x) m) 0 xs
 

@@ -11,7 +11,8 @@ use native.Mathlib.Omega.{arith}
 use lib.Dec.{T, T-not, not-T}
 use lib.ListN.{length, getD, drop, length-append}
 use lib.Seq.{append-snoc}
-use Rattle.lists.specs.Lists.{any, Each, filter, flatMap, findFrom, isSome, orElse}
+use Rattle.lists.specs.Lists.{foldLeft, any, Each, filter, findFrom, isSome, orElse}
+use Rattle.lists.proofs.Laws.Folds.{foldLeft-append, flatMap-append}
 use Rattle.lists.proofs.Laws.Tests.{either, test-eq, and-right, both, or-left, or-right, of-T}
 use Rattle.lists.proofs.Laws.Each.{each-append, each-weaken, each-filter, each-map}
 use Rattle.lists.proofs.Laws.Sets.{filter-filter, filter-same, filter-none, filter-all}
@@ -25,10 +26,6 @@ use Rattle.automaton.proofs.Laws.Levels.{same-state, state-same, each-d
 each-of : {A : Type 0} (P : A → Type 0) → ((x : A) → P x) → (xs : List A) → Each P xs
 each-of P f [] = tt
 each-of P f (x ∷ xs) = (f x, each-of P f xs)
-
-flatMap-append : {A B : Type 0} (f : A → List B) (xs ys : List A) → flatMap f (xs ++ ys) ≡ flatMap f xs ++ flatMap f ys
-flatMap-append f [] ys = refl
-flatMap-append f (x ∷ xs) ys = ap (λ l. f x ++ l) (flatMap-append f xs ys) ∙ sym (append-assoc (f x) (flatMap f xs) (flatMap f ys))
 
 pub each-member : {A : Type 0} (xs : List A) → Each (λ x. List·Memᴰ x xs) xs
 each-member [] = tt
@@ -74,8 +71,7 @@ abbrev pub inside : List State → State → Bool
 inside qs q = any (sameState q) qs
 
 abbrev pub addedAll : List State → List State → List State
-addedAll [] qs = qs
-addedAll (x ∷ xs) qs = addedAll xs (cond (inhabited x) (added x qs) qs)
+addedAll xs qs = foldLeft (λ x rs. cond (inhabited x) (added x rs) rs) xs qs
 
 abbrev pub fresh : List State → State → Bool
 fresh qs q = not (inside qs q)
@@ -129,8 +125,7 @@ all-new (x ∷ xs) qs =
         (λ y. sym (ap not (any-append (sameState y) qs (x ∷ [])) ∙ not-or (inside qs y) (sameState y x) ∙ ap (λ b. not b && fresh qs y) (same-sym y x))) ones)
 
 pub all-append : (xs ys qs : List State) → addedAll (xs ++ ys) qs ≡ addedAll ys (addedAll xs qs)
-all-append [] ys qs = refl
-all-append (x ∷ xs) ys qs = all-append xs ys (cond (inhabited x) (added x qs) qs)
+all-append xs ys qs = foldLeft-append (λ x rs. cond (inhabited x) (added x rs) rs) xs ys qs
 
 pub each-new : (P : State → Type 0) (xs qs : List State) → Each P xs → Each P (newOf xs qs)
 each-new P xs qs a =

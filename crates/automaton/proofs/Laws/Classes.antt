@@ -1,12 +1,13 @@
 -- A character and the start of its class lie in the same ranges; the class starts rise from 0.
 -- Each edge of a range is a start, so none lies above the class start and not above the character.
 use mathlib.Core.Bool.{_&&_, _||_, cond}
-use mathlib.Core.List.{List, [], _∷_, List·Memᴰ, List·Memᴰ·head, List·Memᴰ·not-nil, List·Memᴰ·cases-cons}
-use mathlib.Core.Logic.{⊎-elim}
-use mathlib.Core.Path.{_≡_, refl, sym, ap₂, subst}
+use mathlib.Core.List.{List, [], _∷_, List·Memᴰ, List·Memᴰ·head, List·Memᴰ·tail, List·Memᴰ·not-nil, List·Memᴰ·cases-cons, List·Memᴰ·eq-of-singleton}
+use mathlib.Core.Logic.{inl, inr, ⊎-elim}
+use mathlib.Core.Path.{_≡_, refl, sym, ap₂, _∙_}
 use Prim.Native.Nat.{ℕ, zero, suc, pred, _+_, _≤_, _<_}
+use native.Mathlib.Numerals.{add-one}
 use native.Mathlib.Omega.{arith}
-use lib.Dec.{leb, ltb, leb→le, le→leb, nleb→lt, lt→ltb}
+use lib.Dec.{leb, ltb, leb→le, le→leb, nleb→lt, ltb→lt, nltb→le}
 use lib.ListN.{length, getD}
 use Rattle.lists.specs.Lists.{Each, count, fold, flatMap}
 use Rattle.lists.proofs.Laws.Tests.{split, of-cond, test-eq, of-T}
@@ -15,7 +16,7 @@ use Rattle.lists.proofs.Laws.Members.{mem-getD}
 use Rattle.lists.proofs.Laws.Sets.{count-length}
 use Rattle.meaning.specs.Table.{Range, Table, within, inRanges, ruleAt, everyCharacter}
 use Rattle.automaton.specs.Classes.{insert, edges, allEdges, starts, classOf}
-use Rattle.automaton.specs.Starts.{Rising}
+use Rattle.automaton.specs.Starts.{Rising, IsEdge}
 use Rattle.automaton.proofs.Laws.Inserting.{insert-new, insert-old, rising-insert}
 
 -- what the class starts of a table are
@@ -29,6 +30,31 @@ pub rising-at : (l : List ℕ) (k : ℕ) → Rising l → suc k < length l → g
 rising-at [] k r h = absurd (omega arith)
 rising-at (y ∷ l) zero r h = each-getD (λ z. y < z) l 0 0 (r .0) (omega arith)
 rising-at (y ∷ l) (suc k) r h = rising-at l k (r .1) (omega arith)
+
+-- a number's successor up to a limit, as a list
+module _ (x h limit : ℕ) where
+  abbrev upper : List ℕ
+  upper = cond (ltb h limit) (suc h ∷ []) []
+
+  upper-only : List·Memᴰ x upper → (x ≡ h + 1) × (x ≤ limit)
+  upper-only =
+      of-cond (λ k. List·Memᴰ x k → (x ≡ h + 1) × (x ≤ limit)) (ltb h limit) (suc h ∷ []) []
+      (λ t m. let e : x ≡ suc h = List·Memᴰ·eq-of-singleton m in (e ∙ sym (add-one h), omega (arith, ltb→lt h limit t)))
+      (λ _ m. absurd (List·Memᴰ·not-nil m))
+
+  upper-there : (x ≡ h + 1) × (x ≤ limit) → List·Memᴰ x upper
+  upper-there p =
+      let e : x ≡ h + 1 = p .0 in
+      let i : x ≤ limit = p .1 in
+      of-cond (List·Memᴰ x) (ltb h limit) (suc h ∷ []) [] (λ _. List·Memᴰ·head (e ∙ add-one h)) (λ n. absurd (omega (arith, nltb→le h limit n)))
+
+-- the edges of a range are its lowest and, where that is a character, its highest + 1
+module _ (r : Range) (x : ℕ) where
+  pub edge-met : List·Memᴰ x (edges r) → IsEdge r x
+  edge-met m = ⊎-elim (λ e. inl e) (λ i. inr (upper-only x (r .highest) 65535 i)) (List·Memᴰ·cases-cons m)
+
+  pub met-edge : IsEdge r x → List·Memᴰ x (edges r)
+  met-edge = ⊎-elim (λ e. List·Memᴰ·head e) (λ p. List·Memᴰ·tail (upper-there x (r .highest) 65535 p))
 
 module _ (t : Table) where
   pub starts-rise : Rising (starts t)
@@ -154,9 +180,7 @@ module _ (t : Table) where
       c = startOf x
 
       edge : g .highest < 65535 → Start (suc (g .highest))
-      edge i =
-          subst (λ b. Each Start (cond b (suc (g .highest) ∷ []) []))
-          (of-T (ltb (g .highest) 65535) (lt→ltb (g .highest) 65535 i)) (a .1) .0
+      edge i = each-at Start a (met-edge g (suc (g .highest)) (inr (sym (add-one (g .highest)), omega arith)))
 
       beyond : c ≤ g .highest → g .highest < x → ⊥
       beyond i j =

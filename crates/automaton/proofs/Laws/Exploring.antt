@@ -11,6 +11,7 @@ use lib.Dec.{T}
 use lib.ListN.{length, getD, take, drop, length-append, take-append-drop, List·getD-append}
 use lib.Seq.{take-suc, take-length, drop-cons, drop-length, getD-append-add}
 use Rattle.lists.specs.Lists.{Each, findFrom, isSome, orElse}
+use Rattle.lists.proofs.Laws.Folds.{foldLeft-append}
 use Rattle.lists.proofs.Laws.Tests.{either, of-cond, of-T, of-not}
 use Rattle.lists.proofs.Laws.Each.{each-front, each-weaken, each-getD, each-anywhere}
 use Rattle.lists.proofs.Laws.Members.{mem-getD}
@@ -36,8 +37,7 @@ targetAt t s k = targetOf t (states t) (getD (states t) s (initial t)) (getD (st
 module _ (t : Table) where
   from-append : (q : State) (xs ys : List ℕ) (qs : List State) → addedFrom t q (xs ++ ys) qs ≡ addedFrom t q ys (addedFrom t q xs qs)
   unfolding addedFrom
-  from-append q [] ys qs = refl
-  from-append q (c ∷ xs) ys qs = from-append q xs ys (cond (inhabited (successor t q c)) (added (successor t q c) qs) qs)
+  from-append q xs ys qs = foldLeft-append (λ c rs. cond (inhabited (successor t q c)) (added (successor t q c) rs) rs) xs ys qs
 
   from-new : (q : State) (cs : List ℕ) (qs : List State) → addedFrom t q cs qs ≡ qs ++ newOf (map (successor t q) cs) qs
   from-new q cs qs = from-all t q cs qs ∙ all-new (map (successor t q) cs) qs

@@ -1,6 +1,6 @@
 -- Words that hold class starts hold them and the new one after it is met, in whatever order, and the words elsewhere stay; so after all ranges of
 -- a table they hold its starts. Range by range, since ranges met are their edges met one after another.
-use mathlib.Core.Bool.{Bool, true, false, cond}
+use mathlib.Core.Bool.{Bool, cond}
 use mathlib.Core.List.{List, [], _∷_, _++_, map, append-nil, append-assoc}
 use mathlib.Core.Path.{_≡_, refl, sym, ap, ap₂, subst, _∙_}
 use Prim.Native.Nat.{ℕ, zero, suc, min, _+_, _-_, _≤_, _<_}
@@ -11,7 +11,8 @@ use borrow.Author.Tests.{lt-ltb, le-ltb}
 use lib.Dec.{ltb, ltb→lt, nltb→le}
 use lib.ListN.{length, take, drop, length-append, length-take, length-drop, take-append-drop}
 use lib.Seq.{take-at, drop-at, take-take, drop-drop, take-add, take-append-add, drop-append-add, length-take-le}
-use Rattle.lists.specs.Lists.{fold, flatMap, tabFrom, pad}
+use Rattle.lists.specs.Lists.{fold, foldLeft, flatMap, tabFrom, pad}
+use Rattle.lists.proofs.Laws.Folds.{foldLeft-append, foldLeft-flatMap, flatMap-flatMap}
 use Rattle.lists.proofs.Laws.Tests.{split}
 use Rattle.lists.proofs.Laws.Parts.{take-pad}
 use Rattle.meaning.specs.Table.{Range, Group, Table}
@@ -110,13 +111,13 @@ module _ (x : ℕ) (g : Gathering) where
   abbrev by-test : Bool → Gathering
   by-test b = cond b (holding (g .words) 65) (holding (withStarts new (g .words)) (length new))
 
-  pub meet-over : 64 < length new → meet x g ≡ holding (g .words) 65
-  unfolding meet
-  meet-over h = ap by-test (lt-ltb 64 (length new) h)
-
   pub meet-put : length new ≤ 64 → meet x g ≡ holding (withStarts new (g .words)) (length new)
   unfolding meet
   meet-put h = ap by-test (le-ltb 64 (length new) h)
+
+  pub meet-over : 64 < length new → meet x g ≡ holding (g .words) 65
+  unfolding meet
+  meet-over h = ap by-test (lt-ltb 64 (length new) h)
 
   meet-cases : (P : Gathering → Type 0) → (64 < length new → P (holding (g .words) 65)) → (length new ≤ 64 → P (holding (withStarts new (g .words)) (length new))) →
       P (meet x g)
@@ -167,12 +168,7 @@ meet-holds x ss g room h =
 -- starts met one after another
 
 abbrev meetAll : List ℕ → Gathering → Gathering
-meetAll [] g = g
-meetAll (e ∷ es) g = meetAll es (meet e g)
-
-meetAll-append : (xs ys : List ℕ) (g : Gathering) → meetAll (xs ++ ys) g ≡ meetAll ys (meetAll xs g)
-meetAll-append [] ys g = refl
-meetAll-append (x ∷ xs) ys g = meetAll-append xs ys (meet x g)
+meetAll es g = foldLeft meet es g
 
 all-few : (es : List ℕ) (g : Gathering) → g .count ≤ 65 → meetAll es g .count ≤ 65
 all-few [] g h = h
@@ -191,24 +187,11 @@ all-holds (e ∷ es) ss g room h =
 
 -- ranges met are their edges met
 
-range-in-turn : (r : Range) (g : Gathering) → meetRange r g ≡ meetAll (edges r) g
-unfolding meetRange
-range-in-turn r g = by (ltb (r .highest) 65535)
-  where
-    low : Gathering
-    low = meet (r .lowest) g
-
-    by : (b : Bool) → cond b (meet (r .highest + 1) low) low ≡ meetAll (cond b (suc (r .highest) ∷ []) []) low
-    by true = ap (λ k. meet k low) (add-one (r .highest))
-    by false = refl
-
 ranges-in-turn : (rs : List Range) (g : Gathering) → meetRanges rs g ≡ meetAll (flatMap edges rs) g
-ranges-in-turn [] g = refl
-ranges-in-turn (r ∷ rs) g =
-    ranges-in-turn rs (meetRange r g) ∙ ap (meetAll (flatMap edges rs)) (range-in-turn r g) ∙ sym (meetAll-append (edges r) (flatMap edges rs) g)
+ranges-in-turn rs g = foldLeft-flatMap meet edges rs g
 
 pub range-holds : (r : Range) (ss : List ℕ) (g : Gathering) → statesFrom < length (g .words) → Holds ss g → Holds (insertAll (edges r) ss) (meetRange r g)
-range-holds r ss g room h = subst (Holds (insertAll (edges r) ss)) (sym (range-in-turn r g)) (all-holds (edges r) ss g room h)
+range-holds r ss g room h = all-holds (edges r) ss g room h
 
 pub ranges-few : (rs : List Range) (g : Gathering) {g′ : Gathering} → g′ ≡ meetRanges rs g → g .count ≤ 65 → g′ .count ≤ 65
 ranges-few rs g e h = subst (λ k. k .count ≤ 65) (sym (e ∙ ranges-in-turn rs g)) (all-few (flatMap edges rs) g h)
@@ -223,8 +206,7 @@ module _ (rs : List Range) (g : Gathering) (room : statesFrom < length (g .words
 -- ranges met after others
 
 pub ranges-then : (qs rs : List Range) (g : Gathering) → meetRanges (qs ++ rs) g ≡ meetRanges rs (meetRanges qs g)
-ranges-then [] rs g = refl
-ranges-then (q ∷ qs) rs g = ranges-then qs rs (meetRange q g)
+ranges-then qs rs g = foldLeft-append meetRange qs rs g
 
 walk-next : {A : Type 0} (g : A → List Range) (f : ℕ → A) (i n : ℕ) → flatMap g (tabFrom i (suc n) f) ≡ flatMap g (tabFrom i n f) ++ g (f (i + n))
 walk-next g f i zero = append-nil (g (f i)) ∙ ap (λ k. g (f k)) (sym (add-zero i))
@@ -256,13 +238,14 @@ range-next f k g a b =
 -- the edges of a range met
 
 module _ (r : Range) (g : Gathering) where
+  abbrev with-edges : Bool → Gathering
+  with-edges b = meetAll (cond b (suc (r .highest) ∷ []) []) (meet (r .lowest) g)
+
   pub range-both : r .highest < 65535 → meetRange r g ≡ meet (r .highest + 1) (meet (r .lowest) g)
-  unfolding meetRange
-  range-both h = rw (lt-ltb (r .highest) 65535 h)
+  range-both h = ap with-edges (lt-ltb (r .highest) 65535 h) ∙ ap (λ x. meet x (meet (r .lowest) g)) (sym (add-one (r .highest)))
 
   pub range-low : 65535 ≤ r .highest → meetRange r g ≡ meet (r .lowest) g
-  unfolding meetRange
-  range-low h = rw (le-ltb (r .highest) 65535 h)
+  range-low h = ap with-edges (le-ltb (r .highest) 65535 h)
 
 -- all starts: they stand among the words, n of them, and n is 65 for more than 64
 pub record Gathered (ss before after : List ℕ) (n : ℕ) : Type 0 where
@@ -270,20 +253,12 @@ pub record Gathered (ss before after : List ℕ) (n : ℕ) : Type 0 where
   pub filled : length ss ≤ 64 → after ≡ take classesFrom before ++ pad 64 ss ++ drop statesFrom before
   pub same : SameElsewhere before after
 
-flat-flat : {A B C : Type 0} (f : B → List C) (h : A → List B) (xs : List A) → flatMap f (flatMap h xs) ≡ flatMap (λ x. flatMap f (h x)) xs
-flat-flat f h [] = refl
-flat-flat f h (x ∷ xs) = joined (h x) ∙ ap (λ l. flatMap f (h x) ++ l) (flat-flat f h xs)
-  where
-    joined : (ys : List _) → flatMap f (ys ++ flatMap h xs) ≡ flatMap f ys ++ flatMap f (flatMap h xs)
-    joined [] = refl
-    joined (y ∷ ys) = ap (λ l. f y ++ l) (joined ys) ∙ sym (append-assoc (f y) (flatMap f ys) (flatMap f (flatMap h xs)))
-
 edges-of-ranges : (t : Table) → flatMap edges (rangesOf t) ≡ allEdges t
-edges-of-ranges t = flat-flat edges (λ g. patternRanges (g .ranges)) (t .rules) ∙ positions (t .rules)
+edges-of-ranges t = flatMap-flatMap edges (λ g. patternRanges (g .ranges)) (t .rules) ∙ positions (t .rules)
   where
     positions : (gs : List Group) → flatMap (λ g. flatMap edges (patternRanges (g .ranges))) gs ≡ flatMap (λ g. flatMap (flatMap edges) (g .ranges)) gs
     positions [] = refl
-    positions (g ∷ gs) = ap₂ _++_ (flat-flat edges (λ rs. rs) (g .ranges)) (positions gs)
+    positions (g ∷ gs) = ap₂ _++_ (flatMap-flatMap edges (λ rs. rs) (g .ranges)) (positions gs)
 
 pub starts-in-turn : (t : Table) → starts t ≡ insertAll (flatMap edges (rangesOf t)) (0 ∷ [])
 unfolding starts

@@ -8,7 +8,7 @@ use native.Mathlib.Omega.{arith}
 use borrow.Author.Tests.{lt-ltb, le-ltb, eq-eqb, ne-eqb}
 use lib.Dec.{eqb, ltb, ltb→lt, nltb→le, eqb→eq}
 use lib.ListN.{length, take, drop, getD}
-use Rattle.lists.specs.Lists.{Each, fold}
+use Rattle.lists.specs.Lists.{Each, fold, foldLeft}
 use Rattle.lists.proofs.Laws.Tests.{split, of-cond, neqb→ne}
 use Rattle.lists.proofs.Laws.Each.{each-weaken, each-at}
 use Rattle.automaton.specs.Classes.{insert}
@@ -102,8 +102,7 @@ insert-swap x y l =
 
 -- numbers put in, the first of them first
 abbrev pub insertAll : List ℕ → List ℕ → List ℕ
-insertAll [] ss = ss
-insertAll (e ∷ es) ss = insertAll es (insert e ss)
+insertAll es ss = foldLeft insert es ss
 
 pub all-old : (es ss : List ℕ) {z : ℕ} → List·Memᴰ z ss → List·Memᴰ z (insertAll es ss)
 all-old [] ss m = m
@@ -121,10 +120,6 @@ all-only (e ∷ es) ss m =
 pub all-rising : (es ss : List ℕ) → Rising ss → Rising (insertAll es ss)
 all-rising [] ss r = r
 all-rising (e ∷ es) ss r = all-rising es (insert e ss) (rising-insert e ss r)
-
-pub insertAll-append : (xs ys ss : List ℕ) → insertAll (xs ++ ys) ss ≡ insertAll ys (insertAll xs ss)
-insertAll-append [] ys ss = refl
-insertAll-append (x ∷ xs) ys ss = insertAll-append xs ys (insert x ss)
 
 pub insertAll-fold : (es ss : List ℕ) → insertAll es ss ≡ fold insert ss es
 insertAll-fold [] ss = refl

@@ -1,43 +1,20 @@
 -- After each range met the words from 6 are 0 and the starts met so far, rising, with zeros behind (request [3] of document 02).
 -- A range adds its edges to the members and leaves the list rising, and the words hold the list; two rising lists of the same members are one.
-use mathlib.Core.List.{List, [], _∷_, _++_, append-nil, append-assoc, List·Memᴰ, List·Memᴰ·head, List·Memᴰ·tail, List·Memᴰ·not-nil, List·Memᴰ·cases-cons, List·Memᴰ·eq-of-singleton, List·Memᴰ·append-cases, Memᴰ·append-left, Memᴰ·append-right}
-use mathlib.Core.Logic.{_⊎_, inl, inr, ⊎-elim}
+use mathlib.Core.List.{List, [], _∷_, _++_, append-nil, append-assoc, List·Memᴰ, List·Memᴰ·head, List·Memᴰ·not-nil, List·Memᴰ·eq-of-singleton, List·Memᴰ·append-cases, Memᴰ·append-left, Memᴰ·append-right}
+use mathlib.Core.Logic.{inl, inr, ⊎-elim}
 use mathlib.Core.Path.{_≡_, refl, sym, ap, subst, _∙_}
-use Prim.Native.Nat.{ℕ, suc, _+_, _≤_}
-use native.Mathlib.Numerals.{add-one}
+use Prim.Native.Nat.{ℕ, _≤_}
 use native.Mathlib.Omega.{arith}
-use lib.Dec.{ltb, ltb→lt, nltb→le}
 use lib.ListN.{length, take, drop, take-append-drop}
 use Rattle.lists.specs.Lists.{flatMap}
-use Rattle.lists.proofs.Laws.Tests.{of-cond}
+use Rattle.lists.proofs.Laws.Folds.{foldLeft-append}
 use Rattle.meaning.specs.Table.{Range}
-use Rattle.automaton.specs.Classes.{edges, starts}
+use Rattle.automaton.specs.Classes.{insert, edges, starts}
 use Rattle.automaton.specs.Layout.{wordCount}
 use Rattle.automaton.specs.Starts.{rangesOf, Gathering, holding, meetRange, meetRanges, IsStart, StartsMet, InPlace, StartsInPlace}
-use Rattle.automaton.proofs.Laws.Inserting.{insertAll, insertAll-append, all-new, all-old, all-only, all-rising, rising-one}
+use Rattle.automaton.proofs.Laws.Classes.{edge-met, met-edge}
+use Rattle.automaton.proofs.Laws.Inserting.{insertAll, all-new, all-old, all-only, all-rising, rising-one}
 use Rattle.automaton.proofs.Laws.Gathering.{Holds, range-holds, ranges-hold, ranges-same, ranges-then, zero-holds, starts-in-turn}
-
--- the edges of a range
-module _ (r : Range) (x : ℕ) where
-  abbrev Edge : Type 0
-  Edge = (x ≡ r .lowest) ⊎ ((x ≡ r .highest + 1) × (x ≤ 65535))
-
-  edge-met : List·Memᴰ x (edges r) → Edge
-  edge-met m =
-      ⊎-elim (λ e. inl e)
-      (λ i. of-cond (λ k. List·Memᴰ x k → Edge) (ltb (r .highest) 65535) (suc (r .highest) ∷ []) []
-      (λ t j. let h : r .highest + 1 ≤ 65535 = omega (arith, ltb→lt (r .highest) 65535 t) in
-      let e : x ≡ r .highest + 1 = List·Memᴰ·eq-of-singleton j ∙ sym (add-one (r .highest)) in inr (e, omega arith))
-      (λ _ j. absurd (List·Memᴰ·not-nil j)) i)
-      (List·Memᴰ·cases-cons m)
-
-  met-edge : Edge → List·Memᴰ x (edges r)
-  met-edge =
-      ⊎-elim (λ e. List·Memᴰ·head e)
-      (λ p. List·Memᴰ·tail (of-cond (List·Memᴰ x) (ltb (r .highest) 65535) (suc (r .highest) ∷ []) []
-      (λ _. List·Memᴰ·head (p .0 ∙ add-one (r .highest)))
-      (λ n. let h : 65535 ≤ r .highest = nltb→le (r .highest) 65535 n in
-      let e : x ≡ r .highest + 1 = p .0 in let i : x ≤ 65535 = p .1 in absurd (omega arith))))
 
 -- the starts met, one range more, and all of some ranges
 
@@ -67,7 +44,7 @@ met-all : (qs rs : List Range) (ss : List ℕ) → StartsMet qs ss → StartsMet
 met-all qs [] ss p = subst (λ k. StartsMet k ss) (sym (append-nil qs)) p
 met-all qs (r ∷ rs) ss p =
     subst (λ k. StartsMet k (insertAll (edges r ++ flatMap edges rs) ss)) (append-assoc qs (r ∷ []) rs)
-    (subst (StartsMet ((qs ++ r ∷ []) ++ rs)) (sym (insertAll-append (edges r) (flatMap edges rs) ss))
+    (subst (StartsMet ((qs ++ r ∷ []) ++ rs)) (sym (foldLeft-append insert (edges r) (flatMap edges rs) ss))
     (met-all (qs ++ r ∷ []) rs (insertAll (edges r) ss) (met-next qs r ss p)))
 
 -- starts met, and held by the words

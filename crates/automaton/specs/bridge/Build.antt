@@ -4,7 +4,7 @@ use mathlib.Core.List.{List, [], _∷_, _++_}
 use Prim.Native.Nat.{ℕ, zero, suc, _+_, _*_, _/_, _%_}
 use lib.Dec.{eqb}
 use lib.ListN.{length}
-use Rattle.lists.specs.Lists.{findFrom, tabFrom, isSome, orElse}
+use Rattle.lists.specs.Lists.{foldLeft, findFrom, tabFrom, isSome, orElse}
 use Rattle.meaning.specs.Table.{Table}
 use Rattle.meaning.specs.Block.{at}
 use Rattle.automaton.specs.States.{State, successor, sameState, inhabited}
@@ -29,8 +29,7 @@ added q qs = cond (isSome (findFrom 0 (sameState q) qs)) qs (qs ++ (q ∷ []))
 
 -- the states met from q by the class starts in turn
 unfoldable pub addedFrom : Table → State → List ℕ → List State → List State
-addedFrom t q [] qs = qs
-addedFrom t q (c ∷ cs) qs = let s = successor t q c in addedFrom t q cs (cond (inhabited s) (added s qs) qs)
+addedFrom t q cs qs = foldLeft (λ c rs. let s = successor t q c in cond (inhabited s) (added s rs) rs) cs qs
 
 -- the states that the words' depths and the sets hold, `count` of them
 unfoldable pub statesAt : List ℕ → List ℕ → ℕ → ℕ → List State

@@ -12,7 +12,7 @@ use lib.Seq.{length-take-le, take-suc, take-suc-set}
 use Rattle.io.specs.Counts.{Counts}
 use Rattle.io.specs.Digits.{Fewest}
 use Rattle.lists.proofs.Laws.Tests.{split}
-use Rattle.meaning.proofs.Laws.Rows.{flatMap-append}
+use Rattle.lists.proofs.Laws.Folds.{flatMap-append}
 use Rattle.convert.specs.Text.{hexLine, hexLines, Decimal, Numbered}
 
 -- xs is at the text's start, and a goes to the place after it

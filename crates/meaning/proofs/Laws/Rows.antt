@@ -1,7 +1,7 @@
 -- Flat arrays as rows of one length: what stands in a row, and that changing a group sets numbers of its row.
 -- Filling up is `pad` over any element; a store in a row is a store in the joined rows, past the rows before it.
 use mathlib.Core.Bool.{cond, not}
-use mathlib.Core.List.{List, [], _∷_, _++_, map, append-assoc}
+use mathlib.Core.List.{List, [], _∷_, _++_, map}
 use mathlib.Core.Option.{Option, none, some}
 use mathlib.Core.Path.{_≡_, refl, sym, ap, ap₂, subst, _∙_}
 use Prim.Native.Nat.{ℕ, zero, suc, pred, _+_, _*_, _≤_, _<_}
@@ -11,6 +11,7 @@ use lib.Dec.{T}
 use lib.ListN.{length, getD, set, length-append, length-set, List·getD-append}
 use lib.Seq.{getD-at, set-at, set-append-left}
 use Rattle.lists.specs.Lists.{flatMap, pad, Each, atLast, lastD, isSome, optional}
+use Rattle.lists.proofs.Laws.Folds.{flatMap-append}
 use Rattle.lists.proofs.Laws.Each.{each-append, each-front, each-back}
 use Rattle.lists.proofs.Laws.Parts.{length-pad, getD-pad, getD-rows}
 use Rattle.meaning.specs.Table.{Group, Table, everyCharacter, groups}
@@ -161,10 +162,6 @@ pad-rows f n (suc k) (x ∷ xs) =
 
 abbrev pub rowsOf : (Group → List ℕ) → List Group → Option Group → List (List ℕ)
 rowsOf f rs d = fill [] 32 (map f rs) ++ fill [] 1 (map f (optional d))
-
-pub flatMap-append : {A : Type 0} (f : A → List ℕ) (xs ys : List A) → flatMap f (xs ++ ys) ≡ flatMap f xs ++ flatMap f ys
-flatMap-append f [] ys = refl
-flatMap-append f (x ∷ xs) ys = ap (λ l. f x ++ l) (flatMap-append f xs ys) ∙ sym (append-assoc (f x) (flatMap f xs) (flatMap f ys))
 
 pub rows-joined : (n : ℕ) (f : Group → List ℕ) (rs : List Group) (d : Option Group) →
     rows n f (record { rules = rs; default = d }) ≡ joined n (rowsOf f rs d)

@@ -20,7 +20,8 @@ use Rattle.meaning.specs.bridge.Flat.{highOf}
 use Rattle.meaning.proofs.Laws.Shape.{IsSum}
 use Rattle.meaning.proofs.Laws.Exact.{oneAt}
 use Rattle.meaning.proofs.Laws.Reading.{atLast-length}
-use Rattle.meaning.proofs.Laws.Rows.{fill, pad-fill, length-fill, fill-snoc, fill-after, fill-atLast, fill-last, map-append, length-map, stores, shift, set-past, stores-past, shift-more, joined, joined-set, pad-rows, pad-pad, flatMap-append}
+use Rattle.lists.proofs.Laws.Folds.{flatMap-append}
+use Rattle.meaning.proofs.Laws.Rows.{fill, pad-fill, length-fill, fill-snoc, fill-after, fill-atLast, fill-last, map-append, length-map, stores, shift, set-past, stores-past, shift-more, joined, joined-set, pad-rows, pad-pad}
 
 abbrev pub slotRow : Group → List ℕ
 slotRow g = map length (g .ranges)
