@@ -24,6 +24,16 @@ abbrev pub writtenOf : Outcome Converted → ℕ → ℕ
 writtenOf (refused n) found = found
 writtenOf (accepted c) found = c .count
 
+-- 0 for a typed text that is accepted; "A refusal answers its number"
+abbrev pub typedCode : Outcome ℕ → ℕ
+typedCode (refused n) = n
+typedCode (accepted size) = 0
+
+-- "the answer is their length in bytes", or what was found
+abbrev pub lengthOf : Outcome ℕ → ℕ → ℕ
+lengthOf (refused n) found = found
+lengthOf (accepted size) found = size
+
 -- 1 for "Sound words", 0 for words that are not
 abbrev pub soundCode : Bool → ℕ
 soundCode sound = cond sound 1 0

@@ -5,13 +5,16 @@ ghost use mathlib.Core.Path.{_≡_};
 ghost use Rattle.meaning.specs.Direct.{checked, direct};
 ghost use Rattle.automaton.specs.Compile as Spec;
 ghost use Rattle.automaton.specs.Sound.{sound};
-ghost use Rattle.cobbletwill.specs.Face.{checkCode, codeOf, placeOf, writtenOf, soundCode};
+ghost use Rattle.typed.specs.Typed.{fromText};
+ghost use Rattle.cobbletwill.specs.Face.{checkCode, codeOf, placeOf, writtenOf, typedCode, lengthOf, soundCode};
 use machine::compile::Compiled;
 use machine::compile::compile;
 use rules::convert::Conversion;
 use rules::convert::Verdict;
 use rules::convert::check;
 use rules::convert::convert;
+use typed::text::Typed;
+use typed::text::from_text;
 use words::sound_words::is_sound;
 
 // 0 for a table that keeps the rules, else the number of its refusal, 1 to 7.
@@ -72,6 +75,23 @@ pub extern "C" fn cobbletwill_compile(table: &[u8], words: &mut [u16]) -> u32
     match compiled {
         Compiled::Accepted => 0,
         Compiled::Refused(number) => number as u32,
+    }
+}
+
+// 0 with the records of the typed text and their length in bytes set; else the number of the refusal, 16, 17, 2 to 7 or 15, and nothing changed.
+#[no_mangle]
+pub extern "C" fn cobbletwill_from_text(text: &[u16], table: &mut [u8], length: &mut u64) -> u32
+    ensures answer { λ r. ⌜ r ≡ typedCode (fromText (now (text .entry)) (now (table .entry)) .answer) ⌝ }
+    ensures table { λ _. ⌜ now (table .exit) ≡ fromText (now (text .entry)) (now (table .entry)) .table ⌝ }
+    ensures length { λ _. ⌜ now (length .exit) ≡ lengthOf (fromText (now (text .entry)) (now (table .entry)) .answer) (now (length .entry)) ⌝ }
+{
+    let typed = from_text(text, table);
+    match typed {
+        Typed::Accepted(size) => {
+            *length = size as u64;
+            0
+        }
+        Typed::Refused(number) => number as u32,
     }
 }
 

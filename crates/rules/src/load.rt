@@ -44,7 +44,7 @@ fn load_records(table: &[u8], loaded: &mut [u16]) -> Step
 }
 
 // The refusals of the table's end, 4 and 5, and refusal 7 of the whole table.
-fn finish_load(reader: Reader, loaded: &[u16]) -> Load
+pub fn finish_load(reader: Reader, loaded: &[u16]) -> Load
     requires { ⌜ reader .rules ≤ 32 ⌝ }
     requires { ⌜ (gap reader ≡ false → 1 ≤ reader .rules → Flat (now loaded)) ⌝ }
     ensures { λ r. ⌜ r ≡ endOf reader (safeAt (now (loaded .entry)) (reader .rules) (reader .defaulted)) ⌝ }

@@ -112,7 +112,7 @@ pub record Described (s : Reading) (b : List ℕ) : Type 0 where
   pub bare : T (ranging s) → (latest s .outputs ≡ []) × (s .table .default ≡ none)
   pub writing : T (eqb (s .kind) 3 || eqb (s .kind) 4) → (1 ≤ length (latest s .outputs)) × IsSum (lastD (sum (pos 0) []) (latest s .outputs))
 
-is-none : {A : Type 0} (d : Option A) → T (not (isSome d)) → d ≡ none
+pub is-none : {A : Type 0} (d : Option A) → T (not (isSome d)) → d ≡ none
 is-none none t = refl
 is-none (some a) t = absurd t
 

@@ -86,7 +86,7 @@ pub table-refused : (b : List ℕ) (n : ℕ) → readTable b ≡ refused n → T
 table-refused b n e = subst (Checked b) e (checked b) .0
 
 -- 1 to 6 are the reader's
-rules-refused : (b : List ℕ) (n : ℕ) → readTable b ≡ refused n → n ≤ 6 → readRules b ≡ refused n
+pub rules-refused : (b : List ℕ) (n : ℕ) → readTable b ≡ refused n → n ≤ 6 → readRules b ≡ refused n
 rules-refused b n e l = subst (Checked b) e (checked b) .2 l
 
 pub refused-first : (b : List ℕ) (n : ℕ) → readRules b ≡ refused n → readTable b ≡ refused n

@@ -46,7 +46,7 @@ four-bytes a b c d h k l m =
     ∙ first-byte 3 a (b + 256 * (c + 256 * d)) h
     ∙ ap (λ x. a ∷ x) (first-byte 2 b (c + 256 * d) k ∙ ap (λ x. b ∷ x) (two-bytes c d l m))
 
-two-read : (x : ℕ) → x < 65536 → x % 256 + 256 * (x / 256 % 256) ≡ x
+pub two-read : (x : ℕ) → x < 65536 → x % 256 + 256 * (x / 256 % 256) ≡ x
 two-read x h = omega arith
 
 four-read : (x : ℕ) → x < 4294967296 → x % 256 + 256 * (x / 256 % 256) + 65536 * (x / 256 / 256 % 256 + 256 * (x / 256 / 256 / 256 % 256)) ≡ x
@@ -114,7 +114,7 @@ bytesOf (hexadecimal p shift) = digitRecord p shift
 pub no-record : {x : Record} → none ≡ some x → ⊥
 no-record e = let z : _≡_ {A = ℕ} 0 1 = cc in omega arith
 
-only-some : (tests : List Bool) (x y : Record) → onlyIf tests x ≡ some y → Each T tests × (x ≡ y)
+pub only-some : (tests : List Bool) (x y : Record) → onlyIf tests x ≡ some y → Each T tests × (x ≡ y)
 only-some tests x y = by-cases (λ o. o ≡ some y → Each T tests × (x ≡ y)) ((allOf tests, some x) ∷ []) none (λ t e. (holds tests t, cc), λ _ e. absurd (no-record e))
 
 all-zero : (bs : List ℕ) → T (zeros bs) → Each (λ x. 0 ≡ x) bs

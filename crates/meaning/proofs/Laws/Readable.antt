@@ -29,14 +29,14 @@ neither : (a b : Bool) → T (not a) → T (not b) → T (not (a || b))
 neither true b s t = s
 neither false b s t = t
 
-not-both : (a b : Bool) → (T a → T (not b)) → T (not (a && b))
+pub not-both : (a b : Bool) → (T a → T (not b)) → T (not (a && b))
 not-both true b f = f tt
 not-both false b f = tt
 
 not-leb : (m n : ℕ) → n < m → T (not (leb m n))
 not-leb m n h = not-T (leb m n) (λ t. let k = leb→le m n t in omega arith)
 
-not-ltb : (m n : ℕ) → n ≤ m → T (not (ltb m n))
+pub not-ltb : (m n : ℕ) → n ≤ m → T (not (ltb m n))
 not-ltb m n h = not-T (ltb m n) (λ t. let k = ltb→lt m n t in omega arith)
 
 refute : (b : Bool) → T b → T (not (not b))
@@ -79,24 +79,24 @@ counted (next c {d = d} l e r) =
 
 -- a reading whose last group is g: the default, or a rule
 
-abbrev holding : Bool → List Group → Group → Table
+abbrev pub holding : Bool → List Group → Group → Table
 holding true rs g = record { rules = rs; default = some g }
 holding false rs g = record { rules = rs ++ (g ∷ []); default = none }
 
-abbrev at : Bool → List Group → Group → ℕ → Reading
+abbrev pub at : Bool → List Group → Group → ℕ → Reading
 at d rs g kind = record { table = holding d rs g; kind = kind }
 
-latest-at : (d : Bool) (rs : List Group) (g : Group) (kind : ℕ) → latest (at d rs g kind) ≡ g
+pub latest-at : (d : Bool) (rs : List Group) (g : Group) (kind : ℕ) → latest (at d rs g kind) ≡ g
 unfolding latest
 latest-at true rs g kind = refl
 latest-at false rs g kind = lastD-snoc (everyCharacter []) rs g
 
-atLast-snoc : {A : Type 0} (f : A → A) (xs : List A) (x : A) → atLast f (xs ++ (x ∷ [])) ≡ xs ++ (f x ∷ [])
+pub atLast-snoc : {A : Type 0} (f : A → A) (xs : List A) (x : A) → atLast f (xs ++ (x ∷ [])) ≡ xs ++ (f x ∷ [])
 atLast-snoc f [] x = refl
 atLast-snoc f (y ∷ []) x = refl
 atLast-snoc f (y ∷ (z ∷ zs)) x = ap (λ l. y ∷ l) (atLast-snoc f (z ∷ zs) x)
 
-change-at : (f : Group → Group) (d : Bool) (rs : List Group) (g : Group) → changeLatest f (holding d rs g) ≡ holding d rs (f g)
+pub change-at : (f : Group → Group) (d : Bool) (rs : List Group) (g : Group) → changeLatest f (holding d rs g) ≡ holding d rs (f g)
 unfolding changeLatest
 change-at f true rs g = refl
 change-at f false rs g = λ i. record { rules = atLast-snoc f rs g i; default = none }
@@ -133,10 +133,10 @@ rising-at (q ∷ []) r rs n h = h .0
 rising-at (q ∷ (p ∷ qs)) r rs n h = rising-at (p ∷ qs) r rs (omega arith) (h .1)
 
 -- a range at a place of its own, and beside others
-add-new : (r : Range) (ps : List (List Range)) → addRange (length ps) r ps ≡ ps ++ ((r ∷ []) ∷ [])
+pub add-new : (r : Range) (ps : List (List Range)) → addRange (length ps) r ps ≡ ps ++ ((r ∷ []) ∷ [])
 add-new r ps = ap (λ b. cond b (ps ++ ((r ∷ []) ∷ [])) (atLast (λ rs. rs ++ (r ∷ [])) ps)) (of-T (eqb (length ps) (length ps)) (eqb-refl (length ps)))
 
-add-beside : (r : Range) (ps : List (List Range)) (qs : List Range) → addRange (length ps) r (ps ++ (qs ∷ [])) ≡ ps ++ ((qs ++ (r ∷ [])) ∷ [])
+pub add-beside : (r : Range) (ps : List (List Range)) (qs : List Range) → addRange (length ps) r (ps ++ (qs ∷ [])) ≡ ps ++ ((qs ++ (r ∷ [])) ∷ [])
 add-beside r ps qs =
     let n : length (ps ++ (qs ∷ [])) ≡ length ps + 1 = length-append ps (qs ∷ []) in
     let differ : length ps ≢ length (ps ++ (qs ∷ [])) = λ e. omega arith in
@@ -192,7 +192,7 @@ zeros-last : (a : ℤ) (n : ℕ) → lastD a (replicate (suc n) (pos 0)) ≡ pos
 zeros-last a zero = refl
 zeros-last a (suc n) = zeros-last (pos 0) n
 
-zeros-shift : (n : ℕ) (ks : List ℤ) → replicate n (pos 0) ++ (pos 0 ∷ ks) ≡ pos 0 ∷ (replicate n (pos 0) ++ ks)
+pub zeros-shift : (n : ℕ) (ks : List ℤ) → replicate n (pos 0) ++ (pos 0 ∷ ks) ≡ pos 0 ∷ (replicate n (pos 0) ++ ks)
 zeros-shift zero ks = refl
 zeros-shift (suc n) ks = ap (λ l. pos 0 ∷ l) (zeros-shift n ks)
 

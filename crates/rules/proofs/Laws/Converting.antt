@@ -97,7 +97,7 @@ module _ (loaded : List ℕ) (n : ℕ) (d : Bool) (input buffer : List ℕ) wher
     expansion-fits h = let a : expansionAt loaded n d * length input ≤ 8 * length input = mul-le-mul-right (length input) h in omega (arith, short)
 
 -- a group that is chosen: a rule that fits, or the default
-choose-cases : {X : Type 0} (t : Table) (u : List ℕ) (n : ℕ) → choose t u ≡ some n →
+pub choose-cases : {X : Type 0} (t : Table) (u : List ℕ) (n : ℕ) → choose t u ≡ some n →
     (n < length (t .rules) → Fits t n u → X) → (n ≡ defaultNumber → isSome (t .default) ≡ true → X) → X
 unfolding choose
 choose-cases {X} t u n e f d = go (best t (length (t .rules)) u) (best-chosen t (length (t .rules)) u) e
@@ -110,7 +110,7 @@ choose-cases {X} t u n e f d = go (best t (length (t .rules)) u) (best-chosen t 
     go none c q = none-left (isSome (t .default)) refl q
     go (some r) c q = let z = Option·some-injective r n q in f (subst (λ m. m < length (t .rules)) z (c .0)) (subst (λ m. Fits t m u) z (c .1))
 
-every-fits : (g : Group) (x : ℕ) → ShapedDefault g → x < 65536 → T (fitsWord (g .ranges) (x ∷ []))
+pub every-fits : (g : Group) (x : ℕ) → ShapedDefault g → x < 65536 → T (fitsWord (g .ranges) (x ∷ []))
 unfolding fitsWord
 every-fits g x s h = rw (s .ranges, or-false, and-true) (to-between 0 65535 x (omega arith) (omega arith))
 

@@ -56,7 +56,7 @@ small (term p a) f = tt
 small default f = tt
 small (hexadecimal p shift) f = tt
 
-fitting-on : (r r′ : Reader) (b : List ℕ) (x : Option Record) → Each (λ c. c < 256) b → decode b ≡ x → Fitting r → admitted r x ≡ accepted r′ → Fitting r′
+pub fitting-on : (r r′ : Reader) (b : List ℕ) (x : Option Record) → Each (λ c. c < 256) b → decode b ≡ x → Fitting r → admitted r x ≡ accepted r′ → Fitting r′
 fitting-on r r′ b none e d f p = absurd (accepted-not r′ 2 (sym p))
 fitting-on r r′ b (some x) e d f p = admit-fitting r r′ x f (small x (decode-fits b e x d)) p
 

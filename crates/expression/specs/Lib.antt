@@ -1,0 +1,6 @@
+pub mod Text
+pub mod Grammar
+pub mod Outputs
+pub mod Parts
+pub mod Value
+pub mod bridge
