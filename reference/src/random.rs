@@ -38,6 +38,13 @@ impl Random {
         &items[self.below(items.len())]
     }
 
+    /// Puts items into a random order.
+    pub fn shuffle<T>(&mut self, items: &mut [T]) {
+        for last in (1..items.len()).rev() {
+            items.swap(last, self.below(last + 1));
+        }
+    }
+
     /// Any character.
     pub fn character(&mut self) -> u16 {
         self.number() as u16

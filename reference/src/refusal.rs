@@ -1,6 +1,6 @@
 //! The numbered refusals.
 
-/// A refusal of document 01, "Refusals by who causes them".
+/// A refusal of document 01, "Refusals by who causes them", or of document 02.
 #[derive(Clone, Copy, Debug, PartialEq, Eq, PartialOrd, Ord, Hash)]
 #[repr(u8)]
 pub enum Refusal {
@@ -34,8 +34,15 @@ pub enum Refusal {
     Ended = 13,
     /// 14: received plus piece above 1,099,511,627,776.
     TooLong = 14,
-    /// 15: the output is shorter than may be needed.
+    /// 15: the output is shorter than may be needed; the records of a typed text
+    /// don't fit the lent buffer.
     ShortOutput = 15,
+    /// 16: a text outside the grammar.
+    Grammar = 16,
+    /// 17: a product both of whose factors then have a coefficient other than 0, a
+    /// constant or coefficient of any part outside signed 32 bits, or a final
+    /// coefficient outside signed 16 bits.
+    Expression = 17,
 }
 
 impl Refusal {
