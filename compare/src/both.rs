@@ -1,11 +1,12 @@
-//! Direct conversion, compiling and the test of words by the library and by the
-//! independent version, compared.
+//! Direct conversion, compiling, the test of words and the reading of typed texts
+//! by the library and by the independent version, compared.
 
 use reference::compile::compile as compile_by_reference;
 use reference::direct;
 use reference::meaning::Ending;
 use reference::refusal::Refusal;
 use reference::table::Table;
+use reference::typed::from_text as from_text_by_reference;
 use reference::words::{Words, WORDS};
 
 use crate::cases::{pattern, Case};
@@ -24,7 +25,8 @@ pub struct Converted {
     pub output: Vec<u16>,
 }
 
-/// What the place and the count are before a call.
+/// What the place and the count are before a call, and the length of a text's
+/// records, which is as the place.
 const FOUND: (u64, u64) = (0x1234_5678_9abc_def0, u64::MAX);
 
 /// What the library answers and leaves.
@@ -121,4 +123,30 @@ pub fn is_sound(words: &[u16]) -> bool {
     let sound = Words::sound(words).is_ok();
     assert_eq!(face::is_sound(words), u32::from(sound));
     sound
+}
+
+/// Reads a typed text by both into a buffer of a length, filled before with numbers
+/// other than 0; answers what both did, with the records, none of a refused text.
+///
+/// # Panics
+///
+/// If they differ, or if more than the records is written.
+pub fn from_text(text: &[u16], room: usize) -> (u32, Vec<u8>) {
+    let found = pattern(text.len() as u16, room).into_iter();
+    let found: Vec<u8> = found.map(|word| word as u8 | 1).collect();
+    let (mut table, mut written) = (found.clone(), FOUND.0);
+    let code = face::from_text(text, &mut table, &mut written);
+    let mut expected = found.clone();
+    let answer = from_text_by_reference(text, &mut expected);
+    let answered = match answer {
+        Ok(length) => (OK, length as u64),
+        Err(refusal) => (number(refusal), FOUND.0),
+    };
+    let shown = || String::from_utf16_lossy(text);
+    assert_eq!((code, written), answered, "{:?}", shown());
+    assert!(table == expected, "the buffers differ, {:?}", shown());
+    let length = answer.unwrap_or(0);
+    assert!(table[length..] == found[length..], "{:?}", shown());
+    table.truncate(length);
+    (code, table)
 }

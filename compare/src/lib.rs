@@ -4,7 +4,9 @@
 //! - [`face`]: the functions of `include/cobbletwill.h`, safe to call
 //! - [`cases`]: random tables, sound and damaged, with inputs and buffers
 //! - [`digits`]: tables with digits, and damage to their records and entries
-//! - [`both`]: direct conversion, compiling and the test of words by both
+//! - [`typed`]: typed texts, of random tables and others, and damage to them
+//! - [`both`]: direct conversion, compiling, the test of words and the reading of
+//!   typed texts by both
 //! - [`calls`]: feeds and finishes by both, and random ones
 //! - [`lists`]: lists of calls by both, beside the reckoning
 //! - [`damage`]: damaged machine words and sessions
@@ -27,4 +29,5 @@ pub mod fast;
 #[cfg(feature = "flex")]
 pub mod flex;
 pub mod lists;
+pub mod typed;
 pub mod uses;

@@ -112,7 +112,7 @@ fn sixty_four_starts_in_any_order_and_a_65th_wherever_it_is_met() {
         match order {
             0 => (),
             1 => characters.reverse(),
-            _ => shuffle(&mut random, &mut characters),
+            _ => random.shuffle(&mut characters),
         }
         // A second range for the rule at a place.
         let table = |second: Option<(usize, u16, u16)>| {
@@ -140,13 +140,6 @@ fn sixty_four_starts_in_any_order_and_a_65th_wherever_it_is_met() {
             assert_eq!(code, OK);
             assert_in_place(&words, &starts);
         }
-    }
-}
-
-/// Puts numbers into a random order.
-fn shuffle(random: &mut Random, numbers: &mut [u16]) {
-    for last in (1..numbers.len()).rev() {
-        numbers.swap(last, random.below(last + 1));
     }
 }
 

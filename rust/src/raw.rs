@@ -134,6 +134,14 @@ mod c {
             output_length: usize,
             written: *mut u64,
         ) -> u32;
+
+        pub fn cobbletwill_from_text(
+            text: *const u16,
+            text_length: usize,
+            table: *mut u8,
+            table_length: usize,
+            written: *mut u64,
+        ) -> u32;
     }
 }
 
@@ -223,6 +231,22 @@ pub fn finish(words: &[u16], session: &mut Session, output: &mut [u16], written:
             uses,
             output.as_mut_ptr(),
             output.len(),
+            written,
+        )
+    }
+}
+
+/// The records of a typed text: 0 with their length in bytes set, or the number of
+/// a refusal.
+pub fn from_text(text: &[u16], table: &mut [u8], written: &mut u64) -> u32 {
+    // SAFETY: each pointer and length are those of a slice, and what is written
+    // is borrowed for this call alone.
+    unsafe {
+        c::cobbletwill_from_text(
+            text.as_ptr(),
+            text.len(),
+            table.as_mut_ptr(),
+            table.len(),
             written,
         )
     }

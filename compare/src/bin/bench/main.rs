@@ -1,7 +1,8 @@
 //! Times the proved library against other versions, in one run, and prints
 //! tables for docs/PERFORMANCE.md: direct conversion and compiling against the
 //! independent version, feeds against a machine written for speed and a scanner
-//! that flex generates, and single calls.
+//! that flex generates, single calls, and typed texts against the independent
+//! version.
 
 mod calls;
 mod compiling;
@@ -9,13 +10,15 @@ mod converting;
 mod feeding;
 mod inputs;
 mod timing;
+mod typing;
 
 /// What is timed.
-const SUBJECTS: [(&str, fn()); 4] = [
+const SUBJECTS: [(&str, fn()); 5] = [
     ("converting", converting::print),
     ("compiling", compiling::print),
     ("feeding", feeding::print),
     ("calls", calls::print),
+    ("typing", typing::print),
 ];
 
 /// Times the subjects that are named, or all.
