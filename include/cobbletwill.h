@@ -1,22 +1,25 @@
 /*
- * Cobbletwill: conversion of text under a table of rules, compiling such a table
- * into machine words, and conversion by the words, piece by piece.
+ * Cobbletwill: conversion of text under a table of rules, tables of rules that are
+ * typed as text, compiling a table into machine words, and conversion by the words,
+ * piece by piece.
  *
  * Document 01 says what tables, characters, direct conversion, machine words and
- * sessions are; docs/FORMAT.md has them byte by byte. The functions are those of
+ * sessions are, request [4] of document 02 what can be typed; docs/FORMAT.md has
+ * them character by character and byte by byte. The functions are those of
  * the crate `cobbletwill`, in target/staticlib/libcobbletwill.a, which
  * `rt staticlib cobbletwill` writes for x86-64 Linux.
  *
  * Buffers. A buffer is a pointer to its first element and then its number of
  * elements. With the number 0 the pointer is not used and may be null. No other
- * pointer may be null: `session`, `place` and `written` always point to one
- * object, `uses` to 33. Pointers are aligned as their type.
+ * pointer may be null: `session`, `place`, `written` and `length` always point to
+ * one object, `uses` to 33. Pointers are aligned as their type.
  *
- * Overlaps. What a call may write (the words of compile, `output`, `*session`,
- * `uses`, `*place`, `*written`) must not overlap anything else that is passed to
- * it. Where `uses` is passed too, `*session` is the 48 bytes before its counts.
- * What a call only reads (`table`, `input`, `piece`, the words of feed and finish)
- * may overlap, and may lie in read-only memory.
+ * Overlaps. What a call may write (the table of from_text, the words of compile,
+ * `output`, `*session`, `uses`, `*place`, `*written`, `*length`) must not overlap
+ * anything else that is passed to it. Where `uses` is passed too, `*session` is the
+ * 48 bytes before its counts. What a call only reads (`text`, `table` but for that
+ * of from_text, `input`, `piece`, the words of feed and finish) may overlap, and
+ * may lie in read-only memory.
  *
  * A refused call writes nothing, but for a compile refused by 1 to 9, which
  * leaves its words 0. So at any other refusal what could have been written may
@@ -33,15 +36,19 @@
 
 /* The version of this header and its library: record kinds, word and session
  * layout, answers, functions. Words of 0.2, which has no digits, are not for
- * later versions, nor are sessions of 0.3, which have no counts of uses. */
+ * later versions, nor are sessions of 0.3, which have no counts of uses. Tables,
+ * words and sessions of 0.4, which has no from_text, stay valid. */
 #define COBBLETWILL_VERSION_MAJOR 0
-#define COBBLETWILL_VERSION_MINOR 4
+#define COBBLETWILL_VERSION_MINOR 5
 #define COBBLETWILL_VERSION_PATCH 0
-#define COBBLETWILL_VERSION "0.4.0"
+#define COBBLETWILL_VERSION "0.5.0"
 
 #ifdef __cplusplus
 extern "C" {
 #endif
+
+/* The most bytes of a table that is accepted: 3,377 records of 8. */
+enum { COBBLETWILL_TABLE = 27016 };
 
 /* The machine words of a table: 19,961 of 16 bits. */
 enum { COBBLETWILL_WORDS = 19961 };
@@ -57,17 +64,18 @@ enum { COBBLETWILL_DEFAULT = 32, COBBLETWILL_USES = 33 };
 enum {
     COBBLETWILL_STACK_CHECK = 12288,
     COBBLETWILL_STACK_CONVERT = 12288,
+    COBBLETWILL_STACK_FROM_TEXT = 32768,
     COBBLETWILL_STACK_COMPILE = 14336,
     COBBLETWILL_STACK_IS_SOUND = 256,
     COBBLETWILL_STACK_FEED = 1536,
     COBBLETWILL_STACK_FINISH = 1536
 };
 
-/* The answers of the check, of conversion, of compiling, of feed and of finish. A
- * refusal answers its number. */
+/* The answers of the check, of conversion, of from_text, of compiling, of feed and
+ * of finish. A refusal answers its number. */
 enum {
-    /* The table is accepted; the conversion or the session closed at the input's
-     * end; the table is compiled. */
+    /* The table or the text is accepted; the conversion or the session closed at
+     * the input's end; the table is compiled. */
     COBBLETWILL_OK = 0,
 
     /* 1: the table's length is no multiple of 8. */
@@ -105,8 +113,14 @@ enum {
      * number of output characters in a group of the table; for feed, shorter than
      * E times the characters held and those of the piece; for finish, shorter
      * than E times the characters held. 8 times as many is enough for every
-     * table. */
+     * table. For from_text, a table shorter than the text's records. */
     COBBLETWILL_SHORT_OUTPUT = 15,
+    /* 16: a text outside the grammar. */
+    COBBLETWILL_GRAMMAR = 16,
+    /* 17: a product both of whose factors have a coefficient other than 0, a
+     * constant or coefficient of any part outside signed 32 bits, a final
+     * coefficient outside signed 16 bits. */
+    COBBLETWILL_EXPRESSION = 17,
 
     /* No rule fits and there is no default: the conversion or the session
      * stopped. */
@@ -116,10 +130,11 @@ enum {
 };
 
 /* Whether an answer is a refusal, which is none of 0, 64 and 65: a number from 1
- * to 63, of which 1 to 15 are in use. */
+ * to 63, of which 1 to 17 are in use. */
 #define COBBLETWILL_REFUSED(answer) ((answer) - UINT32_C(1) < UINT32_C(63))
 
-/* A refusal in document 01's words; for any other answer, "no refusal". */
+/* A refusal in the words of documents 01 and 02; for any other answer, "no
+ * refusal". */
 static inline const char *cobbletwill_refusal_text(uint32_t answer) {
     switch (answer) {
     case COBBLETWILL_TABLE_LENGTH:
@@ -154,7 +169,13 @@ static inline const char *cobbletwill_refusal_text(uint32_t answer) {
         return "received plus piece (direct: input) above 1,099,511,627,776";
     case COBBLETWILL_SHORT_OUTPUT:
         return "output shorter than E times (held + piece); "
-               "finish: E times held; direct: E times input";
+               "finish: E times held; direct: E times input; text: its records";
+    case COBBLETWILL_GRAMMAR:
+        return "text outside the grammar";
+    case COBBLETWILL_EXPRESSION:
+        return "a product both of whose factors have a coefficient other than 0, "
+               "a constant or coefficient of any part outside signed 32 bits, "
+               "a final coefficient outside signed 16 bits";
     default:
         return "no refusal";
     }
@@ -186,6 +207,41 @@ uint32_t cobbletwill_convert(const uint8_t *table, size_t table_length,
                              const uint16_t *input, size_t input_length,
                              uint16_t *output, size_t output_length,
                              uint64_t *place, uint64_t *written);
+
+/*
+ * Rules typed as text. `text` has `text_length` characters of 16 bits, as
+ *
+ *     "&#[0-9][0-9];" ==> [10 * x2 + x3 - 528];
+ *     else ==> [x0];
+ *
+ * `table` has room for `table_length` bytes, of which COBBLETWILL_TABLE are enough
+ * for every text. `length` points to one number.
+ *
+ * Answers 0 for a text that is accepted. Then `*length` is the length in bytes of
+ * its records, in the text's order, which are written from the start of `table`,
+ * and the rest of `table` is as found. The records are of the kinds 1 to 5, the
+ * check accepts them, and they mean what the text does.
+ *
+ * Else answers the first refusal in this order, and `table` and `*length` are as
+ * found:
+ *
+ *   16  anywhere in the text, something outside the grammar
+ *   17  anywhere in the text, a product both of whose factors have a coefficient
+ *       other than 0, a constant or coefficient of any part outside signed 32
+ *       bits, a final coefficient outside signed 16 bits
+ *   then for the records, what the check answers:
+ *    2  lowest above highest
+ *    3  a line behind that of `else`, a position not below K, ranges out of order
+ *    6  a 33rd rule, fifth range of a position, ninth output character
+ *   and after all of them
+ *    5  no rule
+ *    7  an output value may leave 0 to 65535
+ *   then
+ *   15  `table_length` below the length of the records
+ */
+uint32_t cobbletwill_from_text(const uint16_t *text, size_t text_length,
+                               uint8_t *table, size_t table_length,
+                               uint64_t *length);
 
 /*
  * Compiling. `table` has `table_length` bytes, in records of 8. `words` has room
@@ -278,6 +334,7 @@ typedef struct cobbletwill_session {
 #define COBBLETWILL_HOLDS(condition) _Static_assert(condition, #condition)
 #endif
 #ifdef COBBLETWILL_HOLDS
+COBBLETWILL_HOLDS(COBBLETWILL_TABLE == 8 * (32 * (1 + 8 * 4 + 8 * 9) + 1 + 8 * 2));
 COBBLETWILL_HOLDS(COBBLETWILL_WORDS == 6 + 64 + 3 * 256 + 64 * 256 + 33 * (3 + 8 * 10));
 COBBLETWILL_HOLDS(sizeof(cobbletwill_tally) == 16);
 COBBLETWILL_HOLDS(offsetof(cobbletwill_tally, produced) == 0);

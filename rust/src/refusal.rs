@@ -3,7 +3,7 @@
 use std::error::Error;
 use std::fmt;
 
-/// A refusal of document 01, "Refusals by who causes them".
+/// A refusal of document 01, "Refusals by who causes them", or of document 02.
 #[derive(Clone, Copy, Debug, PartialEq, Eq, PartialOrd, Ord, Hash)]
 #[repr(u8)]
 pub enum Refusal {
@@ -37,13 +37,20 @@ pub enum Refusal {
     Ended = 13,
     /// 14: received plus piece above 1,099,511,627,776.
     TooLong = 14,
-    /// 15: the output is shorter than may be needed.
+    /// 15: the output is shorter than may be needed; the buffer is shorter than
+    /// the records of a typed text.
     ShortOutput = 15,
+    /// 16: a text outside the grammar.
+    Grammar = 16,
+    /// 17: a product both of whose factors have a coefficient other than 0, a
+    /// constant or coefficient of any part outside signed 32 bits, a final
+    /// coefficient outside signed 16 bits.
+    Expression = 17,
 }
 
 impl Refusal {
     /// All refusals, by number.
-    pub const ALL: [Refusal; 15] = [
+    pub const ALL: [Refusal; 17] = [
         Refusal::TableLength,
         Refusal::Field,
         Refusal::Place,
@@ -59,6 +66,8 @@ impl Refusal {
         Refusal::Ended,
         Refusal::TooLong,
         Refusal::ShortOutput,
+        Refusal::Grammar,
+        Refusal::Expression,
     ];
 
     /// "A refusal answers its number."
@@ -66,14 +75,14 @@ impl Refusal {
         self as u32
     }
 
-    /// The refusal with a number, 1 to 15.
+    /// The refusal with a number, 1 to 17.
     pub fn from_number(number: u32) -> Option<Refusal> {
         Refusal::ALL
             .into_iter()
             .find(|refusal| refusal.number() == number)
     }
 
-    /// Document 01's words for it.
+    /// The words of document 01 or 02 for it.
     pub const fn words(self) -> &'static str {
         match self {
             Refusal::TableLength => "length no multiple of 8",
@@ -98,7 +107,13 @@ impl Refusal {
             Refusal::TooLong => "received plus piece (direct: input) above 1,099,511,627,776",
             Refusal::ShortOutput => {
                 "output shorter than E times (held + piece); \
-                 finish: E times held; direct: E times input"
+                 finish: E times held; direct: E times input; text: its records"
+            }
+            Refusal::Grammar => "text outside the grammar",
+            Refusal::Expression => {
+                "a product both of whose factors have a coefficient other than 0, \
+                 a constant or coefficient of any part outside signed 32 bits, \
+                 a final coefficient outside signed 16 bits"
             }
         }
     }

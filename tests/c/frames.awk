@@ -1,7 +1,8 @@
 # The most stack of each exported function, over all inputs, from `objdump -dr` of the library: the return address, what a function pushes and
 # takes off the stack pointer, and the deepest of its calls; one that calls none may use 128 bytes below its stack pointer (the red zone of
 # x86-64). Of memcpy and memset, which are not in the library, the return address alone is counted.
-# Fails on what it can't add up: another change of the stack pointer, a call through a pointer, a cycle of calls.
+# `-v nested=NAME -v turns=N` names a function that calls itself, by way of others or not, and is entered at most N times before it is left.
+# Fails on what it can't add up: another change of the stack pointer, a call through a pointer, a cycle of calls that is not through `nested`.
 
 /^[0-9a-f]+ <.*>:$/ {
     name = $2
@@ -22,7 +23,8 @@ operation == "push" && /^ +[0-9a-f]+:\t/ { frame[name] += 8 }
     callee = $3
     sub(/-0x[0-9a-f]+$/, "", callee)
     sub(/^\.text\./, "", callee)
-    calls[name] = calls[name] " " callee
+    if (!((name, callee) in called)) calls[name] = calls[name] " " callee
+    called[name, callee]
 }
 END {
     if (failed) exit 1
@@ -40,18 +42,21 @@ function number(digits,    value, at) {
     return value
 }
 
-# The most stack of a function and all that it calls.
+# The most stack of a function and all that it calls, within so many turns of `nested` in `turn`.
 function deepest(name,    callees, count, at, most, depth) {
     if (name == "memcpy" || name == "memset") return 8
     if (!(name in frame)) { fail("no code of " name); return 0 }
-    if (name in entered) { fail(name " calls itself"); return 0 }
-    entered[name]
+    if (name == nested && turn == turns) return 0
+    turn += name == nested
+    if ((turn, name) in entered) { fail(name " calls itself"); return 0 }
+    entered[turn, name]
     count = split(calls[name], callees, " ")
     most = count == 0 ? 128 : 0
     for (at = 1; at <= count; at++) {
         depth = deepest(callees[at])
         if (depth > most) most = depth
     }
-    delete entered[name]
+    delete entered[turn, name]
+    turn -= name == nested
     return frame[name] + most
 }

@@ -24,12 +24,12 @@ static void test_refused(void) {
     EXPECT(!COBBLETWILL_REFUSED(COBBLETWILL_OPEN));
     EXPECT(!COBBLETWILL_REFUSED(answer++));
     EXPECT(answer == 1);
-    for (; answer <= COBBLETWILL_SHORT_OUTPUT; answer++) {
+    for (; answer <= COBBLETWILL_EXPRESSION; answer++) {
         EXPECT(COBBLETWILL_REFUSED(answer));
         printf("refused %u: %s\n", (unsigned)answer, cobbletwill_refusal_text(answer));
     }
     EXPECT(strcmp(cobbletwill_refusal_text(COBBLETWILL_OK), "no refusal") == 0);
-    EXPECT(strcmp(cobbletwill_refusal_text(16), "no refusal") == 0);
+    EXPECT(strcmp(cobbletwill_refusal_text(18), "no refusal") == 0);
 }
 
 static void test_version(void) {

@@ -11,6 +11,7 @@
 
 #include "cobbletwill.h"
 #include "expect.h"
+#include "rules.h"
 #include "tables.h"
 
 enum { ROOM = 32, BEYOND = 3 };
@@ -19,7 +20,8 @@ enum { ROOM = 32, BEYOND = 3 };
 struct lent {
     uint8_t before[8];
     cobbletwill_session session;
-    uint64_t place, written;
+    uint64_t place, written, length;
+    uint8_t records[COBBLETWILL_TABLE];
     uint16_t output[ROOM];
     uint16_t words[COBBLETWILL_WORDS + BEYOND];
     uint8_t after[8];
@@ -37,7 +39,7 @@ static const uint8_t table[] = {
 
 /* The call that is tried, with its arguments beside those lent. */
 struct call {
-    enum { CHECK, CONVERT, COMPILE, FEED, FINISH } of;
+    enum { CHECK, CONVERT, FROM_TEXT, COMPILE, FEED, FINISH } of;
     const uint8_t *table;
     size_t table_length;
     const uint16_t *input;
@@ -52,6 +54,9 @@ static uint32_t make(const struct call *call) {
     case CONVERT:
         return cobbletwill_convert(call->table, call->table_length, call->input, call->input_length,
                                    lent->output, call->output_length, &lent->place, &lent->written);
+    case FROM_TEXT:
+        return cobbletwill_from_text(call->input, call->input_length, lent->records, call->output_length,
+                                     &lent->length);
     case COMPILE:
         return cobbletwill_compile(call->table, call->table_length, lent->words, call->words_length);
     case FEED:
@@ -294,6 +299,48 @@ static void test_inputs(void) {
     munmap(addresses, 2 * length);
 }
 
+/* Typed rules are refused by a number, if the table has so many bytes. */
+static void typed_refused(const char *typed, size_t table_length, uint32_t number) {
+    static uint16_t characters[LONGEST_MOST];
+    const struct call call = {FROM_TEXT, NULL, 0, characters, put_text(characters, typed), table_length, 0};
+    lend(fresh);
+    refused(&call, number);
+}
+
+/* Each has something that a later number stands for too, where there is such a text. A table without room changes no
+ * number but 15. */
+static void test_typed(void) {
+    static const struct {
+        const char *typed;
+        uint32_t number;
+    } texts[] = {
+        {"a", COBBLETWILL_GRAMMAR},
+        {"\"a\" ==> [x0 * x0]; \"b\" ==> []", COBBLETWILL_GRAMMAR},
+        {"\"a\" ==> [65535 * 65535, hex(x0, 4)];", COBBLETWILL_GRAMMAR},
+        {"\"[b-a]\" ==> []; \"a\" ==> [x0 * x0];", COBBLETWILL_EXPRESSION},
+        {"else ==> [65535 * 65535 - 65535 * 65535];", COBBLETWILL_EXPRESSION},
+        {"\"a\" ==> [32768 * x1];", COBBLETWILL_EXPRESSION},
+        {"\"[b-a]\" ==> []; \"[ba]\" ==> [];", COBBLETWILL_FIELD},
+        {"\"[ba]\" ==> [0 - 1]; \"[b-a]\" ==> [];", COBBLETWILL_PLACE},
+        {"\"a\" ==> [x1];", COBBLETWILL_PLACE},
+        {"else ==> []; \"[acegi]\" ==> [];", COBBLETWILL_PLACE},
+        {"", COBBLETWILL_NO_RULE},
+        {"\n", COBBLETWILL_NO_RULE},
+        {"else ==> [x0 + 1];", COBBLETWILL_NO_RULE},
+        {"\"[acegi]\" ==> []; \"[b-a]\" ==> [];", COBBLETWILL_TOO_MANY},
+        {"\"a\" ==> [1, 2, 3, 4, 5, 6, 7, 8, 0 - 9];", COBBLETWILL_TOO_MANY},
+        {"\"[0-9]\" ==> [x0 - 49];", COBBLETWILL_VALUE},
+        {"\"a\" ==> [65]; else ==> [x0 + 1];", COBBLETWILL_VALUE},
+    };
+    for (size_t i = 0; i < sizeof texts / sizeof texts[0]; i++) {
+        typed_refused(texts[i].typed, COBBLETWILL_TABLE, texts[i].number);
+        typed_refused(texts[i].typed, 0, texts[i].number);
+    }
+    for (size_t length = 0; length < 3 * RECORD; length++) {
+        typed_refused("\"a\" ==> [65];", length, COBBLETWILL_SHORT_OUTPUT);
+    }
+}
+
 int main(void) {
     signal(SIGSEGV, on_fault);
     signal(SIGBUS, on_fault);
@@ -305,6 +352,7 @@ int main(void) {
     test_unsound_sessions();
     test_parts();
     test_unsound_digits();
+    test_typed();
     printf("refused: %d calls\n", made);
     return 0;
 }

@@ -10,6 +10,7 @@
 
 #include "cobbletwill.h"
 #include "expect.h"
+#include "rules.h"
 #include "tables.h"
 
 enum { DEEP = 1 << 13, PIECE = 5001, ROOM = 8 * (8 + PIECE) };
@@ -22,10 +23,13 @@ static ucontext_t caller, callee;
 
 static uint8_t table[LARGE_MOST + 9 * RECORD];
 static size_t table_length;
+static uint16_t rules[LONGEST_MOST];
+static size_t rules_length;
+static uint8_t records[COBBLETWILL_TABLE];
 static uint16_t words[COBBLETWILL_WORDS];
 static uint16_t text[PIECE];
 static uint16_t output[ROOM];
-static uint64_t place, written;
+static uint64_t place, written, length;
 static cobbletwill_session session;
 static uint32_t answer;
 
@@ -67,6 +71,8 @@ SUBJECT(check, (const uint8_t *t, size_t tl), (table, table_length))
 SUBJECT(convert,
         (const uint8_t *t, size_t tl, const uint16_t *i, size_t il, uint16_t *o, size_t ol, uint64_t *p, uint64_t *w),
         (table, table_length, text, PIECE, output, ROOM, &place, &written))
+SUBJECT(from_text, (const uint16_t *t, size_t tl, uint8_t *r, size_t rl, uint64_t *n),
+        (rules, rules_length, records, COBBLETWILL_TABLE, &length))
 SUBJECT(compile, (const uint8_t *t, size_t tl, uint16_t *w, size_t wl),
         (table, table_length, words, COBBLETWILL_WORDS))
 SUBJECT(is_sound, (const uint16_t *w, size_t wl), (words, COBBLETWILL_WORDS))
@@ -86,6 +92,7 @@ static struct subject {
 } subjects[] = {
     {"cobbletwill_check", COBBLETWILL_STACK_CHECK, 0},
     {"cobbletwill_convert", COBBLETWILL_STACK_CONVERT, 0},
+    {"cobbletwill_from_text", COBBLETWILL_STACK_FROM_TEXT, 0},
     {"cobbletwill_compile", COBBLETWILL_STACK_COMPILE, 0},
     {"cobbletwill_is_sound", COBBLETWILL_STACK_IS_SOUND, 0},
     {"cobbletwill_feed_parts", COBBLETWILL_STACK_FEED, 0},
@@ -101,17 +108,17 @@ static void note(int subject, size_t bytes, uint32_t expected) {
     }
 }
 
-/* Every function under the table, on a text that ends in the middle of a pattern. */
+/* Every function of tables and words, on a text that ends in the middle of a pattern. */
 static void measure(void) {
     const cobbletwill_session fresh = COBBLETWILL_FRESH;
     session = fresh;
     note(0, depth_check(), COBBLETWILL_OK);
     note(1, depth_convert(), COBBLETWILL_OK);
-    note(2, depth_compile(), COBBLETWILL_OK);
-    note(3, depth_is_sound(), 1);
-    note(4, depth_feed_parts(), COBBLETWILL_OPEN);
+    note(3, depth_compile(), COBBLETWILL_OK);
+    note(4, depth_is_sound(), 1);
+    note(5, depth_feed_parts(), COBBLETWILL_OPEN);
     EXPECT(session.held_count > 0);
-    note(5, depth_finish_parts(), COBBLETWILL_OK);
+    note(6, depth_finish_parts(), COBBLETWILL_OK);
 }
 
 /* 64 classes and 256 states, and a default that writes eight characters, four of them digits. */
@@ -124,6 +131,16 @@ static void put_table(void) {
         const uint8_t characters[] = {OUTPUT('A'), DIGIT(0, 4)};
         memcpy(table + table_length, characters, sizeof characters);
         table_length += sizeof characters;
+    }
+}
+
+/* Typed rules: the longest ones, and sums within each other up to 16 deep and beyond. */
+static void measure_typed(void) {
+    rules_length = put_longest(rules);
+    note(2, depth_from_text(), COBBLETWILL_OK);
+    for (int depth = 1; depth < 100; depth++) {
+        rules_length = put_nested(rules, depth);
+        note(2, depth_from_text(), depth <= 16 ? COBBLETWILL_OK : COBBLETWILL_GRAMMAR);
     }
 }
 
@@ -146,6 +163,7 @@ int main(int argc, char **argv) {
         text[i] = 1;
     }
     measure();
+    measure_typed();
 
     bool held = true;
     for (int i = 0; i < SUBJECTS; i++) {
