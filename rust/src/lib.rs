@@ -1,16 +1,19 @@
 //! The proved rollback converter for Rust callers, over the C face of
 //! `include/cobbletwill.h`. Document 01 says what tables, machine words, sessions
-//! and refusals are.
+//! and refusals are, request \[4\] of document 02 what can be typed.
 //!
 //! ```
 //! use cobbletwill::record::{output, range, rule, term, DEFAULT};
-//! use cobbletwill::{Machine, Session, Status};
+//! use cobbletwill::{from_text, Machine, Session, Status};
 //!
 //! // One rule: `+` is written as a blank. The default writes what it took.
+//! let typed: Vec<u16> = "\"+\" ==> [32]; else ==> [x0];".encode_utf16().collect();
+//! let table = from_text(&typed)?;
 //! let plus = [rule(1, false), range(0, 43, 43), output(32)];
 //! let default = [DEFAULT, output(0), term(0, 1)];
-//! let machine = Machine::compile(&[plus, default].concat().concat())?;
+//! assert_eq!(table, [plus, default].concat().concat());
 //!
+//! let machine = Machine::compile(&table)?;
 //! let mut session = Session::fresh();
 //! let mut text = [0; 5];
 //! let piece: Vec<u16> = "0+214".encode_utf16().collect();
@@ -23,6 +26,7 @@
 //! ```
 //!
 //! - [`check`], [`convert`]: the table check and direct conversion
+//! - [`from_text`]: tables of rules that are typed as text
 //! - [`Machine`]: compiled tables
 //! - [`Session`]: feed and finish, and how often each rule was used; [`run`] makes
 //!   all calls
@@ -39,12 +43,14 @@ pub mod raw;
 pub mod record;
 mod refusal;
 mod session;
+mod typed;
 
 pub use direct::{check, convert, Conversion, Ending};
 pub use machine::Machine;
-pub use raw::{Session, Tally, WORDS};
+pub use raw::{Session, Tally, TABLE, WORDS};
 pub use refusal::Refusal;
 pub use session::{run, Progress, Status};
+pub use typed::from_text;
 
 /// The most output characters that a group has, so that so many times the input
 /// is room enough under every table.

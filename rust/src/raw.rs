@@ -7,6 +7,9 @@
 
 use std::mem::offset_of;
 
+/// The most bytes of a table that is accepted: 3,377 records of 8.
+pub const TABLE: usize = 27_016;
+
 /// The machine words of a table: 19,961 of 16 bits.
 pub const WORDS: usize = 19_961;
 
@@ -15,8 +18,8 @@ pub const USES: usize = 33;
 /// The place of the default's count.
 pub const DEFAULT: usize = 32;
 
-/// The answer for a table that is accepted or compiled, and for a conversion or
-/// a session that closed.
+/// The answer for a table or a typed text that is accepted, for a table that is
+/// compiled, and for a conversion or a session that closed.
 pub const OK: u32 = 0;
 /// The answer for a conversion or a session that stopped.
 pub const STOPPED: u32 = 64;
@@ -104,6 +107,14 @@ mod c {
             written: *mut u64,
         ) -> u32;
 
+        pub fn cobbletwill_from_text(
+            text: *const u16,
+            text_length: usize,
+            table: *mut u8,
+            table_length: usize,
+            length: *mut u64,
+        ) -> u32;
+
         pub fn cobbletwill_compile(
             table: *const u8,
             table_length: usize,
@@ -135,13 +146,6 @@ mod c {
             written: *mut u64,
         ) -> u32;
 
-        pub fn cobbletwill_from_text(
-            text: *const u16,
-            text_length: usize,
-            table: *mut u8,
-            table_length: usize,
-            written: *mut u64,
-        ) -> u32;
     }
 }
 
@@ -173,6 +177,22 @@ pub fn convert(
             output.len(),
             place,
             written,
+        )
+    }
+}
+
+/// The records of a typed text: 0 with their length in bytes set, or the number of
+/// a refusal.
+pub fn from_text(text: &[u16], table: &mut [u8], length: &mut u64) -> u32 {
+    // SAFETY: each pointer and length are those of a slice, and what is written
+    // is borrowed for this call alone.
+    unsafe {
+        c::cobbletwill_from_text(
+            text.as_ptr(),
+            text.len(),
+            table.as_mut_ptr(),
+            table.len(),
+            length,
         )
     }
 }
@@ -236,22 +256,6 @@ pub fn finish(words: &[u16], session: &mut Session, output: &mut [u16], written:
     }
 }
 
-/// The records of a typed text: 0 with their length in bytes set, or the number of
-/// a refusal.
-pub fn from_text(text: &[u16], table: &mut [u8], written: &mut u64) -> u32 {
-    // SAFETY: each pointer and length are those of a slice, and what is written
-    // is borrowed for this call alone.
-    unsafe {
-        c::cobbletwill_from_text(
-            text.as_ptr(),
-            text.len(),
-            table.as_mut_ptr(),
-            table.len(),
-            written,
-        )
-    }
-}
-
 /// A session and its counts, the two parts that it is lent in.
 fn parts(session: &mut Session) -> (*mut Session, *mut [u64; USES]) {
     let session: *mut Session = session;
@@ -301,6 +305,20 @@ mod tests {
         assert_eq!(convert(null(), 0), 5);
         assert_eq!(convert(table, length), 0);
         assert_eq!((place, written), (0, 0));
+    }
+
+    #[test]
+    fn empty_texts_and_tables_of_typed_rules() {
+        let text: Vec<u16> = "\"a\"==>[];".encode_utf16().collect();
+        let mut length = 17;
+        // SAFETY: with the length 0 a pointer is not used; the others are those
+        // of a slice and of a number that is borrowed for this call alone.
+        let mut from_text = |text, count| unsafe {
+            c::cobbletwill_from_text(text, count, null_mut(), 0, &mut length)
+        };
+        assert_eq!(from_text(null(), 0), 5);
+        assert_eq!(from_text(text.as_ptr(), text.len()), 15);
+        assert_eq!(length, 17);
     }
 
     #[test]

@@ -2,13 +2,8 @@
 //! from the document: direct, in one feed, in two pieces and one by one. Digits
 //! likewise, with answers from the source's Examples 2 and 3 or worked out by hand.
 
-use crate::tables::{four_digits, mixed, t1, t1_with, t2, t3, t3_with, two_digits};
+use crate::tables::{four_digits, mixed, t1, t1_with, t2, t3, t3_with, two_digits, units};
 use cobbletwill::{check, convert, run, Ending, Machine, Refusal, Session, Status, MOST_OUTPUTS};
-
-/// The characters of a text.
-fn units(text: &str) -> Vec<u16> {
-    text.encode_utf16().collect()
-}
 
 /// An input in every two pieces, and one by one.
 fn splits(input: &[u16]) -> Vec<Vec<&[u16]>> {

@@ -2,6 +2,11 @@
 
 use cobbletwill::record::{digit, output, range, rule, term, Record, DEFAULT};
 
+/// The characters of a text.
+pub fn units(text: &str) -> Vec<u16> {
+    text.encode_utf16().collect()
+}
+
 /// One character at each position from 0.
 fn spelled(text: &str) -> Vec<Record> {
     let units = text.encode_utf16().zip(0..);
