@@ -2,14 +2,17 @@
 //! [`build`] says where one is refused, [`listing`] prints a table's records in
 //! words.
 //!
-//! Whether a table is accepted is decided by the proved library alone.
+//! What typed rules mean, and whether a table is accepted, is decided by the proved
+//! library alone.
 
 #![forbid(unsafe_code)]
 #![warn(missing_docs)]
 
 pub mod build;
-mod expression;
+mod digit;
+mod fault;
 pub mod listing;
 mod place;
-mod reader;
+mod refused;
 pub mod source;
+mod units;

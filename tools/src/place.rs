@@ -82,7 +82,7 @@ fn leaving_output(records: &[Record]) -> Option<usize> {
 
 /// The first rule up to which the rules alone are refused so; compiling has
 /// refused all of them.
-fn crowding_rule(records: &[Record], refusal: Refusal) -> usize {
+pub fn crowding_rule(records: &[Record], refusal: Refusal) -> usize {
     let opening = (1..=records.len()).filter(|&at| records.get(at).is_none_or(opens_group));
     let refused = |&end: &usize| Machine::compile(&records[..end].concat()) == Err(refusal);
     opening.take_while(|end| !refused(end)).count()

@@ -19,8 +19,8 @@ const VALUE: &str = "refused 7: an output value may leave 0 to 65535";
 #[test]
 fn no_source() {
     refused(
-        "\"a\" ==> [1];\n\"b\" => [2];",
-        "line 2, column 5: `==>` has to come here",
+        "\"a\" ==> [1];\n\"b\" [2];",
+        "line 2, column 5: refused 16: text outside the grammar; `==>` may come here",
     );
     let bytes = b"\"a\" ==> [1];\n# \xff";
     let fault = build(bytes).expect_err("no text");
@@ -33,23 +33,46 @@ fn ranges_and_positions() {
                  ranges or terms out of order";
     refused(
         "# letters\n\"x[ba]\" ==> [];",
-        &format!("line 2, column 5: {place}\nat record 3, in rule 0"),
+        &format!("line 2, column 5: {place}"),
+    );
+    refused(
+        "\"[a-fb-g]\" ==> [];",
+        &format!("line 1, column 6: {place}"),
     );
     refused(
         "else ==> [];\n \"a\" ==> [];",
-        &format!("line 2, column 2: {place}\nat record 1, in rule 0"),
+        &format!("line 2, column 2: {place}"),
+    );
+    refused(
+        "\"a\" ==> [];\nelse ==> [];\n\nelse ==> [];",
+        &format!("line 4, column 1: {place}"),
     );
     refused(
         "\"a\" ==> [\n  65,\n  x0 + x1];",
-        &format!("line 3, column 3: {place}\nat record 5, in rule 0"),
+        &format!("line 3, column 3: {place}"),
+    );
+    refused(
+        "\"a\" ==> [x1 - x1,\n  x0 + 2 * (x1 - x1) - x2 + x1, x1];",
+        &format!("line 2, column 3: {place}"),
     );
     refused(
         "\"a\" ==> [hex(x0, 4),\n  hex(x1, 0)];",
-        &format!("line 2, column 3: {place}\nat record 3, in rule 0"),
+        &format!("line 2, column 3: {place}"),
     );
     refused(
         "\"a\" ==> [];\nelse ==> [hex(x1, 12)];",
-        &format!("line 2, column 11: {place}\nat record 3, in the default"),
+        &format!("line 2, column 11: {place}"),
+    );
+}
+
+/// At the end of the range.
+#[test]
+fn lowest_above_highest() {
+    let field = "refused 2: unknown kind, a field outside its own range, \
+                 a byte that must be zero and isn't, lowest above highest";
+    refused(
+        "\"a\" ==> [0 - 1];\n\"[0-9z-a,;]\" ==> [];",
+        &format!("line 2, column 8: {field}"),
     );
 }
 
@@ -57,35 +80,38 @@ fn ranges_and_positions() {
 fn counts() {
     refused(
         "\"[acegi]\" ==> [];",
-        &format!("line 1, column 7: {TOO_MANY}\nat record 5, in rule 0"),
+        &format!("line 1, column 7: {TOO_MANY}"),
     );
     refused(
         &"\"a\" ==> [];\n".repeat(33),
-        &format!("line 33, column 1: {TOO_MANY}\nat record 64, in rule 32"),
+        &format!("line 33, column 1: {TOO_MANY}"),
     );
     refused(
         "\"b\" ==> [1, 2, 3, 4,\n 5, 6, 7, 8,\n 9];",
-        &format!("line 3, column 2: {TOO_MANY}\nat record 10, in rule 0"),
+        &format!("line 3, column 2: {TOO_MANY}"),
     );
     refused(
         "\"b\" ==> [1, hex(x0, 4), 3, hex(x0, 0), 5,\n 6, 7, 8, hex(x0, 8)];",
-        &format!("line 2, column 11: {TOO_MANY}\nat record 10, in rule 0"),
+        &format!("line 2, column 11: {TOO_MANY}"),
     );
-    refused(
-        "else ==> [];\n",
-        "line 2, column 1: refused 5: no rule\nat the table's end, after the default",
-    );
+    refused("else ==> [];\n", "line 2, column 1: refused 5: no rule");
+    refused("", "line 1, column 1: refused 5: no rule");
+    refused("# nothing", "line 1, column 10: refused 5: no rule");
 }
 
 #[test]
 fn values() {
     refused(
         "\"a\" ==> [65];\nelse ==> [x0,\n    x0 + 1];",
-        &format!("line 3, column 5: {VALUE}\nat record 6, in the default"),
+        &format!("line 3, column 5: {VALUE}"),
     );
     refused(
         "\"a\" ==> [hex(x0, 4)];\nelse ==> [hex(x0, 0), x0,\n  hex(x0, 12), x0 + 1];",
-        &format!("line 3, column 16: {VALUE}\nat record 8, in the default"),
+        &format!("line 3, column 16: {VALUE}"),
+    );
+    refused(
+        "\"[0-9],[a-z]\" ==> [x0, 0 - x2 + 200,\n 10 * (x0 - 48) + x2 - 98, 0 - 1];",
+        &format!("line 2, column 2: {VALUE}"),
     );
 }
 
@@ -136,7 +162,7 @@ fn the_program_names_the_file() {
     let output = run(&from, &to);
     assert_eq!(output.status.code(), Some(1));
     let said = format!(
-        "build_table: {}: line 2, column 11: {VALUE}\nat record 4, in the default\n",
+        "build_table: {}: line 2, column 11: {VALUE}\n",
         from.display()
     );
     assert_eq!(String::from_utf8_lossy(&output.stderr), said);

@@ -2,7 +2,6 @@
 
 use cobbletwill::record::{digit, output, range, rule, term, Record, DEFAULT};
 use tools::listing::{listing, verdict};
-use tools::source;
 
 /// The records of a table are listed so.
 fn lists(records: &[Record], expected: &[&str]) {
@@ -10,11 +9,10 @@ fn lists(records: &[Record], expected: &[&str]) {
     assert_eq!(found.lines().collect::<Vec<_>>(), expected);
 }
 
-/// A source's table has this verdict.
-fn says(source: &str, expected: &[&str]) {
-    let table = source::table(source).expect("a source");
-    let found = verdict(&table);
-    assert_eq!(found.lines().collect::<Vec<_>>(), expected, "{source}");
+/// The records of a table have this verdict.
+fn says(records: &[Record], expected: &[&str]) {
+    let found = verdict(&records.concat());
+    assert_eq!(found.lines().collect::<Vec<_>>(), expected);
 }
 
 const FIELD: &str = "refused 2: unknown kind, a field outside its own range, \
@@ -278,26 +276,37 @@ fn refusal_5() {
 
 #[test]
 fn refusal_6() {
-    says("\"[acegi]\" ==> [];", &[TOO_MANY, "at record 5, in rule 0"]);
-    let nine = "\"a\" ==> [1]; \"b\" ==> [1, 2, 3, 4, 5, 6, 7, 8, 9];";
-    says(nine, &[TOO_MANY, "at record 13, in rule 1"]);
-    let digits = format!("\"a\" ==> [1, {}2];", "hex(x0, 4), ".repeat(7));
+    let a = [rule(1, false), range(0, 97, 97)];
+    let ranges = [99, 101, 103, 105].map(|letter| range(0, letter, letter));
+    let five = [&a[..], &ranges].concat();
+    says(&five, &[TOO_MANY, "at record 5, in rule 0"]);
+    let nine = [&a[..], &[output(1)], &a, &[output(1); 9]].concat();
+    says(&nine, &[TOO_MANY, "at record 13, in rule 1"]);
+    let digits = [&a[..], &[output(1)], &[digit(0, 4); 7], &[output(2)]].concat();
     says(&digits, &[TOO_MANY, "at record 10, in rule 0"]);
-    let rules = "\"a\" ==> [];".repeat(33);
-    says(&rules, &[TOO_MANY, "at record 64, in rule 32"]);
+    says(&a.repeat(33), &[TOO_MANY, "at record 64, in rule 32"]);
 }
 
 #[test]
 fn refusal_7_in_a_rule_and_in_the_default() {
-    let t1 = "\"&#00;\" ==> [38, 35, 48, 48, 59];\n\
-              \"&#[0-9][0-9];\" ==> [10 * x2 + x3 - 529];\n\
-              \"&#$\" ==> [38, 35];\n\
-              else ==> [x0];";
-    says(t1, &[VALUE, "at record 17, in rule 1"]);
-    let t3 = "\"ab\" ==> [49]; \"aba\" ==> [50]; else ==> [x0, x0 + 1];";
-    says(t3, &[VALUE, "at record 12, in the default"]);
-    let digits = "\"[a-z]\" ==> [hex(x0, 4), x0, hex(x0, 0), x0 - 98];";
-    says(digits, &[VALUE, "at record 6, in rule 0"]);
+    let t1 = include_bytes!("../../tables/html-decimal/rules.tab");
+    let mut t1 = t1.as_chunks().0.to_vec();
+    assert_eq!(t1[17], output(-528));
+    t1[17] = output(-529);
+    says(&t1, &[VALUE, "at record 17, in rule 1"]);
+    let a = [rule(1, false), range(0, 97, 97), output(49)];
+    let default = [DEFAULT, output(0), term(0, 1), output(1), term(0, 1)];
+    says(
+        &[&a[..], &default].concat(),
+        &[VALUE, "at record 6, in the default"],
+    );
+    let letters = [rule(1, false), range(0, 97, 122)];
+    let outputs = [digit(0, 4), output(0), term(0, 1), digit(0, 0)];
+    let below = [output(-98), term(0, 1)];
+    says(
+        &[&letters[..], &outputs, &below].concat(),
+        &[VALUE, "at record 6, in rule 0"],
+    );
 }
 
 /// 32 rules of a length, every second character first from one on, then any.
