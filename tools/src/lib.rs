@@ -1,6 +1,6 @@
 //! For those who write tables: [`source`] makes a table from a readable text,
 //! [`build`] says where one is refused, [`listing`] prints a table's records in
-//! words.
+//! words, [`typed`] writes a table as rules that can be typed.
 //!
 //! What typed rules mean, and whether a table is accepted, is decided by the proved
 //! library alone.
@@ -15,4 +15,5 @@ pub mod listing;
 mod place;
 mod refused;
 pub mod source;
+pub mod typed;
 mod units;

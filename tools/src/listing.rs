@@ -4,17 +4,23 @@ use cobbletwill::record::Record;
 use cobbletwill::{Machine, Refusal};
 
 use crate::place::{opens_group, opens_rule, place, Place};
+use crate::typed::source;
 
-/// The table's records, one a line, group by group, and the verdict.
+/// The table's records, one a line, group by group, and the verdict. A group of a
+/// table that the check accepts is shown as in a source, too.
 pub fn listing(table: &[u8]) -> String {
     let refused = Machine::compile(table).err();
     let marked = refused.map(|refusal| (place(table, refusal), refusal));
     let (records, rest) = table.as_chunks();
     let mut text = String::new();
     let mut rules = 0;
+    let mut lines = source(table).unwrap_or_default().into_iter();
     for (number, record) in records.iter().enumerate() {
         if opens_group(record) {
-            text += &heading(record, &mut rules);
+            let line = lines
+                .next()
+                .map_or(String::new(), |line| format!(": {line}"));
+            text += &format!("{}{line}\n", heading(record, &mut rules));
         }
         text += &line(number, record);
         if let Some((Place::Record(at), refusal)) = marked {
@@ -33,10 +39,10 @@ pub fn listing(table: &[u8]) -> String {
 /// The name of a group, of which a rule's number is that of the rules before it.
 fn heading(record: &Record, rules: &mut usize) -> String {
     if record[0] == 5 {
-        return "default\n".to_owned();
+        return "default".to_owned();
     }
     *rules += 1;
-    format!("rule {}\n", *rules - 1)
+    format!("rule {}", *rules - 1)
 }
 
 /// A record's number, its bytes and what it says.

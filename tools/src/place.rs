@@ -59,7 +59,7 @@ pub fn opens_group(record: &Record) -> bool {
 }
 
 /// Whether a record is an output character: a sum's, or a digit.
-fn is_output(record: &Record) -> bool {
+pub fn is_output(record: &Record) -> bool {
     matches!(record[0], 3 | 6)
 }
 

@@ -5,8 +5,8 @@ use std::collections::BTreeSet;
 use std::fs;
 use std::path::{Path, PathBuf};
 
-use cobbletwill::{convert, run, Ending, Machine, MOST_OUTPUTS};
-use tools::source;
+use cobbletwill::{convert, from_text, run, Ending, Machine, MOST_OUTPUTS};
+use tools::{source, typed};
 
 /// The tables of river stations, whose numbers are kept.
 const STATION: [&str; 5] = ["centimetres", "decimal-comma", "nmea", "sdi12", "shef"];
@@ -75,6 +75,21 @@ fn records_are_those_of_the_source() {
         let source = String::from_utf8(file(name, "rules.txt")).expect("UTF-8");
         let table = source::table(&source).unwrap_or_else(|fault| panic!("{name}: {fault}"));
         assert!(table == file(name, "rules.tab"), "{name}");
+    }
+}
+
+#[test]
+fn records_are_written_as_rules_that_are_read_back() {
+    for name in names() {
+        let table = file(name, "rules.tab");
+        let lines = typed::source(&table).expect("accepted");
+        assert!(
+            source::table(&lines.concat()) == Ok(table.clone()),
+            "{name}"
+        );
+        let written = typed::text(&table).expect("accepted");
+        let has_digits = name == "hex-bytes";
+        assert_eq!(from_text(&written) == Ok(table), !has_digits, "{name}");
     }
 }
 
