@@ -42,7 +42,7 @@ pub fn texts(seed: u64) -> impl Iterator<Item = Text> {
 }
 
 /// The table without its digits, so that its records are of the kinds 1 to 5.
-fn without_digits(mut table: Table) -> Table {
+pub fn without_digits(mut table: Table) -> Table {
     let groups = table.rules.iter_mut().chain(&mut table.default);
     for group in groups {
         let outputs = &mut group.outputs;

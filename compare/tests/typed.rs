@@ -1,14 +1,18 @@
 //! Request [4]: typed texts against the independent version, the same answer and
-//! the same buffer, the whole of it, for every text.
+//! the same buffer, the whole of it, for every text; and tables that the tools
+//! write as text, read back by both.
 
 use std::collections::BTreeMap;
 
 use compare::both::from_text;
-use compare::face::OK;
-use compare::typed::{damaged, longest_text, texts, MARKS};
+use compare::cases::tables;
+use compare::face::{OK, TABLE};
+use compare::typed::{damaged, longest_text, texts, without_digits, MARKS};
 use reference::builder::{characters, encode};
 use reference::random::Random;
+use reference::table::Table;
 use reference::typed::cases::{cases, Case};
+use tools::{source, typed};
 
 /// The seed of the random texts.
 const SEED: u64 = 65_535;
@@ -169,8 +173,52 @@ fn two_thousand_lines_with_the_refusal_at_the_end() {
 fn the_longest_table() {
     let text = longest_text();
     let (code, records) = read(&text);
-    assert_eq!((code, records.len()), (OK, 8 * 3_377));
+    assert_eq!((code, records.len()), (OK, TABLE));
     let one_more = characters("\"a\"==>[];");
     assert_eq!(read(&[&one_more[..], &text].concat()).0, 6);
     assert_eq!(read(&[&text[..], &one_more].concat()).0, 3);
+}
+
+/// How many random tables are written as text, and as many as sources.
+const TABLES: usize = 10_000;
+
+/// Random tables that are accepted, some of them after damage.
+fn accepted_tables() -> impl Iterator<Item = Table> {
+    tables(SEED).filter_map(|table| Table::read(&table).ok())
+}
+
+#[test]
+fn tables_written_as_text_are_read_back() {
+    let mut texts = Vec::new();
+    for table in accepted_tables().map(without_digits).take(TABLES) {
+        let table = encode(&table);
+        let text = typed::text(&table).expect("accepted");
+        assert_eq!(from_text(&text, table.len()), (OK, table));
+        texts.push(String::from_utf16_lossy(&text));
+    }
+    for sign in [
+        "[", "\\", "$\"", "else", ", ", " + ", " - ", " * x", "* 65535", "[]",
+    ] {
+        let met = texts.iter().filter(|text| text.contains(sign)).count();
+        println!("{sign}: {met}");
+        assert!(met >= TABLES / 10, "{sign}: {met}");
+    }
+}
+
+/// The halves of pairs are in no source, unless they come to pairs.
+#[test]
+fn tables_written_as_sources_are_read_back() {
+    let (mut read, mut with_digits) = (0, 0);
+    for table in accepted_tables().take(TABLES) {
+        let table = encode(&table);
+        let text = typed::text(&table).expect("accepted");
+        if String::from_utf16(&text).is_ok() {
+            let source = typed::source(&table).expect("accepted").join("\n");
+            assert_eq!(source::table(&source), Ok(table));
+            read += 1;
+            with_digits += usize::from(source.contains("hex(x"));
+        }
+    }
+    println!("{read}, {with_digits}");
+    assert!(read >= TABLES / 2 && with_digits >= TABLES / 8);
 }

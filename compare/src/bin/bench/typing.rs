@@ -3,7 +3,7 @@
 use std::hint::black_box;
 use std::time::Duration;
 
-use compare::face;
+use compare::face::{self, TABLE};
 use compare::typed::longest_text;
 use reference::builder::characters;
 use reference::typed::from_text;
@@ -13,15 +13,13 @@ use crate::timing::{each, ratio, worked};
 
 /// Runs of each reading, of which the best counts.
 const RUNS: usize = 25;
-/// The bytes of the longest table, 3,377 records of 8.
-const ROOM: usize = 27_016;
 /// What every byte of the buffer is before a run.
 const FILL: u8 = 0xa5;
 
 /// Prints the times.
 pub fn print() {
     println!("Reading typed texts, best of {RUNS} runs, in nanoseconds of processor time a character, and in microseconds a text.");
-    println!("Both write into one buffer of {ROOM} bytes, which is filled before each run, outside the time.");
+    println!("Both write into one buffer of {TABLE} bytes, which is filled before each run, outside the time.");
     println!();
     println!("| text | characters | answer | library | reference | library, µs | reference, µs | library / reference |");
     println!("|---|---:|---:|---:|---:|---:|---:|---:|");
@@ -58,7 +56,7 @@ fn refused_at_end() -> Vec<u16> {
 fn best(text: &[u16]) -> (u32, [Duration; 2]) {
     let mut best = [Duration::MAX; 2];
     let mut answer = face::OK;
-    let (mut table, mut expected, mut written) = ([FILL; ROOM], [FILL; ROOM], 0);
+    let (mut table, mut expected, mut written) = ([FILL; TABLE], [FILL; TABLE], 0);
     for _ in 0..RUNS {
         table.fill(FILL);
         let (library, time) = worked(|| face::from_text(black_box(text), &mut table, &mut written));
