@@ -5,6 +5,9 @@
 #   words, lines PLACE WORD          these words of the compiled table are not 0, and no others
 #   feeds TEXT, answers N, bytes     a feed to a fresh session answers so and leaves these bytes, eight a line; then each count of uses that is
 #                                    not 0, behind the place of its bytes and a colon
+# or, without a table, any number of
+#   text, lines, records, bytes      these lines, typed, have these records
+#   text, lines, refused N           these lines, typed, are refused so
 # usage: tests/format/run.sh [PROGRAM]
 set -euo pipefail
 trap 'echo "format: line $LINENO of $0 failed" >&2' ERR
@@ -23,6 +26,17 @@ awk -v out="$out" '
     /^```example$/ { block = sprintf("%s/%02d", out, ++blocks); system("mkdir " block); count = 0; part = ""; next }
     /^```/ { block = ""; next }
     block == "" { next }
+    $1 == "text" {
+        command = block "/" ++count ".command"
+        print "text\n" > command
+        close(command)
+        open_file(block "/" count ".text")
+        part = $1
+        next
+    }
+    part == "text" && $1 == "records" { open_file(block "/" count ".lines"); part = $1; next }
+    part == "text" && $1 == "refused" { open_file(block "/" count ".lines") }
+    part == "text" { print > file; next }
     $1 == "table" { part = "table"; open_file(block "/hex"); next }
     $1 == "input" || $1 == "feeds" || $1 == "words" {
         command = block "/" ++count ".command"
@@ -48,7 +62,9 @@ awk -v out="$out" '
 
 examples=0
 for block in "$out"/[0-9]*/; do
-    for byte in $(cat "$block/hex"); do printf "\\x$byte"; done > "$block/rules.tab"
+    if [ -e "$block/hex" ]; then
+        for byte in $(cat "$block/hex"); do printf "\\x$byte"; done > "$block/rules.tab"
+    fi
     for command in "$block"/*.command; do
         { read -r kind; IFS= read -r text; } < "$command"
         found=${command%.command}.found
@@ -60,6 +76,7 @@ for block in "$out"/[0-9]*/; do
                 ;;
             words) "$out/show" words "$block/rules.tab" > "$found" ;;
             session) "$out/show" session "$block/rules.tab" "$text" > "$found" ;;
+            text) "$out/show" text "${command%.command}.text" > "$found" ;;
         esac
         diff "${command%.command}.lines" "$found" || { echo "format: example $(basename "$block") of $page, $kind $text: expected and found differ" >&2; exit 1; }
         examples=$((examples + 1))

@@ -1,10 +1,13 @@
 /*
- * What the library makes of a table, in the form of docs/FORMAT.md's examples.
+ * What the library makes of a table or of typed rules, in the form of
+ * docs/FORMAT.md's examples.
  *
  * `show words TABLE` prints each machine word that is not 0, with its place.
  * `show session TABLE PIECE` feeds a piece to a fresh session and prints the
  * answer and the session's bytes, eight a line; of its counts of uses those that
  * are not 0, each behind its place.
+ * `show text RULES` prints the records of typed rules, one character a byte, eight
+ * bytes a line, or the refusal.
  */
 #include <inttypes.h>
 #include <stdio.h>
@@ -12,7 +15,7 @@
 
 #include "cobbletwill.h"
 
-static uint8_t table[32768];
+static uint8_t bytes[32768];
 static uint16_t words[COBBLETWILL_WORDS];
 
 static void show_words(void) {
@@ -25,10 +28,10 @@ static void show_words(void) {
 
 /* Prints eight bytes on a line. */
 static void show_eight(const void *at) {
-    uint8_t bytes[8];
-    memcpy(bytes, at, sizeof bytes);
+    uint8_t eight[8];
+    memcpy(eight, at, sizeof eight);
     for (int i = 0; i < 8; i++) {
-        printf("%02X%c", bytes[i], i == 7 ? '\n' : ' ');
+        printf("%02X%c", eight[i], i == 7 ? '\n' : ' ');
     }
 }
 
@@ -53,15 +56,36 @@ static void show_session(const char *text) {
     }
 }
 
+static void show_records(size_t text_length) {
+    static uint16_t text[sizeof bytes];
+    static uint8_t table[COBBLETWILL_TABLE];
+    uint64_t length;
+    for (size_t i = 0; i < text_length; i++) {
+        text[i] = bytes[i];
+    }
+    uint32_t answer = cobbletwill_from_text(text, text_length, table, sizeof table, &length);
+    if (COBBLETWILL_REFUSED(answer)) {
+        printf("refused %" PRIu32 "\n", answer);
+        return;
+    }
+    for (size_t place = 0; place < length; place += 8) {
+        show_eight(table + place);
+    }
+}
+
 int main(int argc, char **argv) {
     FILE *file = argc > 2 ? fopen(argv[2], "rb") : NULL;
     if (file == NULL) {
-        fputs("usage: show words TABLE | show session TABLE PIECE\n", stderr);
+        fputs("usage: show words TABLE | show session TABLE PIECE | show text RULES\n", stderr);
         return 2;
     }
-    size_t length = fread(table, 1, sizeof table, file);
+    size_t length = fread(bytes, 1, sizeof bytes, file);
     fclose(file);
-    uint32_t answer = cobbletwill_compile(table, length, words, COBBLETWILL_WORDS);
+    if (strcmp(argv[1], "text") == 0) {
+        show_records(length);
+        return 0;
+    }
+    uint32_t answer = cobbletwill_compile(bytes, length, words, COBBLETWILL_WORDS);
     if (COBBLETWILL_REFUSED(answer)) {
         printf("refused %" PRIu32 "\n", answer);
         return 1;
