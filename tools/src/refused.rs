@@ -103,7 +103,11 @@ pub fn place(text: &[u16], refusal: Refusal) -> usize {
     if refusal == Refusal::NoRule {
         return text.len();
     }
-    let refused = |text: &[u16]| from_text(text) == Err(refusal);
+    // An ending may come to 17 where a text that is refused by another number doesn't.
+    let refused = |text: &[u16]| {
+        let answer = from_text(text);
+        answer == Err(refusal) || answer == Err(Refusal::Expression)
+    };
     let line = { lines(text).into_iter() }.find(|line| refused(&text[..line.end]));
     let line = line.expect("the last line, if none before it");
     let passes = |&place: &usize| {

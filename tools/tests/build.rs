@@ -36,7 +36,7 @@ fn ranges_and_positions() {
         &format!("line 2, column 5: {place}"),
     );
     refused(
-        "\"[a-fb-g]\" ==> [];",
+        "\"[a-fb-g]\" ==> [x0 * 3, (x0 - 1) * (2 - 1)];",
         &format!("line 1, column 6: {place}"),
     );
     refused(
@@ -71,7 +71,7 @@ fn lowest_above_highest() {
     let field = "refused 2: unknown kind, a field outside its own range, \
                  a byte that must be zero and isn't, lowest above highest";
     refused(
-        "\"a\" ==> [0 - 1];\n\"[0-9z-a,;]\" ==> [];",
+        "\"a\" ==> [0 - 1];\n\"[0-9z-a,;]\" ==> [x0 * 1];",
         &format!("line 2, column 8: {field}"),
     );
 }
@@ -79,7 +79,7 @@ fn lowest_above_highest() {
 #[test]
 fn counts() {
     refused(
-        "\"[acegi]\" ==> [];",
+        "\"[acegi]\" ==> [1 * x0 * 1];",
         &format!("line 1, column 7: {TOO_MANY}"),
     );
     refused(
@@ -87,7 +87,7 @@ fn counts() {
         &format!("line 33, column 1: {TOO_MANY}"),
     );
     refused(
-        "\"b\" ==> [1, 2, 3, 4,\n 5, 6, 7, 8,\n 9];",
+        "\"b\" ==> [1, 2, 3, 4,\n 5, 6, 7, 8,\n 9, x0 * 10];",
         &format!("line 3, column 2: {TOO_MANY}"),
     );
     refused(
@@ -102,7 +102,7 @@ fn counts() {
 #[test]
 fn values() {
     refused(
-        "\"a\" ==> [65];\nelse ==> [x0,\n    x0 + 1];",
+        "\"a\" ==> [65];\nelse ==> [x0,\n    x0 + 1, x0 * 1];",
         &format!("line 3, column 5: {VALUE}"),
     );
     refused(

@@ -282,7 +282,7 @@ fn texts_outside_the_grammar() {
     );
 }
 
-/// Each is refused from the first character on that no ending heals.
+/// Each is refused from the character on from which no ending saves it.
 #[test]
 fn values_outside_the_records() {
     let refused = |source: &str, column| {
