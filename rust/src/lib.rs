@@ -4,14 +4,14 @@
 //!
 //! ```
 //! use cobbletwill::record::{output, range, rule, term, DEFAULT};
-//! use cobbletwill::{from_text, Machine, Session, Status};
+//! use cobbletwill::{Machine, Session, Status, Table};
 //!
 //! // One rule: `+` is written as a blank. The default writes what it took.
 //! let typed: Vec<u16> = "\"+\" ==> [32]; else ==> [x0];".encode_utf16().collect();
-//! let table = from_text(&typed)?;
+//! let table = Table::from_text(&typed)?;
 //! let plus = [rule(1, false), range(0, 43, 43), output(32)];
 //! let default = [DEFAULT, output(0), term(0, 1)];
-//! assert_eq!(table, [plus, default].concat().concat());
+//! assert_eq!(*table, [plus, default].concat().concat());
 //!
 //! let machine = Machine::compile(&table)?;
 //! let mut session = Session::fresh();
@@ -26,7 +26,7 @@
 //! ```
 //!
 //! - [`check`], [`convert`]: the table check and direct conversion
-//! - [`from_text`]: tables of rules that are typed as text
+//! - [`Table::from_text`]: tables of rules that are typed as text
 //! - [`Machine`]: compiled tables
 //! - [`Session`]: feed and finish, and how often each rule was used; [`run`] makes
 //!   all calls
@@ -50,7 +50,7 @@ pub use machine::Machine;
 pub use raw::{Session, Tally, TABLE, WORDS};
 pub use refusal::Refusal;
 pub use session::{run, Progress, Status};
-pub use typed::from_text;
+pub use typed::Table;
 
 /// The most output characters that a group has, so that so many times the input
 /// is room enough under every table.

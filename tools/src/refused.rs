@@ -4,7 +4,7 @@
 use std::ops::Range;
 use std::sync::LazyLock;
 
-use cobbletwill::{from_text, Refusal};
+use cobbletwill::{Refusal, Table};
 
 use crate::units::{is_among, symbol_from, units};
 
@@ -56,7 +56,7 @@ static ENDINGS: LazyLock<Vec<Ending>> = LazyLock::new(|| {
 
 /// Whether a text is in the grammar: the library looks for 16 first.
 fn is_in_grammar(text: &[u16]) -> bool {
-    from_text(text) != Err(Refusal::Grammar)
+    Table::from_text(text) != Err(Refusal::Grammar)
 }
 
 /// The endings that make a line of what a line may begin with; none of what it
@@ -105,7 +105,7 @@ pub fn place(text: &[u16], refusal: Refusal) -> usize {
     }
     // An ending may come to 17 where a text that is refused by another number doesn't.
     let refused = |text: &[u16]| {
-        let answer = from_text(text);
+        let answer = Table::from_text(text);
         answer == Err(refusal) || answer == Err(Refusal::Expression)
     };
     let line = { lines(text).into_iter() }.find(|line| refused(&text[..line.end]));

@@ -6,7 +6,7 @@
 //! A source becomes rules that can be typed, which the library reads.
 
 use cobbletwill::record::BYTES;
-use cobbletwill::{from_text, Refusal};
+use cobbletwill::{Refusal, Table};
 
 use crate::digit::{Digit, Wrong};
 pub use crate::fault::{At, Fault};
@@ -47,8 +47,8 @@ impl Source {
     /// The table, if the library accepts it; compiling may still refuse it by 8
     /// or 9.
     pub fn table(&self) -> Result<Vec<u8>, Fault> {
-        let table = from_text(&self.typed).map_err(|refusal| self.refused(refusal))?;
-        Ok(self.with_digits(table))
+        let table = Table::from_text(&self.typed).map_err(|refusal| self.refused(refusal))?;
+        Ok(self.with_digits(table.into_bytes()))
     }
 
     /// Where the source has a rule, by its number.
@@ -93,7 +93,9 @@ impl Source {
     fn with_digits(&self, mut table: Vec<u8>) -> Vec<u8> {
         for digit in self.digits.iter().rev() {
             let beginning = [&self.typed[..digit.end], &units("];")].concat();
-            let end = from_text(&beginning).expect("accepted as the whole").len();
+            let end = Table::from_text(&beginning)
+                .expect("accepted as the whole")
+                .len();
             table.splice(end - 2 * BYTES..end, digit.record());
         }
         table

@@ -1,15 +1,20 @@
 //! Tables as rules that can be typed: by hand, and read back by the library.
 
 use cobbletwill::record::{digit, output, range, rule, term, Record, DEFAULT};
-use cobbletwill::{check, from_text, Refusal};
+use cobbletwill::{check, Refusal, Table};
 use tools::source::table;
 use tools::typed::{source, text};
+
+/// The records that the library makes of a text.
+fn read_back(text: &[u16]) -> Result<Vec<u8>, Refusal> {
+    Table::from_text(text).map(Table::into_bytes)
+}
 
 /// The records are written as this text, which is read back to them.
 fn written(records: &[Record], expected: &str) {
     let found = text(&records.concat()).expect("accepted");
     assert_eq!(String::from_utf16(&found).expect("no halves"), expected);
-    assert_eq!(from_text(&found), Ok(records.concat()), "{expected}");
+    assert_eq!(read_back(&found), Ok(records.concat()), "{expected}");
 }
 
 /// Single characters at the positions from 0, and the records behind.
@@ -57,7 +62,7 @@ fn halves_of_pairs() {
     let records = spelled(&[0xd800, 0xdc00, 0xdc00, 0xdfff], &[]).concat();
     let found = text(&records).expect("accepted");
     assert_eq!(found[..6], [34, 0xd800, 0xdc00, 0xdc00, 0xdfff, 34]);
-    assert_eq!(from_text(&found), Ok(records));
+    assert_eq!(read_back(&found), Ok(records));
 }
 
 /// The outputs of a rule that takes the highest character three times and 32768.
@@ -117,7 +122,7 @@ fn sources() {
     assert_eq!(lines, ["\"[␀-ÿ]\\␊\" ==> [hex(x0, 4), x0, hex(x1, 12)];"]);
     assert_eq!(table(&lines.concat()), Ok(records.clone()));
     let typed = text(&records).expect("accepted");
-    assert_eq!(from_text(&typed), Err(Refusal::Grammar));
+    assert_eq!(read_back(&typed), Err(Refusal::Grammar));
 }
 
 #[test]

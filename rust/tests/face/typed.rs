@@ -2,7 +2,7 @@
 //! lent buffer.
 
 use crate::tables::{t1, t2, t3, t3_with, units};
-use cobbletwill::{check, from_text, raw, Machine, Refusal, TABLE};
+use cobbletwill::{check, raw, Machine, Refusal, Table, TABLE};
 
 /// T1, with a sum for its second rule.
 fn t1_typed(sum: &str) -> String {
@@ -21,7 +21,7 @@ fn t3_typed(sum: &str) -> String {
 
 #[test]
 fn the_tables_of_document_01() {
-    let typed = |text: &str| from_text(&units(text));
+    let typed = |text: &str| Table::from_text(&units(text)).map(Table::into_bytes);
     assert_eq!(typed(&t1_typed("10*x2 + x3 - 528")), Ok(t1()));
     assert_eq!(typed(&t1_typed("10*(x2 - 48) + (x3 - 48)")), Ok(t1()));
     assert_eq!(typed("\"a$\" ==> [88]; \"a\" ==> [89];"), Ok(t2()));
@@ -33,7 +33,7 @@ fn the_tables_of_document_01() {
 
 /// A text is refused so, into a buffer of any length, which is left as found.
 fn refused(text: &str, refusal: Refusal) {
-    assert_eq!(from_text(&units(text)), Err(refusal), "{text}");
+    assert_eq!(Table::from_text(&units(text)), Err(refusal), "{text}");
     for room in [0, TABLE] {
         let (mut table, mut length) = (vec![7; room], 19);
         let answer = raw::from_text(&units(text), &mut table, &mut length);
@@ -84,7 +84,7 @@ fn the_longest_table() {
     let sum = "x0+x1+x2+x3+x4+x5+x6+x7";
     let rule = format!("\"{pattern}\"==>[{}];", [sum; 8].join(","));
     let text = rule.repeat(32) + &format!("else==>[{}];", ["x0"; 8].join(","));
-    let table = from_text(&units(&text)).expect("accepted");
+    let table = Table::from_text(&units(&text)).expect("accepted");
     assert_eq!((table.len(), check(&table)), (TABLE, Ok(())));
     assert!(Machine::compile(&table).is_ok());
 }
