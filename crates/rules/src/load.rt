@@ -6,7 +6,7 @@ ghost use Prim.Native.Nat.{_≤_, _/_, _%_};
 ghost use lib.ListN.{length};
 ghost use Rattle.lists.specs.Lists.{pad};
 ghost use Rattle.meaning.specs.Reader.{readTable};
-ghost use Rattle.rules.specs.bridge.Summary.{started, gap, takeRecords};
+ghost use Rattle.rules.specs.bridge.Summary.{gap, takeRecords, Fitting};
 ghost use Rattle.meaning.specs.bridge.Flat.{Flat, loadedSize, safeAt};
 ghost use Rattle.rules.specs.bridge.Readings.{stepOf, endOf, LoadedBy};
 use crate::reader::Reader;
@@ -22,25 +22,25 @@ pub enum Load {
     Refused(u8),
 }
 
-// Every record of the table in turn, "each by 2, 3, 4, 6".
-fn load_records(table: &[u8], loaded: &mut [u16]) -> Step
+// Records in turn, "each by 2, 3, 4, 6", behind those that the summary is of.
+pub fn load_records(reader: Reader, table: &[u8], loaded: &mut [u16]) -> Step
     requires { ⌜ length (now table) % 8 ≡ 0 ⌝ }
-    requires { ⌜ length (now loaded) ≡ loadedSize ⌝ }
-    ensures answer { λ r. ⌜ stepOf r ≡ takeRecords (length (now (table .entry)) / 8) (now (table .entry)) started (now (loaded .entry)) .answer ⌝ }
-    ensures array { λ _. ⌜ now (loaded .exit) ≡ takeRecords (length (now (table .entry)) / 8) (now (table .entry)) started (now (loaded .entry)) .loaded ⌝ }
+    requires { ⌜ Fitting reader × (length (now loaded) ≡ loadedSize) ⌝ }
+    ensures answer { λ r. ⌜ stepOf r ≡ takeRecords (length (now (table .entry)) / 8) (now (table .entry)) reader (now (loaded .entry)) .answer ⌝ }
+    ensures array { λ _. ⌜ now (loaded .exit) ≡ takeRecords (length (now (table .entry)) / 8) (now (table .entry)) reader (now (loaded .entry)) .loaded ⌝ }
 {
-    let mut reader = start();
+    let mut so_far = reader;
     let mut at = 0;
     while at < table.len() {
         let record = record_at(table, at);
-        let step = take_record(reader, record, loaded);
+        let step = take_record(so_far, record, loaded);
         match step {
             Step::Refused(n) => return Step::Refused(n),
-            Step::Next(next) => reader = next,
+            Step::Next(next) => so_far = next,
         }
         at += 8;
     }
-    Step::Next(reader)
+    Step::Next(so_far)
 }
 
 // The refusals of the table's end, 4 and 5, and refusal 7 of the whole table.
@@ -71,7 +71,7 @@ pub fn load_table(table: &[u8], loaded: &mut [u16]) -> Load
     if table.len() % 8 != 0 {
         return Load::Refused(1);
     }
-    let step = load_records(table, loaded);
+    let step = load_records(start(), table, loaded);
     match step {
         Step::Refused(n) => Load::Refused(n),
         Step::Next(reader) => finish_load(reader, loaded),

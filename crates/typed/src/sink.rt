@@ -4,9 +4,8 @@ ghost use Prim.Native.Nat.{_≤_};
 ghost use lib.ListN.{length};
 ghost use Rattle.typed.specs.bridge.Stream.{put as putAt, feed as fed, Ready};
 ghost use Rattle.typed.specs.bridge.Answers.{stateOf};
+use rules::load::load_records;
 use rules::reader::Step;
-use rules::reader::take_record;
-use rules::record::record_at;
 
 // What is kept by value: whether refusal 17 met nothing so far, the table check's summary or refusal, and the bytes of the records that it took.
 pub struct Sink {
@@ -48,7 +47,7 @@ pub fn feed(sink: Sink, bytes: &[u8], loaded: &mut [u16], buffer: &mut [u8]) -> 
     let Step::Next(reader) = step else {
         return sink;
     };
-    let taken = take_record(reader, record_at(bytes, 0), loaded);
+    let taken = load_records(reader, bytes, loaded);
     match taken {
         Step::Refused(number) => {
             let refused = Step::Refused(number);

@@ -31,22 +31,22 @@ use Rattle.rules.proofs.Laws.Represents.{summary, Read, read-fitting}
 use Rattle.rules.proofs.Laws.Flattened.{TakenRight, take-right, end-right, flat-flat}
 use Rattle.meaning.proofs.Laws.SafeFlat.{each-numbers, safe-flat}
 use Rattle.meaning.proofs.Laws.Decoding.{FittingRecord, decode-fits}
-use Rattle.rules.proofs.Laws.Stepping.{SmallRecord, started-fitting, admit-fitting, ifTaken-length}
+use Rattle.rules.proofs.Laws.Stepping.{SmallRecord, admit-fitting, ifTaken-length}
 
 -- what is known of a slice's elements by number
 pub each-known : (most : ℕ) (b : List ℕ) → ((i : ℕ) → getD b i 0 < most) → Each (λ x. x < most) b
 each-known most b f = each-numbers (λ x. x < most) b 0 (λ i _. f i)
 
 -- the records before a place have been taken: those left give what all of them give
-pub record Passed (table : List ℕ) (before now : List ℕ) (reader : Reader) (place : ℕ) : Type 0 where
+pub record Passed (first : Reader) (table : List ℕ) (before now : List ℕ) (reader : Reader) (place : ℕ) : Type 0 where
   pub left : ℕ
   pub whole : place + 8 * left ≡ length table
   pub fitting : Fitting reader
   pub sized : length now ≡ loadedSize
-  pub same : takeRecords (length table / 8) table started before ≡ takeRecords left (drop place table) reader now
+  pub same : takeRecords (length table / 8) table first before ≡ takeRecords left (drop place table) reader now
 
-pub passed-start : (table : List ℕ) (m : List ℕ) → length table % 8 ≡ 0 → length m ≡ loadedSize → Passed table m m started 0
-passed-start table m e s = record { left = length table / 8; whole = omega arith; fitting = started-fitting; sized = s; same = refl }
+pub passed-start : (first : Reader) (table : List ℕ) (m : List ℕ) → length table % 8 ≡ 0 → Fitting first → length m ≡ loadedSize → Passed first table m m first 0
+passed-start first table m e f s = record { left = length table / 8; whole = omega arith; fitting = f; sized = s; same = refl }
 
 small : (x : Record) → FittingRecord x → SmallRecord x
 small (rule k a) f = f .1
@@ -65,7 +65,7 @@ each-part n m P b e =
     let rest : Each P (drop m b) = each-back P (take m b) (drop m b) (subst (Each P) (sym (take-append-drop m b)) e) in
     each-front P (take n (drop m b)) (drop n (drop m b)) (subst (Each P) (sym (take-append-drop n (drop m b))) rest)
 
-module _ {table : List ℕ} {before now : List ℕ} {reader : Reader} {place : ℕ} (p : Passed table before now reader place) where
+module _ {first : Reader} {table : List ℕ} {before now : List ℕ} {reader : Reader} {place : ℕ} (p : Passed first table before now reader place) where
   -- there is a record at a place that is below the length
   pub passed-room : place < length table → place + 8 ≤ length table
   passed-room h = go (p .left) (p .whole)
@@ -75,7 +75,7 @@ module _ {table : List ℕ} {before now : List ℕ} {reader : Reader} {place : �
       go (suc k) e = omega arith
 
   pub passed-end : length table ≤ place →
-      let all = takeRecords (length table / 8) table started before in (accepted reader ≡ all .answer) × (now ≡ all .loaded)
+      let all = takeRecords (length table / 8) table first before in (accepted reader ≡ all .answer) × (now ≡ all .loaded)
   unfolding takeRecords
   passed-end h =
       let none : p .left ≡ 0 = omega (arith, p .whole) in
@@ -84,13 +84,13 @@ module _ {table : List ℕ} {before now : List ℕ} {reader : Reader} {place : �
 
   module _ (inside : place < length table) (x : Option Record) (read : x ≡ decode (take 8 (drop place table))) where
     -- the records left are the one read and those after it
-    next : (k : ℕ) × (suc k ≡ p .left) × (takeRecords (length table / 8) table started before
+    next : (k : ℕ) × (suc k ≡ p .left) × (takeRecords (length table / 8) table first before
         ≡ takeOn (admitted reader x) (ifTaken reader x now) (λ r m. takeRecords k (drop (place + 8) table) r m))
     unfolding takeRecords
     next = go (p .left) (p .whole) (p .same)
       where
-        go : (n : ℕ) → place + 8 * n ≡ length table → takeRecords (length table / 8) table started before ≡ takeRecords n (drop place table) reader now →
-            (k : ℕ) × (suc k ≡ n) × (takeRecords (length table / 8) table started before
+        go : (n : ℕ) → place + 8 * n ≡ length table → takeRecords (length table / 8) table first before ≡ takeRecords n (drop place table) reader now →
+            (k : ℕ) × (suc k ≡ n) × (takeRecords (length table / 8) table first before
             ≡ takeOn (admitted reader x) (ifTaken reader x now) (λ r m. takeRecords k (drop (place + 8) table) r m))
         go zero e s = absurd (omega arith)
         go (suc k) e s = (
@@ -102,14 +102,14 @@ module _ {table : List ℕ} {before now : List ℕ} {reader : Reader} {place : �
 
     module _ {after : List ℕ} (left : after ≡ ifTaken reader x now) where
       pub passed-stop : (n : ℕ) → refused n ≡ admitted reader x →
-          let all = takeRecords (length table / 8) table started before in (refused n ≡ all .answer) × (after ≡ all .loaded)
+          let all = takeRecords (length table / 8) table first before in (refused n ≡ all .answer) × (after ≡ all .loaded)
       passed-stop n e =
           let whole = next .2 ∙ ap (λ o. takeOn o (ifTaken reader x now) (λ r m. takeRecords (next .0) (drop (place + 8) table) r m)) (sym e) in
           (sym (ap (λ t. t .answer) whole), left ∙ sym (ap (λ t. t .loaded) whole))
 
-      pub passed-on : (r : Reader) → Each (λ c. c < 256) table → accepted r ≡ admitted reader x → Passed table before after r (place + 8)
+      pub passed-on : (r : Reader) → Each (λ c. c < 256) table → accepted r ≡ admitted reader x → Passed first table before after r (place + 8)
       passed-on r bytes e =
-          subst (λ m. Passed table before m r (place + 8)) (sym left) (record {
+          subst (λ m. Passed first table before m r (place + 8)) (sym left) (record {
             left = next .0;
             whole = let a = next .1 in let b = p .whole in omega arith;
             fitting = fitting-on reader r (take 8 (drop place table)) x (each-part 8 place (λ c. c < 256) table bytes) (sym read) (p .fitting) (sym e);

@@ -3,15 +3,15 @@
 use mathlib.Core.List.{List}
 use mathlib.Core.Option.{Option, none, some}
 use mathlib.Core.Path.{_≡_, refl, sym, ap, ap₂, subst, _∙_}
-use Prim.Native.Nat.{ℕ, suc, _*_, _≤_, _<_}
+use Prim.Native.Nat.{ℕ, suc, _*_, _/_, _≤_, _<_}
 use native.Mathlib.Omega.{arith}
-use lib.ListN.{length, take, drop}
+use lib.ListN.{length, drop}
 use lib.Seq.{take-all}
 use Rattle.lists.specs.Lists.{Each}
 use Rattle.meaning.specs.Refusal.{Outcome, refused, accepted}
 use Rattle.meaning.specs.Record.{Record, decode}
 use Rattle.meaning.proofs.Laws.Refusal.{accepted-not}
-use Rattle.rules.specs.bridge.Summary.{admitted, ifTaken, Fitting}
+use Rattle.rules.specs.bridge.Summary.{admitted, ifTaken, takeOn, takeRecords, Fitting}
 use Rattle.rules.specs.declared.reader.Reader.{Reader}
 use Rattle.rules.proofs.Laws.Stepping.{ifTaken-length}
 use Rattle.rules.proofs.Laws.Loading.{fitting-on}
@@ -52,6 +52,21 @@ feed-ready c s b h = by (s .check) refl
     by (refused k) e = h
     by (accepted r) e = let t = h .reading r e in on r (t .0) (t .1) (admitted r (decode c)) refl
 
+-- a record by itself
+one-record : (c : List ℕ) (r : Reader) (l : List ℕ) → length c ≡ 8 →
+    let all = takeRecords (length c / 8) c r l in (all .answer ≡ admitted r (decode c)) × (all .loaded ≡ ifTaken r (decode c) l)
+unfolding takeRecords
+one-record c r l long =
+    rw (count, take-all 8 c (omega arith)) (by (admitted r (decode c)))
+  where
+    count : length c / 8 ≡ 1
+    count = omega arith
+
+    by : (o : Outcome Reader) →
+        let all = takeOn o (ifTaken r (decode c) l) (λ r′ l′. takeRecords 0 (drop 8 c) r′ l′) in (all .answer ≡ o) × (all .loaded ≡ ifTaken r (decode c) l)
+    by (refused n) = (refl, refl)
+    by (accepted r′) = (refl, refl)
+
 module _ (s : State) (r : Reader) (h : Ready s) (e : s .check ≡ accepted r) where
   pub count-small : s .count ≤ 53792
   count-small =
@@ -60,14 +75,11 @@ module _ (s : State) (r : Reader) (h : Ready s) (e : s .check ≡ accepted r) wh
       let w = weight-small r (t .0) in
       omega arith
 
-  -- a record that is read at the start of its own eight bytes, and tested
-  module _ (c : List ℕ) (long : length c ≡ 8) (bytes : Each (λ b. b < 256) c) (x : Option Record) (read : x ≡ decode (take 8 (drop 0 c))) where
-    own : x ≡ decode c
-    own = read ∙ ap decode (take-all 8 c (omega arith))
-
-    pub fed : {o : Outcome Reader} {after : List ℕ} → o ≡ admitted r x → after ≡ ifTaken r x (s .loaded) →
-        (tested o c after s ≡ feed c s) × Ready (tested o c after s)
-    fed {o} {after} p q =
-        let same : tested o c after s ≡ feed c s =
-        ap₂ (λ a l. tested a c l s) (p ∙ ap (admitted r) own) (q ∙ ap (λ y. ifTaken r y (s .loaded)) own) ∙ sym (feed-tested c s r e) in
-        (same, subst Ready (sym same) (feed-ready c s bytes h))
+  -- what the check made of the record by itself
+  pub fed : (c : List ℕ) → length c ≡ 8 → Each (λ b. b < 256) c → {o : Outcome Reader} {after : List ℕ} →
+      o ≡ takeRecords (length c / 8) c r (s .loaded) .answer → after ≡ takeRecords (length c / 8) c r (s .loaded) .loaded →
+      (tested o c after s ≡ feed c s) × Ready (tested o c after s)
+  fed c long bytes {o} {after} p q =
+      let one = one-record c r (s .loaded) long in
+      let same : tested o c after s ≡ feed c s = ap₂ (λ a l. tested a c l s) (p ∙ one .0) (q ∙ one .1) ∙ sym (feed-tested c s r e) in
+      (same, subst Ready (sym same) (feed-ready c s bytes h))

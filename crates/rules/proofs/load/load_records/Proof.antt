@@ -11,18 +11,15 @@ use Rattle.rules.proofs.load.load_records.Statement.{statement}
 use Rattle.rules.proofs.load.load_records.Tie as tie
 
 abbrev Inv-loop : tie.InvT-loop
-Inv-loop table loaded₀ reader₀ at₀ loaded reader at = Passed table loaded₀ loaded reader at
+Inv-loop table loaded₀ so-far₀ at₀ loaded so-far at = Passed so-far₀ table loaded₀ loaded so-far at
 
 abbrev μ-loop : tie.MeasureT-loop
-μ-loop table loaded₀ reader₀ at₀ loaded reader at = length table - at
-
-start-requires : tie.Need-start-requires Inv-loop μ-loop
-start-requires c κs = search needs
+μ-loop table loaded₀ so-far₀ at₀ loaded so-far at = length table - at
 
 loop-holds : tie.Need-loop-holds Inv-loop μ-loop
 loop-holds c =
-    let s = c .before .before .before in
-    rw (c .start .ensures) (passed-start (s .args .table .now) _ (s .pre .0) (s .pre .1))
+    let s = c .before .before in
+    passed-start (s .args .reader) (s .args .table .now) _ (s .pre .0) (s .pre .1 .0) (s .pre .1 .1)
 
 record-at-requires : tie.Need-record-at-requires Inv-loop μ-loop
 record-at-requires c κs = passed-room (c .before .loop .inv) (c .loop-test .taken)
@@ -54,7 +51,7 @@ add-at : tie.Need-add-at Inv-loop μ-loop
 add-at c =
     let in-loop = c .before .before .before .before .before .before .before .before in
     let at-loop = in-loop .before in
-    omega (arith, passed-room (at-loop .loop .inv) (in-loop .loop-test .taken), at-loop .before .before .before .before .good .0)
+    omega (arith, passed-room (at-loop .loop .inv) (in-loop .loop-test .taken), at-loop .before .before .before .good .0)
 
 loop-less : tie.Need-loop-less Inv-loop μ-loop
 loop-less c = omega arith
@@ -64,7 +61,7 @@ loop-again c =
     let turn = c .before .before .before .before .before in
     let read = turn .before .before in
     let in-loop = read .before in
-    let entered = in-loop .before .before .before .before in
+    let entered = in-loop .before .before .before in
     let done = turn .take-record .ensures in
     passed-on (in-loop .before .loop .inv) (in-loop .loop-test .taken) (recordOf (read .record-at .result)) (read .record-at .ensures)
     (done .1) (c .before .step2 .given .0 .0)
@@ -83,7 +80,6 @@ load-records-spec =
     (tie.spec
     Inv-loop
     μ-loop
-    start-requires
     loop-holds
     record-at-requires
     take-record-requires

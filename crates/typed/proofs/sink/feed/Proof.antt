@@ -1,9 +1,10 @@
 -- `typed::sink::feed` meets its contract. A check that has refused stays; else the record is tested, and if it was taken in its bytes are put.
 -- By what the functions called ensure; the bytes put so far are few, by the weight of the summary. Assumes nothing.
 use mathlib.Core.Path.{sym, ap, _∙_}
+use Prim.Native.Nat.{_%_}
 use native.Mathlib.Omega.{arith}
 use borrow.Author.Needs.{needs}
-use Rattle.rules.specs.bridge.Readings.{recordOf, stepOf}
+use Rattle.rules.specs.bridge.Readings.{stepOf}
 use Rattle.rules.proofs.Laws.Loading.{each-known}
 use Rattle.typed.specs.bridge.Answers.{stateOf}
 use Rattle.typed.proofs.Laws.Feeding.{feed-idle, count-small, fed}
@@ -24,14 +25,11 @@ returns c =
       start .pre .1,
     )
 
-record-at-requires : tie.Need-record-at-requires
-record-at-requires c κs = search needs
-
-take-record-requires : tie.Need-take-record-requires
-take-record-requires c κs =
-    let s = c .before .before .before in
-    let ready = s .before .before .before .before .before .pre .1 in
-    (ready .reading _ (ap stepOf (s .step .given .1)) .0, ready .sized)
+load-records-requires : tie.Need-load-records-requires
+load-records-requires c κs =
+    let start = c .before .before .before .before .before .before .before in
+    let ready = start .pre .1 in
+    (ap (λ n. n % 8) (start .pre .0), (ready .reading _ (ap stepOf (c .before .before .step .given .1)) .0, ready .sized))
 
 enum-known-taken : tie.Need-enum-known-taken
 enum-known-taken c = search needs
@@ -41,16 +39,13 @@ enum-known-taken-2 c = search needs
 
 put-requires : tie.Need-put-requires
 put-requires c κs =
-    let s = c .before .before .before .before .before .before .before .before .before .before in
-    let start = s .before .before .before .before .before in
-    let few = count-small _ _ (start .pre .1) (ap stepOf (s .step .given .1)) in
+    let start = c .before .before .before .before .before .before .before .before .before .before .before .before .before .before in
+    let few = count-small _ _ (start .pre .1) (ap stepOf (c .before .before .before .before .before .before .before .before .before .step .given .1)) in
     (start .pre .0, omega arith)
 
-add-t19 : tie.Need-add-t19
-add-t19 c =
-    let s = c .before .before .before .before .before .before .before .before .before .before .before .before .before .before in
-    let start = s .before .before .before .before .before in
-    let few = count-small _ _ (start .pre .1) (ap stepOf (s .step .given .1)) in
+add-t18 : tie.Need-add-t18
+add-t18 c =
+    let few = count-small _ _ (c .before .before .before .before .before .before .before .before .before .before .before .before .before .before .before .before .before .before .pre .1) (ap stepOf (c .before .before .before .before .before .before .before .before .before .before .before .before .before .step .given .1)) in
     omega arith
 
 same-length : tie.Need-same-length
@@ -58,17 +53,15 @@ same-length c = search needs
 
 returns-2 : tie.Need-returns-2
 returns-2 c =
-    let tested = c .before .before .before .before .before in
-    let read = tested .before .before in
-    let s = read .before .before in
-    let start = s .before .before .before .before .before in
+    let start = c .before .before .before .before .before .before .before .before .before .before .before .before .before in
     let a = start .args in
-    fed (stateOf (a .sink) (a .loaded .now) (a .buffer .now)) (s .step .given .0 .0) (start .pre .1) (ap stepOf (s .step .given .1))
+    let step = c .before .before .before .before .before .before .before .before .step .given in
+    let done = c .before .before .before .before .before .load-records .ensures in
+    fed (stateOf (a .sink) (a .loaded .now) (a .buffer .now)) (step .0 .0) (start .pre .1) (ap stepOf (step .1))
     (a .bytes .now) (start .pre .0)
-    (each-known 256 (a .bytes .now) (λ i. omega (arith, s .before .before .before .before .shared-slice-known .given i)))
-    (recordOf (read .record-at .result)) (read .record-at .ensures)
-    (sym (ap stepOf (c .before .taken .given .1)) ∙ tested .take-record .ensures .0)
-    (tested .take-record .ensures .1)
+    (each-known 256 (a .bytes .now) (λ i. omega (arith, c .before .before .before .before .before .before .before .before .before .before .before .before .shared-slice-known .given i)))
+    (sym (ap stepOf (c .before .taken .given .1)) ∙ done .0)
+    (done .1)
 
 same-length-2 : tie.Need-same-length-2
 same-length-2 c = search needs
@@ -78,20 +71,16 @@ same-length-3 c = search needs
 
 returns-3 : tie.Need-returns-3
 returns-3 c =
-    let put = c .before .before .before in
-    let taken = put .before .before .before in
-    let tested = taken .before .before .before .before in
-    let read = tested .before .before in
-    let s = read .before .before in
-    let start = s .before .before .before .before .before in
+    let start = c .before .before .before .before .before .before .before .before .before .before .before .before .before .before .before .before .before .before in
     let a = start .args in
-    rw (put .put .ensures)
-    (fed (stateOf (a .sink) (a .loaded .now) (a .buffer .now)) (s .step .given .0 .0) (start .pre .1) (ap stepOf (s .step .given .1))
+    let step = c .before .before .before .before .before .before .before .before .before .before .before .before .before .step .given in
+    let done = c .before .before .before .before .before .before .before .before .before .before .load-records .ensures in
+    rw (c .before .before .before .put .ensures)
+    (fed (stateOf (a .sink) (a .loaded .now) (a .buffer .now)) (step .0 .0) (start .pre .1) (ap stepOf (step .1))
     (a .bytes .now) (start .pre .0)
-    (each-known 256 (a .bytes .now) (λ i. omega (arith, s .before .before .before .before .shared-slice-known .given i)))
-    (recordOf (read .record-at .result)) (read .record-at .ensures)
-    (sym (ap stepOf (taken .taken2 .given .1)) ∙ tested .take-record .ensures .0)
-    (tested .take-record .ensures .1))
+    (each-known 256 (a .bytes .now) (λ i. omega (arith, c .before .before .before .before .before .before .before .before .before .before .before .before .before .before .before .before .before .shared-slice-known .given i)))
+    (sym (ap stepOf (c .before .before .before .before .before .before .taken2 .given .1)) ∙ done .0)
+    (done .1))
 
 pub feed-spec : {M : Type 1} → statement M
 feed-spec =
@@ -100,12 +89,11 @@ feed-spec =
     enum-known-step
     enum-told
     returns
-    record-at-requires
-    take-record-requires
+    load-records-requires
     enum-known-taken
     enum-known-taken-2
     put-requires
-    add-t19
+    add-t18
     same-length
     returns-2
     same-length-2
