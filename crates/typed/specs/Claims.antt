@@ -45,14 +45,16 @@ pub record AnswersTyped (text buffer : List ℕ) : Type 0 where
   pub no-room : (fromText text buffer .answer ≡ refused 15)
       ↔ ((ls : List Line) × (t : Table) × Reckoned text ls × (readTable (records ls) ≡ accepted t) × (length buffer < length (records ls)))
   -- "the answer is their length in bytes"
-  pub taken : (n : ℕ) → (fromText text buffer .answer ≡ accepted n) ↔ ((ls : List Line) × (t : Table) × Accepted text buffer ls t × (n ≡ length (records ls)))
+  pub taken : (n : ℕ) →
+      (fromText text buffer .answer ≡ accepted n) ↔ ((ls : List Line) × (t : Table) × Accepted text buffer ls t × (n ≡ length (records ls)))
   -- of 1 to 7, 1 and 4 never come of a text
   pub numbered : Characters text → RefusedBy (2 ∷ 3 ∷ 5 ∷ 6 ∷ 7 ∷ 15 ∷ 16 ∷ 17 ∷ []) (fromText text buffer .answer)
 
 -- "a refused text writes nothing"; an accepted one the records, and what is beyond stays as found
 pub record WritesTyped (text buffer : List ℕ) : Type 0 where
   pub unchanged : (n : ℕ) → fromText text buffer .answer ≡ refused n → fromText text buffer .table ≡ buffer
-  pub written : (n : ℕ) (ls : List Line) → fromText text buffer .answer ≡ accepted n → TypedText text ls → fromText text buffer .table ≡ over (records ls) buffer
+  pub written : (n : ℕ) (ls : List Line) → fromText text buffer .answer ≡ accepted n → TypedText text ls →
+      fromText text buffer .table ≡ over (records ls) buffer
   pub whole : length (fromText text buffer .table) ≡ length buffer
 
 -- "Converting under those records is what the text means, with expressions read over whole numbers": for every input, the text and the place where

@@ -24,7 +24,10 @@ use expression::symbol::skip;
 fn feed_default(s: &[u16], at: usize, sink: Sink, loaded: &mut [u16], buffer: &mut [u8]) -> Streamed
     requires { ⌜ at ≤ length (now s) ⌝ }
     requires { ⌜ Ready (stateOf sink (now loaded) (now buffer)) ⌝ }
-    ensures { λ r. ⌜ Streams (now (s .entry)) at (mapRead (λ _. fed defaultRecord (stateOf sink (now (loaded .entry)) (now (buffer .entry)))) (symbol elseWord (drop at (now (s .entry))))) r (now (loaded .exit)) (now (buffer .exit)) ⌝ }
+    ensures { λ r. ⌜ (
+        let found = stateOf sink (now (loaded .entry)) (now (buffer .entry)) in
+        Streams (now (s .entry)) at (mapRead (λ _. fed defaultRecord found) (symbol elseWord (drop at (now (s .entry)))))
+        r (now (loaded .exit)) (now (buffer .exit))) ⌝ }
 {
     let mark = word_else(s, at);
     if mark.refused {
@@ -47,7 +50,10 @@ fn feed_default(s: &[u16], at: usize, sink: Sink, loaded: &mut [u16], buffer: &m
 fn feed_head(s: &[u16], at: usize, sink: Sink, loaded: &mut [u16], buffer: &mut [u8]) -> Streamed
     requires { ⌜ at ≤ length (now s) ⌝ }
     requires { ⌜ Ready (stateOf sink (now loaded) (now buffer)) ⌝ }
-    ensures { λ r. ⌜ Streams (now (s .entry)) at (mapRead (λ h. feedHead h (stateOf sink (now (loaded .entry)) (now (buffer .entry)))) (headOf (drop at (now (s .entry))))) r (now (loaded .exit)) (now (buffer .exit)) ⌝ }
+    ensures { λ r. ⌜ (
+        let found = stateOf sink (now (loaded .entry)) (now (buffer .entry)) in
+        Streams (now (s .entry)) at (mapRead (λ h. feedHead h found) (headOf (drop at (now (s .entry)))))
+        r (now (loaded .exit)) (now (buffer .exit))) ⌝ }
 {
     let j = skip(s, at);
     let c = code_at(s, j);
@@ -61,7 +67,10 @@ fn feed_head(s: &[u16], at: usize, sink: Sink, loaded: &mut [u16], buffer: &mut 
 fn feed_right(s: &[u16], at: usize, sink: Sink, loaded: &mut [u16], buffer: &mut [u8]) -> Streamed
     requires { ⌜ at ≤ length (now s) ⌝ }
     requires { ⌜ Ready (stateOf sink (now loaded) (now buffer)) ⌝ }
-    ensures { λ r. ⌜ Streams (now (s .entry)) at (mapRead (λ ts. feedOutputs ts (stateOf sink (now (loaded .entry)) (now (buffer .entry)))) (rightOf (drop at (now (s .entry))))) r (now (loaded .exit)) (now (buffer .exit)) ⌝ }
+    ensures { λ r. ⌜ (
+        let found = stateOf sink (now (loaded .entry)) (now (buffer .entry)) in
+        Streams (now (s .entry)) at (mapRead (λ ts. feedOutputs ts found) (rightOf (drop at (now (s .entry)))))
+        r (now (loaded .exit)) (now (buffer .exit))) ⌝ }
 {
     let pointed = arrow(s, at);
     if pointed.refused {
@@ -88,7 +97,10 @@ fn feed_right(s: &[u16], at: usize, sink: Sink, loaded: &mut [u16], buffer: &mut
 fn feed_line(s: &[u16], at: usize, sink: Sink, loaded: &mut [u16], buffer: &mut [u8]) -> Streamed
     requires { ⌜ at ≤ length (now s) ⌝ }
     requires { ⌜ Ready (stateOf sink (now loaded) (now buffer)) ⌝ }
-    ensures { λ r. ⌜ Streams (now (s .entry)) at (mapRead (λ l. feedLine l (stateOf sink (now (loaded .entry)) (now (buffer .entry)))) (lineOf (drop at (now (s .entry))))) r (now (loaded .exit)) (now (buffer .exit)) ⌝ }
+    ensures { λ r. ⌜ (
+        let found = stateOf sink (now (loaded .entry)) (now (buffer .entry)) in
+        Streams (now (s .entry)) at (mapRead (λ l. feedLine l found) (lineOf (drop at (now (s .entry)))))
+        r (now (loaded .exit)) (now (buffer .exit))) ⌝ }
 {
     let head = feed_head(s, at, sink, loaded, buffer);
     if head.refused {
@@ -113,7 +125,10 @@ fn unread(s: &[u16], refused: bool, at: usize) -> bool
 // "A text is any number of lines."
 pub fn feed_lines(s: &[u16], sink: Sink, loaded: &mut [u16], buffer: &mut [u8]) -> Streamed
     requires { ⌜ Ready (stateOf sink (now loaded) (now buffer)) ⌝ }
-    ensures { λ r. ⌜ Streams (now (s .entry)) 0 (mapRead (λ ls. feedLines ls (stateOf sink (now (loaded .entry)) (now (buffer .entry)))) (linesOf (now (s .entry)))) r (now (loaded .exit)) (now (buffer .exit)) ⌝ }
+    ensures { λ r. ⌜ (
+        let found = stateOf sink (now (loaded .entry)) (now (buffer .entry)) in
+        Streams (now (s .entry)) 0 (mapRead (λ ls. feedLines ls found) (linesOf (now (s .entry))))
+        r (now (loaded .exit)) (now (buffer .exit))) ⌝ }
 {
     let mut so_far = Streamed {
         refused: false,

@@ -56,8 +56,10 @@ fn feed_term(
 ) -> Sink
     requires { ⌜ mag coefficient < 32768 ⌝ }
     requires { ⌜ Ready (stateOf sink (now loaded) (now buffer)) ⌝ }
-    ensures state { λ r. ⌜ stateOf r (now (loaded .exit)) (now (buffer .exit)) ≡ feedTerms position (coefficient ∷ []) (stateOf sink (now (loaded .entry)) (now (buffer .entry))) ⌝ }
-    ensures ready { λ r. ⌜ Ready (stateOf r (now (loaded .exit)) (now (buffer .exit))) ⌝ }
+    ensures state { λ r. ⌜ stateOf r (now (loaded .exit)) (now (buffer .exit))
+        ≡ feedTerms position (coefficient ∷ []) (stateOf sink (now (loaded .entry)) (now (buffer .entry))) ⌝ }
+    ensures ready { λ r. ⌜ Ready (stateOf
+        r (now (loaded .exit)) (now (buffer .exit))) ⌝ }
 {
     if coefficient == 0 {
         return sink;
@@ -70,8 +72,10 @@ fn feed_term(
 fn feed_terms(numbers: [i64; 9], sink: Sink, loaded: &mut [u16], buffer: &mut [u8]) -> Sink
     requires { ⌜ (length numbers ≡ 9) × ((i : ℕ) → mag (getD (drop 1 numbers) i (pos 0)) < 32768) ⌝ }
     requires { ⌜ Ready (stateOf sink (now loaded) (now buffer)) ⌝ }
-    ensures state { λ r. ⌜ stateOf r (now (loaded .exit)) (now (buffer .exit)) ≡ feedTerms 0 (drop 1 numbers) (stateOf sink (now (loaded .entry)) (now (buffer .entry))) ⌝ }
-    ensures ready { λ r. ⌜ Ready (stateOf r (now (loaded .exit)) (now (buffer .exit))) ⌝ }
+    ensures state { λ r. ⌜ stateOf r (now (loaded .exit)) (now (buffer .exit))
+        ≡ feedTerms 0 (drop 1 numbers) (stateOf sink (now (loaded .entry)) (now (buffer .entry))) ⌝ }
+    ensures ready { λ r. ⌜ Ready (stateOf
+        r (now (loaded .exit)) (now (buffer .exit))) ⌝ }
 {
     let mut so_far = sink;
     let mut position: u8 = 0;
@@ -87,8 +91,10 @@ fn feed_terms(numbers: [i64; 9], sink: Sink, loaded: &mut [u16], buffer: &mut [u
 fn feed_part(part: Part, sink: Sink, loaded: &mut [u16], buffer: &mut [u8]) -> Sink
     requires { ⌜ Small (part .numbers) ⌝ }
     requires { ⌜ Ready (stateOf sink (now loaded) (now buffer)) ⌝ }
-    ensures state { λ r. ⌜ stateOf r (now (loaded .exit)) (now (buffer .exit)) ≡ feedPart part (stateOf sink (now (loaded .entry)) (now (buffer .entry))) ⌝ }
-    ensures ready { λ r. ⌜ Ready (stateOf r (now (loaded .exit)) (now (buffer .exit))) ⌝ }
+    ensures state { λ r. ⌜ stateOf r (now (loaded .exit)) (now (buffer .exit))
+        ≡ feedPart part (stateOf sink (now (loaded .entry)) (now (buffer .entry))) ⌝ }
+    ensures ready { λ r. ⌜ Ready (stateOf
+        r (now (loaded .exit)) (now (buffer .exit))) ⌝ }
 {
     if !within17(part) {
         let step = sink.step;
@@ -114,7 +120,10 @@ fn feed_expression(
 ) -> Streamed
     requires { ⌜ at ≤ length (now s) ⌝ }
     requires { ⌜ Ready (stateOf sink (now loaded) (now buffer)) ⌝ }
-    ensures { λ r. ⌜ Streams (now (s .entry)) at (mapRead (λ t. feedTree t (stateOf sink (now (loaded .entry)) (now (buffer .entry)))) (expressionOf (drop at (now (s .entry))))) r (now (loaded .exit)) (now (buffer .exit)) ⌝ }
+    ensures { λ r. ⌜ (
+        let found = stateOf sink (now (loaded .entry)) (now (buffer .entry)) in
+        Streams (now (s .entry)) at (mapRead (λ t. feedTree t found) (expressionOf (drop at (now (s .entry)))))
+        r (now (loaded .exit)) (now (buffer .exit))) ⌝ }
 {
     let reading = expression(s, at);
     if reading.refused {
@@ -137,7 +146,10 @@ fn feed_expression(
 fn feed_list(s: &[u16], at: usize, sink: Sink, loaded: &mut [u16], buffer: &mut [u8]) -> Streamed
     requires { ⌜ at ≤ length (now s) ⌝ }
     requires { ⌜ Ready (stateOf sink (now loaded) (now buffer)) ⌝ }
-    ensures { λ r. ⌜ Streams (now (s .entry)) at (mapRead (λ ts. feedOutputs ts (stateOf sink (now (loaded .entry)) (now (buffer .entry)))) (items expressionOf (drop at (now (s .entry))))) r (now (loaded .exit)) (now (buffer .exit)) ⌝ }
+    ensures { λ r. ⌜ (
+        let found = stateOf sink (now (loaded .entry)) (now (buffer .entry)) in
+        Streams (now (s .entry)) at (mapRead (λ ts. feedOutputs ts found) (items expressionOf (drop at (now (s .entry)))))
+        r (now (loaded .exit)) (now (buffer .exit))) ⌝ }
 {
     let mut so_far = feed_expression(s, at, sink, loaded, buffer);
     let mut op = comma(s, so_far.refused, so_far.next);
@@ -152,7 +164,9 @@ fn feed_list(s: &[u16], at: usize, sink: Sink, loaded: &mut [u16], buffer: &mut 
 // The closing bracket behind a list.
 fn closed(s: &[u16], inner: Streamed) -> Streamed
     requires { ⌜ inner .next ≤ length (now s) ⌝ }
-    ensures { λ r. ⌜ (r .sink ≡ inner .sink) × ((loaded buffer : List ℕ) → Reads (now (s .entry)) (inner .next) (r .refused) (r .next) (stateOf (r .sink) loaded buffer) (closedBy 93 (readState (now (s .entry)) inner loaded buffer))) ⌝ }
+    ensures { λ r. ⌜ (r .sink ≡ inner .sink)
+        × ((loaded buffer : List ℕ) →
+        Reads (now (s .entry)) (inner .next) (r .refused) (r .next) (stateOf (r .sink) loaded buffer) (closedBy 93 (readState (now (s .entry)) inner loaded buffer))) ⌝ }
 {
     if inner.refused {
         return inner;
@@ -184,7 +198,10 @@ pub fn feed_outputs(
 ) -> Streamed
     requires { ⌜ at ≤ length (now s) ⌝ }
     requires { ⌜ Ready (stateOf sink (now loaded) (now buffer)) ⌝ }
-    ensures { λ r. ⌜ Streams (now (s .entry)) at (mapRead (λ ts. feedOutputs ts (stateOf sink (now (loaded .entry)) (now (buffer .entry)))) (bracketed expressionOf (drop at (now (s .entry))))) r (now (loaded .exit)) (now (buffer .exit)) ⌝ }
+    ensures { λ r. ⌜ (
+        let found = stateOf sink (now (loaded .entry)) (now (buffer .entry)) in
+        Streams (now (s .entry)) at (mapRead (λ ts. feedOutputs ts found) (bracketed expressionOf (drop at (now (s .entry)))))
+        r (now (loaded .exit)) (now (buffer .exit))) ⌝ }
 {
     let j = skip(s, at);
     let c = code_at(s, j);

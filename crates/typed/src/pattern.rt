@@ -144,7 +144,10 @@ fn feed_element(
 ) -> Streamed
     requires { ⌜ at ≤ length (now s) ⌝ }
     requires { ⌜ Ready (stateOf sink (now loaded) (now buffer)) ⌝ }
-    ensures { λ r. ⌜ Streams (now (s .entry)) at (mapRead (λ x. feedRange position x (stateOf sink (now (loaded .entry)) (now (buffer .entry)))) (elementOf (drop at (now (s .entry))))) r (now (loaded .exit)) (now (buffer .exit)) ⌝ }
+    ensures { λ r. ⌜ (
+        let found = stateOf sink (now (loaded .entry)) (now (buffer .entry)) in
+        Streams (now (s .entry)) at (mapRead (λ x. feedRange position x found) (elementOf (drop at (now (s .entry)))))
+        r (now (loaded .exit)) (now (buffer .exit))) ⌝ }
 {
     let between = element(s, at);
     if between.refused {
@@ -200,7 +203,10 @@ fn feed_elements(
 ) -> Streamed
     requires { ⌜ at ≤ length (now s) ⌝ }
     requires { ⌜ Ready (stateOf sink (now loaded) (now buffer)) ⌝ }
-    ensures { λ r. ⌜ Streams (now (s .entry)) at (mapRead (λ x. feedRanges position x (stateOf sink (now (loaded .entry)) (now (buffer .entry)))) (elementsOf (drop at (now (s .entry))))) r (now (loaded .exit)) (now (buffer .exit)) ⌝ }
+    ensures { λ r. ⌜ (
+        let found = stateOf sink (now (loaded .entry)) (now (buffer .entry)) in
+        Streams (now (s .entry)) at (mapRead (λ x. feedRanges position x found) (elementsOf (drop at (now (s .entry)))))
+        r (now (loaded .exit)) (now (buffer .exit))) ⌝ }
 {
     let mut so_far = feed_element(s, at, position, sink, loaded, buffer);
     let mut more = unclosed(s, so_far.refused, so_far.next);
@@ -223,7 +229,10 @@ fn feed_character(
 ) -> Streamed
     requires { ⌜ at ≤ length (now s) ⌝ }
     requires { ⌜ Ready (stateOf sink (now loaded) (now buffer)) ⌝ }
-    ensures { λ r. ⌜ Streams (now (s .entry)) at (mapRead (λ c. feedRanges position (alone c) (stateOf sink (now (loaded .entry)) (now (buffer .entry)))) (plainOf inQuotes (drop at (now (s .entry))))) r (now (loaded .exit)) (now (buffer .exit)) ⌝ }
+    ensures { λ r. ⌜ (
+        let found = stateOf sink (now (loaded .entry)) (now (buffer .entry)) in
+        Streams (now (s .entry)) at (mapRead (λ c. feedRanges position (alone c) found) (plainOf inQuotes (drop at (now (s .entry)))))
+        r (now (loaded .exit)) (now (buffer .exit))) ⌝ }
 {
     let found = plain(s, false, at);
     if found.refused {
@@ -253,7 +262,10 @@ fn feed_item(
 ) -> Streamed
     requires { ⌜ at ≤ length (now s) ⌝ }
     requires { ⌜ Ready (stateOf sink (now loaded) (now buffer)) ⌝ }
-    ensures { λ r. ⌜ Streams (now (s .entry)) at (mapRead (λ x. feedRanges position x (stateOf sink (now (loaded .entry)) (now (buffer .entry)))) (itemOf (drop at (now (s .entry))))) r (now (loaded .exit)) (now (buffer .exit)) ⌝ }
+    ensures { λ r. ⌜ (
+        let found = stateOf sink (now (loaded .entry)) (now (buffer .entry)) in
+        Streams (now (s .entry)) at (mapRead (λ x. feedRanges position x found) (itemOf (drop at (now (s .entry)))))
+        r (now (loaded .exit)) (now (buffer .exit))) ⌝ }
 {
     if code_at(s, at) == 91 {
         return feed_elements(s, at + 1, position, sink, loaded, buffer);
@@ -272,7 +284,10 @@ fn feed_next(
 ) -> Streamed
     requires { ⌜ at ≤ length (now s) ⌝ }
     requires { ⌜ Ready (stateOf sink (now loaded) (now buffer)) ⌝ }
-    ensures { λ r. ⌜ Streams (now (s .entry)) at (mapRead (λ x. feedRanges items x (stateOf sink (now (loaded .entry)) (now (buffer .entry)))) (cond (ltb items 8) (itemOf (drop at (now (s .entry)))) refused)) r (now (loaded .exit)) (now (buffer .exit)) ⌝ }
+    ensures { λ r. ⌜ (
+        let found = stateOf sink (now (loaded .entry)) (now (buffer .entry)) in
+        Streams (now (s .entry)) at (mapRead (λ x. feedRanges items x found) (cond (ltb items 8) (itemOf (drop at (now (s .entry)))) refused))
+        r (now (loaded .exit)) (now (buffer .exit))) ⌝ }
 {
     if items < 8 {
         return feed_item(s, at, items, sink, loaded, buffer);
@@ -302,7 +317,8 @@ fn unended(s: &[u16], refused: bool, at: usize) -> bool
 fn feed_items(s: &[u16], at: usize, sink: Sink, loaded: &mut [u16], buffer: &mut [u8]) -> Counted
     requires { ⌜ at ≤ length (now s) ⌝ }
     requires { ⌜ Ready (stateOf sink (now loaded) (now buffer)) ⌝ }
-    ensures { λ r. ⌜ CountsItems (now (s .entry)) at (stateOf sink (now (loaded .entry)) (now (buffer .entry))) r (now (loaded .exit)) (now (buffer .exit)) ⌝ }
+    ensures { λ r. ⌜ CountsItems (now (s .entry)) at (stateOf sink (now (loaded .entry)) (now (buffer .entry)))
+        r (now (loaded .exit)) (now (buffer .exit)) ⌝ }
 {
     let mut so_far = Streamed {
         refused: false,
@@ -373,7 +389,10 @@ pub fn feed_pattern(
 ) -> Streamed
     requires { ⌜ at ≤ length (now s) ⌝ }
     requires { ⌜ Ready (stateOf sink (now loaded) (now buffer)) ⌝ }
-    ensures { λ r. ⌜ Streams (now (s .entry)) at (mapRead (λ q. feedPattern q (stateOf sink (now (loaded .entry)) (now (buffer .entry)))) (patternOf (drop at (now (s .entry))))) r (now (loaded .exit)) (now (buffer .exit)) ⌝ }
+    ensures { λ r. ⌜ (
+        let found = stateOf sink (now (loaded .entry)) (now (buffer .entry)) in
+        Streams (now (s .entry)) at (mapRead (λ q. feedPattern q found) (patternOf (drop at (now (s .entry)))))
+        r (now (loaded .exit)) (now (buffer .exit))) ⌝ }
 {
     let step = Step::Refused(0);
     let idle = Sink {

@@ -40,8 +40,10 @@ fn put(buffer: &mut [u8], place: usize, bytes: &[u8])
 pub fn feed(sink: Sink, bytes: &[u8], loaded: &mut [u16], buffer: &mut [u8]) -> Sink
     requires { ⌜ length (now bytes) ≡ 8 ⌝ }
     requires { ⌜ Ready (stateOf sink (now loaded) (now buffer)) ⌝ }
-    ensures state { λ r. ⌜ stateOf r (now (loaded .exit)) (now (buffer .exit)) ≡ fed (now (bytes .entry)) (stateOf sink (now (loaded .entry)) (now (buffer .entry))) ⌝ }
-    ensures ready { λ r. ⌜ Ready (stateOf r (now (loaded .exit)) (now (buffer .exit))) ⌝ }
+    ensures state { λ r. ⌜ stateOf r (now (loaded .exit)) (now (buffer .exit))
+        ≡ fed (now (bytes .entry)) (stateOf sink (now (loaded .entry)) (now (buffer .entry))) ⌝ }
+    ensures ready { λ r. ⌜ Ready (stateOf
+        r (now (loaded .exit)) (now (buffer .exit))) ⌝ }
 {
     let step = sink.step;
     let Step::Next(reader) = step else {
