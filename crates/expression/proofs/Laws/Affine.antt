@@ -10,6 +10,8 @@ use native.Mathlib.Omega.{arith}
 use borrow.Author.Tests.{eqb-true}
 use lib.IntN.{ℤ, pos, negsuc, negℤ, _+ℤ_, _-ℤ_, _*ℤ_, +ℤ-idl, +ℤ-idr, zero-*ℤ, *ℤ-comm, *ℤ-one, one, negℤ-+ℤ}
 use lib.ListN.{length, getD, set, replicate, length-set}
+use Rattle.meaning.proofs.Laws.Rows.{length-map}
+use Rattle.meaning.proofs.Laws.Seven.{sum-swap}
 use Rattle.expression.specs.declared.part.Part.{Part}
 use Rattle.expression.specs.Grammar.{Tree, number, place, plus, minus, times, fold}
 use Rattle.expression.specs.Parts.{parts, numberPart, placePart, plusPart, minusPart, timesPart, checked, scaled, broken, zip, isZero, allZero, flat, allSmall}
@@ -17,8 +19,8 @@ use Rattle.meaning.specs.Value.{dot}
 use Rattle.expression.specs.Value.{numbersAt, valueAt}
 use Rattle.expression.specs.bridge.Forms.{Proper, affineAt}
 use Rattle.expression.proofs.Laws.Chains.{by-cond}
-use Rattle.expression.proofs.Laws.Numbers.{and-left, and-right, zip-length, map-length}
-use Rattle.expression.proofs.Laws.Integers.{swap, *-over-+, *-over--, *-last-two}
+use Rattle.expression.proofs.Laws.Numbers.{and-left, and-right, zip-length}
+use Rattle.expression.proofs.Laws.Integers.{*-over-+, *-over--, *-last-two}
 
 dot-plus : (a b : List ℤ) (w : List ℕ) → length a ≡ length b → dot (zip _+ℤ_ a b) w ≡ dot a w +ℤ dot b w
 unfolding dot zip
@@ -29,7 +31,7 @@ dot-plus (x ∷ a) (y ∷ b) [] h = refl
 dot-plus (x ∷ a) (y ∷ b) (c ∷ w) h =
     ap (λ d. (x +ℤ y) *ℤ pos c +ℤ d) (dot-plus a b w (omega arith))
     ∙ ap (λ d. d +ℤ (dot a w +ℤ dot b w)) (*-over-+ x y (pos c))
-    ∙ swap (x *ℤ pos c) (y *ℤ pos c) (dot a w) (dot b w)
+    ∙ sum-swap (x *ℤ pos c) (dot a w) (y *ℤ pos c) (dot b w)
 
 dot-minus : (a b : List ℤ) (w : List ℕ) → length a ≡ length b → dot (zip _-ℤ_ a b) w ≡ dot a w -ℤ dot b w
 unfolding dot zip
@@ -40,7 +42,7 @@ dot-minus (x ∷ a) (y ∷ b) [] h = refl
 dot-minus (x ∷ a) (y ∷ b) (c ∷ w) h =
     ap (λ d. (x -ℤ y) *ℤ pos c +ℤ d) (dot-minus a b w (omega arith))
     ∙ ap (λ d. d +ℤ (dot a w -ℤ dot b w)) (*-over-- x y (pos c))
-    ∙ swap (x *ℤ pos c) (negℤ (y *ℤ pos c)) (dot a w) (negℤ (dot b w))
+    ∙ sum-swap (x *ℤ pos c) (dot a w) (negℤ (y *ℤ pos c)) (negℤ (dot b w))
     ∙ ap (λ d. (x *ℤ pos c +ℤ dot a w) +ℤ d) (sym (negℤ-+ℤ (y *ℤ pos c) (dot b w)))
 
 dot-scaled : (a : List ℤ) (k : ℤ) (w : List ℕ) → dot (map (λ z. z *ℤ k) a) w ≡ dot a w *ℤ k
@@ -111,7 +113,7 @@ checked-count f ns h = by-cond (λ (p : Part). length (p .numbers) ≡ 9) (f && 
 
 scaled-count : (f : Bool) (ns : List ℤ) (k : ℤ) → length ns ≡ 9 → length (scaled f ns k .numbers) ≡ 9
 unfolding scaled
-scaled-count f ns k h = checked-count f (map (λ z. z *ℤ k) ns) (map-length (λ z. z *ℤ k) ns ∙ h)
+scaled-count f ns k h = checked-count f (map (λ z. z *ℤ k) ns) (length-map (λ z. z *ℤ k) ns ∙ h)
 
 pub tree-count : (t : Tree) → length (fold parts t .numbers) ≡ 9
 unfolding fold numberPart placePart plusPart minusPart timesPart broken

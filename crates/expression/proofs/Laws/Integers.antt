@@ -4,12 +4,6 @@ use mathlib.Core.Path.{_≡_, refl, sym, ap, _∙_}
 use Prim.Native.Nat.{zero, suc, _+_, _*_}
 use lib.IntN.{ℤ, pos, negsuc, negℤ, sucℤ, predℤ, _+ℤ_, _-ℤ_, _*ℤ_, +ℤ-idl, +ℤ-assoc, +ℤ-comm, +ℤ-one, -ℤ-one, sucℤ-+ℤ, predℤ-+ℤ, zero-*ℤ, *ℤ-comm, sucℤ-*ℤ, predℤ-*ℤ, negℤ-negℤ, ℤ-ind}
 
-pub swap : (a b c d : ℤ) → (a +ℤ b) +ℤ (c +ℤ d) ≡ (a +ℤ c) +ℤ (b +ℤ d)
-swap a b c d =
-    +ℤ-assoc a b (c +ℤ d)
-    ∙ ap (λ x. a +ℤ x) (sym (+ℤ-assoc b c d) ∙ ap (λ x. x +ℤ d) (+ℤ-comm b c) ∙ +ℤ-assoc c b d)
-    ∙ sym (+ℤ-assoc a c (b +ℤ d))
-
 -- (a + b) + c, with the last two the other way round
 last-two : (a b c : ℤ) → (a +ℤ b) +ℤ c ≡ (a +ℤ c) +ℤ b
 last-two a b c = +ℤ-assoc a b c ∙ ap (λ x. a +ℤ x) (+ℤ-comm b c) ∙ sym (+ℤ-assoc a c b)

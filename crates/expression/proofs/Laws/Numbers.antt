@@ -16,6 +16,7 @@ use mir.Facts.{toZ-ofZ}
 use borrow.Author.Tests.{ltb-true, ltb-false, le-ltb, lt-ltb, ne-eqb}
 use lib.ListN.{length, getD, replicate, set, length-set}
 use lib.Seq.{getD-set-same, getD-set-other, ext-getD}
+use Rattle.meaning.proofs.Laws.Rows.{length-map}
 use Rattle.expression.specs.declared.part.Part.{Part}
 use Rattle.expression.specs.Parts.{broken, numberPart, placePart, zip, small, allSmall, checked, isZero, allZero, flat, scaled, plusPart, minusPart, timesPart}
 use Rattle.expression.specs.bridge.Forms.{Small}
@@ -89,10 +90,6 @@ module _ (f : ℤ → ℤ → ℤ) where
   zip-at (x ∷ a) (y ∷ b) zero h l = refl
   zip-at (x ∷ a) (y ∷ b) (suc k) h l = zip-at a b k (omega arith) (omega arith)
 
-pub map-length : (f : ℤ → ℤ) (a : List ℤ) → length (map f a) ≡ length a
-map-length f [] = refl
-map-length f (x ∷ a) = ap suc (map-length f a)
-
 pub map-at : (f : ℤ → ℤ) (a : List ℤ) (k : ℕ) → k < length a → getD (map f a) k (pos 0) ≡ f (getD a k (pos 0))
 map-at f [] k h = absurd (omega arith)
 map-at f (x ∷ a) zero h = refl
@@ -139,27 +136,28 @@ product-small a b h k =
 pub back : (z : ℤ) → mag z < 9223372036854775808 → toZ w64 (ofZ w64 z) ≡ z
 back z h = toZ-ofZ {w = w64} {z = z} (record { sfits = h })
 
--- tests against the ends of 32 bits
-pub too-low : (z : ℤ) → mag z < 9223372036854775808 → ltZ (toZ w64 (ofZ w64 z)) (negsuc 2147483647) ≡ true → small z ≡ false
-too-low z h e = by z (ap (λ x. ltZ x (negsuc 2147483647)) (sym (back z h)) ∙ e)
-  where
-    by : (z : ℤ) → ltZ z (negsuc 2147483647) ≡ true → small z ≡ false
-    by (pos n) e = let z : _≡_ {A = ℕ} 0 1 = ap (λ x. cond x 1 0) e in absurd (omega arith)
-    by (negsuc n) e = let l = ltb-true 2147483647 n e in le-ltb n 2147483648 (omega arith)
+-- tests against the ends -(k + 1) and k, of 16 bits or 32
+module _ (k : ℕ) (z : ℤ) (h : mag z < 9223372036854775808) where
+  pub too-low : ltZ (toZ w64 (ofZ w64 z)) (negsuc k) ≡ true → ltb (mag z) (suc k) ≡ false
+  too-low e = by z (ap (λ x. ltZ x (negsuc k)) (sym (back z h)) ∙ e)
+    where
+      by : (z : ℤ) → ltZ z (negsuc k) ≡ true → ltb (mag z) (suc k) ≡ false
+      by (pos n) e = let z : _≡_ {A = ℕ} 0 1 = ap (λ x. cond x 1 0) e in absurd (omega arith)
+      by (negsuc n) e = let l = ltb-true k n e in le-ltb n (suc k) (omega arith)
 
-pub too-high : (z : ℤ) → mag z < 9223372036854775808 → ltZ (pos 2147483647) (toZ w64 (ofZ w64 z)) ≡ true → small z ≡ false
-too-high z h e = by z (ap (λ x. ltZ (pos 2147483647) x) (sym (back z h)) ∙ e)
-  where
-    by : (z : ℤ) → ltZ (pos 2147483647) z ≡ true → small z ≡ false
-    by (pos n) e = let l = ltb-true 2147483647 n e in le-ltb n 2147483648 (omega arith)
-    by (negsuc n) e = let z : _≡_ {A = ℕ} 0 1 = ap (λ x. cond x 1 0) e in absurd (omega arith)
+  pub too-high : ltZ (pos k) (toZ w64 (ofZ w64 z)) ≡ true → ltb (mag z) (suc k) ≡ false
+  too-high e = by z (ap (λ x. ltZ (pos k) x) (sym (back z h)) ∙ e)
+    where
+      by : (z : ℤ) → ltZ (pos k) z ≡ true → ltb (mag z) (suc k) ≡ false
+      by (pos n) e = let l = ltb-true k n e in le-ltb n (suc k) (omega arith)
+      by (negsuc n) e = let z : _≡_ {A = ℕ} 0 1 = ap (λ x. cond x 1 0) e in absurd (omega arith)
 
-pub between : (z : ℤ) → mag z < 9223372036854775808 → ltZ (toZ w64 (ofZ w64 z)) (negsuc 2147483647) ≡ false → ltZ (pos 2147483647) (toZ w64 (ofZ w64 z)) ≡ false → mag z < 2147483648
-between z h e f = by z (ap (λ x. ltZ x (negsuc 2147483647)) (sym (back z h)) ∙ e) (ap (λ x. ltZ (pos 2147483647) x) (sym (back z h)) ∙ f)
-  where
-    by : (z : ℤ) → ltZ z (negsuc 2147483647) ≡ false → ltZ (pos 2147483647) z ≡ false → mag z < 2147483648
-    by (pos n) e f = let l = ltb-false 2147483647 n f in omega arith
-    by (negsuc n) e f = let l = ltb-false 2147483647 n e in omega arith
+  pub between : ltZ (toZ w64 (ofZ w64 z)) (negsuc k) ≡ false → ltZ (pos k) (toZ w64 (ofZ w64 z)) ≡ false → mag z < suc k
+  between e f = by z (ap (λ x. ltZ x (negsuc k)) (sym (back z h)) ∙ e) (ap (λ x. ltZ (pos k) x) (sym (back z h)) ∙ f)
+    where
+      by : (z : ℤ) → ltZ z (negsuc k) ≡ false → ltZ (pos k) z ≡ false → mag z < suc k
+      by (pos n) e f = let l = ltb-false k n f in omega arith
+      by (negsuc n) e f = let l = ltb-false k n e in omega arith
 
 pub all-small-no : (ns : List ℤ) (i : ℕ) → i < length ns → small (getD ns i (pos 0)) ≡ false → allSmall ns ≡ false
 unfolding allSmall
@@ -289,7 +287,7 @@ module _ (a b : Part) where
 
     small-scaled : (f : Bool) (ns : List ℤ) (z : ℤ) → length ns ≡ 9 → Small (scaled f ns z .numbers)
     unfolding scaled
-    small-scaled f ns z l = small-checked f (map (λ x. x *ℤ z) ns) (map-length (λ x. x *ℤ z) ns ∙ l)
+    small-scaled f ns z l = small-checked f (map (λ x. x *ℤ z) ns) (length-map (λ x. x *ℤ z) ns ∙ l)
 
     pub small-times : Small (timesPart a b .numbers)
     unfolding timesPart

@@ -1,46 +1,22 @@
 -- Coefficients in signed 16 bits, and when refusal 17 meets nothing in a part.
--- Numbers are compared with the two ends, and a test on all of a list is one on each place. Assumes nothing.
-use mathlib.Core.Path.{_≡_, refl, sym, ap, subst, _∙_}
-use mathlib.Core.Bool.{Bool, true, false, _&&_, cond}
+-- A test on all of a list is one on each place. Assumes nothing.
+use mathlib.Core.Path.{_≡_, refl, ap, subst, _∙_}
+use mathlib.Core.Bool.{Bool, true, false, _&&_}
 use mathlib.Core.List.{List, [], _∷_}
 use Prim.Native.Nat.{ℕ, zero, suc, _+_, _≤_, _<_}
 use native.Mathlib.Omega.{arith}
-use borrow.Author.Tests.{ltb-true, ltb-false, le-ltb, lt-ltb}
+use borrow.Author.Tests.{ltb-true, lt-ltb}
 use lib.Dec.{lit<}
-use lib.IntN.{ℤ, pos, negsuc}
+use lib.IntN.{ℤ, pos}
 use lib.ListN.{length, getD, drop, length-drop}
 use lib.Seq.{getD-drop}
-use lib.Signed.{mag, ltZ}
-use mir.Syntax.{w64}
-use mir.Val.{toZ, ofZ}
+use lib.Signed.{mag}
 use Rattle.lists.specs.Lists.{all}
 use Rattle.lists.proofs.Laws.Each.{each-anywhere, each-places, all-each, each-all}
 use Rattle.lists.proofs.Laws.Tests.{to-T, of-T}
 use Rattle.expression.specs.declared.part.Part.{Part}
-use Rattle.expression.proofs.Laws.Numbers.{back, and-right}
+use Rattle.expression.proofs.Laws.Numbers.{and-right}
 use Rattle.typed.specs.Records.{coefficients, short, within17}
-
--- tests against the ends of 16 bits
-pub short-low : (z : ℤ) → mag z < 9223372036854775808 → ltZ (toZ w64 (ofZ w64 z)) (negsuc 32767) ≡ true → short z ≡ false
-short-low z h e = by z (ap (λ x. ltZ x (negsuc 32767)) (sym (back z h)) ∙ e)
-  where
-    by : (z : ℤ) → ltZ z (negsuc 32767) ≡ true → short z ≡ false
-    by (pos n) e = let z : _≡_ {A = ℕ} 0 1 = ap (λ x. cond x 1 0) e in absurd (omega arith)
-    by (negsuc n) e = let l = ltb-true 32767 n e in le-ltb n 32768 (omega arith)
-
-pub short-high : (z : ℤ) → mag z < 9223372036854775808 → ltZ (pos 32767) (toZ w64 (ofZ w64 z)) ≡ true → short z ≡ false
-short-high z h e = by z (ap (λ x. ltZ (pos 32767) x) (sym (back z h)) ∙ e)
-  where
-    by : (z : ℤ) → ltZ (pos 32767) z ≡ true → short z ≡ false
-    by (pos n) e = let l = ltb-true 32767 n e in le-ltb n 32768 (omega arith)
-    by (negsuc n) e = let z : _≡_ {A = ℕ} 0 1 = ap (λ x. cond x 1 0) e in absurd (omega arith)
-
-pub short-between : (z : ℤ) → mag z < 9223372036854775808 → ltZ (toZ w64 (ofZ w64 z)) (negsuc 32767) ≡ false → ltZ (pos 32767) (toZ w64 (ofZ w64 z)) ≡ false → mag z < 32768
-short-between z h e f = by z (ap (λ x. ltZ x (negsuc 32767)) (sym (back z h)) ∙ e) (ap (λ x. ltZ (pos 32767) x) (sym (back z h)) ∙ f)
-  where
-    by : (z : ℤ) → ltZ z (negsuc 32767) ≡ false → ltZ (pos 32767) z ≡ false → mag z < 32768
-    by (pos n) e f = let l = ltb-false 32767 n f in omega arith
-    by (negsuc n) e f = let l = ltb-false 32767 n e in omega arith
 
 -- the number behind the constant that belongs to a position
 pub short-at : (ns : List ℤ) (p : ℕ) → ((i : ℕ) → mag (getD (drop 1 ns) i (pos 0)) < 32768) → mag (getD ns (p + 1) (pos 0)) < 32768

@@ -2,6 +2,16 @@
 
 use super::Answer;
 
+/// The records of a text whose symbols have blanks between, and of the same without.
+const BLANKS_OR_NONE: &[&str] = &[
+    "01010000 00000000",
+    "02000000 61006100",
+    "03000000 01000000",
+    "03000000 06000000",
+    "04000000 03000000",
+    "05000000 00000000",
+];
+
 /// Texts as Rust has them.
 pub const TEXTS: &[(&str, Answer)] = &[
     // T1, T2 and T3 of document 01, and T3 with the default 65535 - x0.
@@ -82,26 +92,9 @@ pub const TEXTS: &[(&str, Answer)] = &[
     // Blanks and line ends wherever they may stand, and nowhere.
     (
         " \r\n\"a\"\n==>\r[ 1\n,  ( 2 + x0 )\r* 3 ]\n ;\r\n else ==> [ ] ; \n",
-        Ok(&[
-            "01010000 00000000",
-            "02000000 61006100",
-            "03000000 01000000",
-            "03000000 06000000",
-            "04000000 03000000",
-            "05000000 00000000",
-        ]),
+        Ok(BLANKS_OR_NONE),
     ),
-    (
-        "\"a\"==>[1,(2+x0)*3];else==>[];",
-        Ok(&[
-            "01010000 00000000",
-            "02000000 61006100",
-            "03000000 01000000",
-            "03000000 06000000",
-            "04000000 03000000",
-            "05000000 00000000",
-        ]),
-    ),
+    ("\"a\"==>[1,(2+x0)*3];else==>[];", Ok(BLANKS_OR_NONE)),
     // Coefficients of 0 ask for no position of the default either.
     (
         "\"a\"==>[];else==>[x7-x7+3];",

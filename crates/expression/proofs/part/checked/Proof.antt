@@ -46,7 +46,7 @@ returns-2 c =
     let l = c .before .before .before .loop-test .taken in
     c .broken2 .ensures
     ∙ sym (checked-large (s .args .fine) (s .args .t2)
-    (all-small-no (s .args .t2) (c .before .before .before .before .loop .i) (omega arith) (too-low (getD (s .args .t2) (c .before .before .before .before .loop .i) (pos 0)) (c .before .before .z .given) (c .before .if2 .taken))))
+    (all-small-no (s .args .t2) (c .before .before .before .before .loop .i) (omega arith) (too-low 2147483647 (getD (s .args .t2) (c .before .before .before .before .loop .i) (pos 0)) (c .before .before .z .given) (c .before .if2 .taken))))
 
 broken-requires-3 : tie.Need-broken-requires-3 Inv-loop μ-loop
 broken-requires-3 c κs = search needs
@@ -58,7 +58,7 @@ returns-3 c =
     let l = c .before .before .before .before .loop-test .taken in
     c .broken3 .ensures
     ∙ sym (checked-large (s .args .fine) (s .args .t2)
-    (all-small-no (s .args .t2) (c .before .before .before .before .before .loop .i) (omega arith) (too-high (getD (s .args .t2) (c .before .before .before .before .before .loop .i) (pos 0)) (c .before .before .before .z .given) (c .before .if3 .taken))))
+    (all-small-no (s .args .t2) (c .before .before .before .before .before .loop .i) (omega arith) (too-high 2147483647 (getD (s .args .t2) (c .before .before .before .before .before .loop .i) (pos 0)) (c .before .before .before .z .given) (c .before .if3 .taken))))
 
 add-i : tie.Need-add-i Inv-loop μ-loop
 add-i c = search needs
@@ -70,7 +70,7 @@ loop-again : tie.Need-loop-again Inv-loop μ-loop
 loop-again c =
     let i = c .before .before .before .before .loop in
     let l = c .before .before .before .loop-test .taken in
-    (omega arith, below-more _ _ (i .inv .1) (between (getD (c .before .before .before .before .before .before .args .t2) (i .i) (pos 0)) (c .before .before .z .given) (c .before .if2 .left) (c .if3 .left)))
+    (omega arith, below-more _ _ (i .inv .1) (between 2147483647 (getD (c .before .before .before .before .before .before .args .t2) (i .i) (pos 0)) (c .before .before .z .given) (c .before .if2 .left) (c .if3 .left)))
 
 returns-4 : tie.Need-returns-4 Inv-loop μ-loop
 returns-4 c =

@@ -9,8 +9,9 @@ use lib.IntN.{pos, _*ℤ_}
 use mathlib.Core.List.{map}
 use mir.Syntax.{w64}
 use mir.Val.{toZ, ofZ}
+use Rattle.meaning.proofs.Laws.Rows.{length-map}
 use Rattle.expression.specs.Parts.{scaled, checked}
-use Rattle.expression.proofs.Laws.Numbers.{Filled, filled-more, filled-all, map-length, map-at, product-fits, product-stored, back}
+use Rattle.expression.proofs.Laws.Numbers.{Filled, filled-more, filled-all, map-at, product-fits, product-stored, back}
 use Rattle.expression.proofs.part.scaled.Statement.{statement}
 use Rattle.expression.proofs.part.scaled.Tie as tie
 
@@ -74,7 +75,7 @@ returns c =
     let m = s .pre .0 .count in
     c .checked .ensures
     ∙ ap (checked (s .args .fine))
-    (filled-all (λ j. getD x j (pos 0) *ℤ toZ w64 (ofZ w64 k)) (i .i) (i .z) (map (λ z. z *ℤ k) x) (c .before .loop-test .left) (i .inv .1) (map-length (λ z. z *ℤ k) x ∙ m)
+    (filled-all (λ j. getD x j (pos 0) *ℤ toZ w64 (ofZ w64 k)) (i .i) (i .z) (map (λ z. z *ℤ k) x) (c .before .loop-test .left) (i .inv .1) (length-map (λ z. z *ℤ k) x ∙ m)
     (λ j l. map-at (λ z. z *ℤ k) x j (omega arith) ∙ ap (λ q. getD x j (pos 0) *ℤ q) (sym (back k (omega arith)))))
 
 pub scaled-spec : {M : Type 1} → statement M

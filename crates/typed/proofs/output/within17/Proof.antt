@@ -9,7 +9,8 @@ use borrow.Author.Tests.{not-true, not-false}
 use lib.IntN.{pos}
 use lib.ListN.{getD}
 use lib.Signed.{mag}
-use Rattle.typed.proofs.Laws.Shorts.{short-low, short-high, short-between, within-unfine, within-large, within-fine}
+use Rattle.expression.proofs.Laws.Numbers.{too-low, too-high, between}
+use Rattle.typed.proofs.Laws.Shorts.{within-unfine, within-large, within-fine}
 use Rattle.typed.proofs.output.within17.Statement.{statement}
 use Rattle.typed.proofs.output.within17.Tie as tie
 
@@ -39,7 +40,7 @@ returns-2 c =
     let n = s .pre .count in
     let l = c .before .before .loop-test .taken in
     let i = w .loop in
-    sym (within-large p (i .i) (i .inv .0) (omega arith) (short-low (getD (p .numbers) (i .i) (pos 0)) (c .before .z .given) (c .if2 .taken)))
+    sym (within-large p (i .i) (i .inv .0) (omega arith) (too-low 32767 (getD (p .numbers) (i .i) (pos 0)) (c .before .z .given) (c .if2 .taken)))
 
 returns-3 : tie.Need-returns-3 Inv-loop μ-loop
 returns-3 c =
@@ -49,7 +50,7 @@ returns-3 c =
     let n = s .pre .count in
     let l = c .before .before .before .loop-test .taken in
     let i = w .loop in
-    sym (within-large p (i .i) (i .inv .0) (omega arith) (short-high (getD (p .numbers) (i .i) (pos 0)) (c .before .before .z .given) (c .if3 .taken)))
+    sym (within-large p (i .i) (i .inv .0) (omega arith) (too-high 32767 (getD (p .numbers) (i .i) (pos 0)) (c .before .before .z .given) (c .if3 .taken)))
 
 add-i : tie.Need-add-i Inv-loop μ-loop
 add-i c = search needs
@@ -64,7 +65,7 @@ loop-again c =
     let x = s .args .part .numbers in
     let l = c .before .before .before .loop-test .taken in
     let i = w .loop in
-    (omega arith, omega arith, below-more _ _ (i .inv .2) (λ h. short-between (getD x (i .i) (pos 0)) (c .before .before .z .given) (c .before .if2 .left) (c .if3 .left)))
+    (omega arith, omega arith, below-more _ _ (i .inv .2) (λ h. between 32767 (getD x (i .i) (pos 0)) (c .before .before .z .given) (c .before .if2 .left) (c .if3 .left)))
 
 returns-4 : tie.Need-returns-4 Inv-loop μ-loop
 returns-4 c =
