@@ -1,7 +1,7 @@
 /*
  * Cobbletwill: conversion of text under a table of rules, tables of rules that are
  * typed as text, compiling a table into machine words, and conversion by the words,
- * piece by piece.
+ * piece by piece, with a look ahead at what a piece would give.
  *
  * Document 01 says what tables, characters, direct conversion, machine words and
  * sessions are, request [4] of document 02 what can be typed; docs/FORMAT.md has
@@ -11,15 +11,17 @@
  *
  * Buffers. A buffer is a pointer to its first element and then its number of
  * elements. With the number 0 the pointer is not used and may be null. No other
- * pointer may be null: `session`, `place`, `written` and `length` always point to
- * one object, `uses` to 33. Pointers are aligned as their type.
+ * pointer may be null: `session`, `later`, `place`, `written` and `length` always
+ * point to one object, `uses` and `later_uses` to 33. Pointers are aligned as their
+ * type.
  *
  * Overlaps. What a call may write (the table of from_text, the words of compile,
- * `output`, `*session`, `uses`, `*place`, `*written`, `*length`) must not overlap
- * anything else that is passed to it. Where `uses` is passed too, `*session` is the
- * 48 bytes before its counts. What a call only reads (`text`, `table` but for that
- * of from_text, `input`, `piece`, the words of feed and finish) may overlap, and
- * may lie in read-only memory.
+ * `output`, the `*session` and `uses` of feed and finish, `*later`, `later_uses`,
+ * `*place`, `*written`, `*length`) must not overlap anything else that is passed to
+ * it. Where counts of uses are passed too, a session is the 48 bytes before its
+ * counts. What a call only reads (`text`, `table` but for that of from_text,
+ * `input`, `piece`, the words of feed, finish and preview, the `*session` and
+ * `uses` of preview) may overlap, and may lie in read-only memory.
  *
  * A refused call writes nothing, but for a compile refused by 1 to 9, which
  * leaves its words 0. So at any other refusal what could have been written may
@@ -37,11 +39,12 @@
 /* The version of this header and its library: record kinds, word and session
  * layout, answers, functions. Words of 0.2, which has no digits, are not for
  * later versions, nor are sessions of 0.3, which have no counts of uses. Tables,
- * words and sessions of 0.4, which has no from_text, stay valid. */
+ * words and sessions of 0.4, which has no from_text, and of 0.5, which has no
+ * preview, stay valid. */
 #define COBBLETWILL_VERSION_MAJOR 0
-#define COBBLETWILL_VERSION_MINOR 5
+#define COBBLETWILL_VERSION_MINOR 6
 #define COBBLETWILL_VERSION_PATCH 0
-#define COBBLETWILL_VERSION "0.5.0"
+#define COBBLETWILL_VERSION "0.6.0"
 
 #ifdef __cplusplus
 extern "C" {
@@ -58,9 +61,9 @@ enum { COBBLETWILL_WORDS = 19961 };
 enum { COBBLETWILL_DEFAULT = 32, COBBLETWILL_USES = 33 };
 
 /* The most stack that a call takes on x86-64, in bytes: its return address, and
- * all below but for the frames of memcpy and memset. Feed and finish are inline:
- * these are the limits of the functions that they call, and a frame of their own,
- * where the compiler makes one, is the caller's. */
+ * all below but for the frames of memcpy and memset. Feed, finish and preview are
+ * inline: these are the limits of the functions that they call, and a frame of
+ * their own, where the compiler makes one, is the caller's. */
 enum {
     COBBLETWILL_STACK_CHECK = 12288,
     COBBLETWILL_STACK_CONVERT = 12288,
@@ -68,11 +71,12 @@ enum {
     COBBLETWILL_STACK_COMPILE = 14336,
     COBBLETWILL_STACK_IS_SOUND = 256,
     COBBLETWILL_STACK_FEED = 1536,
-    COBBLETWILL_STACK_FINISH = 1536
+    COBBLETWILL_STACK_FINISH = 1536,
+    COBBLETWILL_STACK_PREVIEW = 1536
 };
 
-/* The answers of the check, of conversion, of from_text, of compiling, of feed and
- * of finish. A refusal answers its number. */
+/* The answers of the check, of conversion, of from_text, of compiling, of feed, of
+ * finish and of preview. A refusal answers its number. */
 enum {
     /* The table or the text is accepted; the conversion or the session closed at
      * the input's end; the table is compiled. */
@@ -100,14 +104,15 @@ enum {
     COBBLETWILL_STATES = 9,
     /* 10: under 19,961 words for compiling. */
     COBBLETWILL_SHORT_WORDS = 10,
-    /* 11: under 19,961 words for feed or finish, or words that are not sound. */
+    /* 11: under 19,961 words for feed, finish or preview, or words that are not
+     * sound. */
     COBBLETWILL_UNSOUND_WORDS = 11,
     /* 12: a session that is not sound. */
     COBBLETWILL_UNSOUND_SESSION = 12,
     /* 13: a session that is closed or stopped. */
     COBBLETWILL_ENDED = 13,
-    /* 14: an input above 1,099,511,627,776 characters; for feed, the characters
-     * received with those of the piece. A finish never meets it. */
+    /* 14: an input above 1,099,511,627,776 characters; for feed and preview, the
+     * characters received with those of the piece. A finish never meets it. */
     COBBLETWILL_TOO_LONG = 14,
     /* 15: an output buffer shorter than E times the input, E being the greatest
      * number of output characters in a group of the table; for feed, shorter than
@@ -370,6 +375,16 @@ uint32_t cobbletwill_finish_parts(const uint16_t *words, size_t words_length,
                                   uint64_t *written);
 
 /*
+ * Preview of a session that is lent in two parts, likewise: the session and its
+ * counts of uses, which are only read, and the later session and its counts.
+ */
+uint32_t cobbletwill_preview_parts(const uint16_t *words, size_t words_length,
+                                   const cobbletwill_session *session,
+                                   const uint64_t *uses, const uint16_t *piece,
+                                   size_t piece_length, cobbletwill_session *later,
+                                   uint64_t *later_uses, uint64_t *written);
+
+/*
  * Feed. `words` has `words_length` words, which are only read; at most the first
  * 19,961 are looked at. `session` points to one session. `piece` has
  * `piece_length` characters of 16 bits: what follows those received so far.
@@ -423,6 +438,32 @@ static inline uint32_t cobbletwill_finish(const uint16_t *words, size_t words_le
                                           uint64_t *written) {
     return cobbletwill_finish_parts(words, words_length, session, session->uses, output,
                                     output_length, written);
+}
+
+/*
+ * Preview: what a feed would give, with room for all that it may write. The
+ * arguments are those of feed, but that there is no output, and that the session is
+ * only read; `later` points to a session of any content.
+ *
+ * Answers 65 or 64 as that feed does. Then `*later` is the session that it leaves,
+ * and `*written` is the number of characters that it writes. Nothing else is
+ * written. To make the feed, feed `*session`, which is as found.
+ *
+ * Else answers the first refusal in this order, and `*later` and `*written` are as
+ * found:
+ *
+ *   11  fewer than 19,961 words, or words that are not sound
+ *   12  a session that is not sound for these words, a status above 2 included
+ *   13  a session that is closed or stopped
+ *   14  received plus `piece_length` above 1,099,511,627,776
+ */
+static inline uint32_t cobbletwill_preview(const uint16_t *words, size_t words_length,
+                                           const cobbletwill_session *session,
+                                           const uint16_t *piece, size_t piece_length,
+                                           cobbletwill_session *later,
+                                           uint64_t *written) {
+    return cobbletwill_preview_parts(words, words_length, session, session->uses, piece,
+                                     piece_length, later, later->uses, written);
 }
 
 #ifdef __cplusplus

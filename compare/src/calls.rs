@@ -1,5 +1,5 @@
-//! Feeds and finishes, by the library and by the independent version, and random
-//! calls.
+//! Feeds, finishes and previews, by the library and by the independent version, and
+//! random calls.
 
 use reference::machine::Status;
 use reference::random::Random;
@@ -136,12 +136,113 @@ pub fn written(session: &session::Session) -> Session {
     }
 }
 
-/// Compares one call of both; answers what both left.
+/// What a preview answers and leaves.
+#[derive(Clone, Copy, Debug, PartialEq, Eq)]
+pub struct Seen {
+    /// The answer.
+    pub code: u32,
+    /// The later session.
+    pub session: Session,
+    /// The count of what would be written.
+    pub count: u64,
+}
+
+impl Seen {
+    /// What a preview finds in place of the later session and the count, with an
+    /// answer that no preview has.
+    const FOUND: Seen = Seen {
+        code: u32::MAX,
+        session: Session {
+            received: 0x0102_0304_0506_0708,
+            tally: Tally {
+                produced: u64::MAX,
+                steps: 17,
+            },
+            status: 0x090a_0b0c,
+            state: 0x0d0e,
+            held_count: 0x0f10,
+            held: [0x1112; 8],
+            uses: [0x1314_1516_1718_191a; face::USES],
+        },
+        count: u64::MAX - 1,
+    };
+}
+
+/// What a preview by the library answers and leaves.
+pub fn seen_by_library(words: &[u16], session: &Session, piece: &[u16]) -> Seen {
+    let mut seen = Seen::FOUND;
+    seen.code = face::preview(words, session, piece, &mut seen.session, &mut seen.count);
+    seen
+}
+
+/// What a preview by the independent version answers and leaves: the later session
+/// and the count are as found where it is refused.
+fn seen_by_reference(words: &[u16], session: &Session, piece: &[u16]) -> Seen {
+    let preview = match read(session) {
+        Some(session) => session::preview(words, &session, piece),
+        None => Words::sound(words).and(Err(Refusal::UnsoundSession)),
+    };
+    match preview {
+        Ok(preview) => Seen {
+            code: code(Ok(Answer {
+                count: preview.count,
+                status: preview.status,
+            })),
+            session: written(&preview.session),
+            count: preview.count as u64,
+        },
+        Err(refusal) => Seen {
+            code: u32::from(refusal.number()),
+            ..Seen::FOUND
+        },
+    }
+}
+
+/// Compares a preview of both; answers what both saw.
 ///
 /// # Panics
 ///
-/// If they differ, or if a refused call changed anything.
+/// If they differ, or if it is refused by 15.
+pub fn compare_preview(words: &[u16], session: &Session, piece: &[u16]) -> Seen {
+    let expected = seen_by_reference(words, session, piece);
+    let seen = seen_by_library(words, session, piece);
+    assert_eq!(seen, expected, "a preview of {piece:?} of {session:?}");
+    assert_ne!(seen.code, 15, "a preview of {piece:?} of {session:?}");
+    seen
+}
+
+/// What a feed that came to `left` shows, as a preview would; of one that had too
+/// little room, what one with enough shows.
+fn shown(words: &[u16], session: Session, piece: &[u16], left: &Left) -> Seen {
+    match left.code {
+        OK | STOPPED | OPEN => Seen {
+            code: left.code,
+            session: left.session,
+            count: left.count,
+        },
+        15 => {
+            let left = by_library(words, session, &roomy_feed(piece));
+            shown(words, session, piece, &left)
+        }
+        code => Seen {
+            code,
+            ..Seen::FOUND
+        },
+    }
+}
+
+/// Compares one call of both, after a preview of both where it is a feed; answers
+/// what both left.
+///
+/// # Panics
+///
+/// If they differ, if a refused call changed anything, or if the preview saw
+/// anything else than the feed shows.
 pub fn compare(words: &[u16], session: Session, call: &Call) -> Left {
+    let previewed = match call {
+        Call::Feed { piece, .. } => Some((piece, compare_preview(words, &session, piece))),
+        Call::Finish { .. } => None,
+    };
     let expected = by_reference(words, session, call);
     let left = by_library(words, session, call);
     assert_eq!(left, expected, "{call:?} of {session:?}");
@@ -149,6 +250,10 @@ pub fn compare(words: &[u16], session: Session, call: &Call) -> Left {
         let code = left.code;
         let found = Left::found(session, call);
         assert_eq!(left, Left { code, ..found }, "{call:?} of {session:?}");
+    }
+    if let Some((piece, seen)) = previewed {
+        let shown = shown(words, session, piece, &left);
+        assert_eq!(seen, shown, "{call:?} of {session:?}");
     }
     left
 }

@@ -1,5 +1,5 @@
 //! An independent version of the rollback converter, written from document 01
-//! and requests \[1\] to \[4\] of document 02 alone, for comparison with the
+//! and requests \[1\] to \[5\] of document 02 alone, for comparison with the
 //! definitions and the code of the project.
 //!
 //! The modules in document 01's order:
@@ -11,7 +11,7 @@
 //! - [`words`]: the layout of the machine words and their soundness
 //! - [`machine`]: the plain machine, one counted step at a time
 //! - [`uses`]: how often each rule and the default were used
-//! - [`session`]: sessions, feed and finish
+//! - [`session`]: sessions, feed, finish and preview
 //! - [`reckoning`]: what a list of calls must give, from the table and the calls alone
 //! - [`direct`], [`compile`]: direct conversion and compiling
 //! - [`typed`]: the records of rules typed as text

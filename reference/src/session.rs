@@ -1,11 +1,11 @@
-//! Sessions, their soundness, feed and finish.
+//! Sessions, their soundness, feed, finish and preview.
 
 use crate::automaton::{Automaton, Choice};
 use crate::lengths::{Lengths, MAX_RECEIVED};
 use crate::machine::{Machine, Status};
 use crate::refusal::Refusal;
 use crate::states::StateNo;
-use crate::table::MAX_LENGTH;
+use crate::table::{MAX_LENGTH, MAX_OUTPUTS};
 use crate::uses::Uses;
 use crate::words::Words;
 
@@ -41,6 +41,17 @@ pub struct Answer {
     pub count: usize,
     /// The session's status after the call.
     pub status: Status,
+}
+
+/// What an accepted preview answers: "the output count, status and later session".
+#[derive(Clone, Copy, Debug, PartialEq, Eq)]
+pub struct Preview {
+    /// The number of characters that a feed would write.
+    pub count: usize,
+    /// The session's status after that feed.
+    pub status: Status,
+    /// The session after it.
+    pub session: Session,
 }
 
 impl Session {
@@ -169,6 +180,21 @@ pub fn feed(
 /// Gives the input its end; otherwise as a feed of nothing.
 pub fn finish(words: &[u16], session: &mut Session, output: &mut [u16]) -> Result<Answer, Refusal> {
     call(words, session, &[], true, output)
+}
+
+/// "A preview takes machine, session and piece. It answers the output count, status
+/// and later session of a feed made on a copy with enough output": a sound session
+/// holds at most 8 characters, and sound words have an E of at most 8, so that with
+/// this output 15 can't occur.
+pub fn preview(words: &[u16], session: &Session, piece: &[u16]) -> Result<Preview, Refusal> {
+    let mut copy = *session;
+    let mut output = vec![0; MAX_OUTPUTS * (MAX_LENGTH + piece.len())];
+    let answer = feed(words, &mut copy, piece, &mut output)?;
+    Ok(Preview {
+        count: answer.count,
+        status: answer.status,
+        session: copy,
+    })
 }
 
 /// A feed, or a finish if `ended`.

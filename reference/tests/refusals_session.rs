@@ -1,6 +1,6 @@
-//! Refusals 11 to 15 of feed and finish: each clause of a sound session, each
-//! refusal by a case, each adjacent pair of the order by a case that breaks
-//! both, and that a refused call changes nothing.
+//! Refusals 11 to 15 of feed and finish, and of previews of the same feeds: each
+//! clause of a sound session, each refusal by a case, each adjacent pair of the
+//! order by a case that breaks both, and that a refused call changes nothing.
 
 use std::collections::BTreeMap;
 
@@ -12,7 +12,7 @@ use reference::machine::Status;
 use reference::random::Random;
 use reference::refusal::Refusal;
 use reference::samples::{lookahead, random_input, random_table, t1, t2};
-use reference::session::{feed, finish, Answer, Session};
+use reference::session::{feed, finish, preview, Answer, Preview, Session};
 use reference::states::StateNo;
 use reference::table::Table;
 use reference::uses::{Uses, DEFAULT, GROUPS};
@@ -22,16 +22,31 @@ const A: u16 = 97;
 const B: u16 = 98;
 const STATUSES: [Status; 3] = [Status::Open, Status::Closed, Status::Stopped];
 
-/// Feeds a copy of the session and checks that a refusal changes nothing.
+/// Feeds a copy of the session and checks that a refusal changes nothing, and that
+/// a preview "is refused as feed is, except that refusal 15 can't occur".
 fn fed(
     words: &[u16],
     session: Session,
     piece: &[u16],
     output: usize,
 ) -> Result<(Answer, Session, Vec<u16>), Refusal> {
-    checked(session, output, |session, buffer| {
+    let fed = checked(session, output, |session, buffer| {
         feed(words, session, piece, buffer)
-    })
+    });
+    let seen = preview(words, &session, piece);
+    match &fed {
+        Ok((answer, later, _)) => {
+            let expected = Preview {
+                count: answer.count,
+                status: answer.status,
+                session: *later,
+            };
+            assert_eq!(seen, Ok(expected));
+        }
+        Err(Refusal::ShortOutput) => assert!(seen.is_ok()),
+        Err(refusal) => assert_eq!(seen, Err(*refusal)),
+    }
+    fed
 }
 
 /// The same for a finish.

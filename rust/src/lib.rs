@@ -1,6 +1,7 @@
 //! The proved rollback converter for Rust callers, over the C face of
 //! `include/cobbletwill.h`. Document 01 says what tables, machine words, sessions
-//! and refusals are, request \[4\] of document 02 what can be typed.
+//! and refusals are, request \[4\] of document 02 what can be typed, request \[5\]
+//! what a preview is.
 //!
 //! ```
 //! use cobbletwill::record::{output, range, rule, term, DEFAULT};
@@ -17,8 +18,11 @@
 //! let mut session = Session::fresh();
 //! let mut text = [0; 5];
 //! let piece: Vec<u16> = "0+214".encode_utf16().collect();
+//! let seen = session.preview(&machine, &piece)?;
+//! assert_eq!((seen.status, seen.written), (Status::Open, 5));
 //! let fed = session.feed(&machine, &piece, &mut text)?;
 //! assert_eq!((fed.status, fed.written), (Status::Open, 5));
+//! assert_eq!(session, seen.session);
 //! assert_eq!(String::from_utf16_lossy(&text), "0 214");
 //! assert_eq!(session.finish(&machine, &mut [])?.status, Status::Closed);
 //! assert_eq!((session.uses(0), session.default_uses()), (1, 4));
@@ -28,8 +32,8 @@
 //! - [`check`], [`convert`]: the table check and direct conversion
 //! - [`Table::from_text`]: tables of rules that are typed as text
 //! - [`Machine`]: compiled tables
-//! - [`Session`]: feed and finish, and how often each rule was used; [`run`] makes
-//!   all calls
+//! - [`Session`]: feed, finish and preview, and how often each rule was used; [`run`]
+//!   makes all calls
 //! - [`Refusal`]: the numbered refusals
 //! - [`record`]: writing a table's records
 //! - [`raw`]: the functions of the header as they are, on any words and sessions
@@ -49,7 +53,7 @@ pub use direct::{check, convert, Conversion, Ending};
 pub use machine::Machine;
 pub use raw::{Session, Tally, TABLE, WORDS};
 pub use refusal::Refusal;
-pub use session::{run, Progress, Status};
+pub use session::{run, Preview, Progress, Status};
 pub use typed::Table;
 
 /// The most output characters that a group has, so that so many times the input

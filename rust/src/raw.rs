@@ -146,6 +146,17 @@ mod c {
             written: *mut u64,
         ) -> u32;
 
+        pub fn cobbletwill_preview_parts(
+            words: *const u16,
+            words_length: usize,
+            session: *const Session,
+            uses: *const [u64; USES],
+            piece: *const u16,
+            piece_length: usize,
+            later: *mut Session,
+            later_uses: *mut [u64; USES],
+            written: *mut u64,
+        ) -> u32;
     }
 }
 
@@ -256,6 +267,35 @@ pub fn finish(words: &[u16], session: &mut Session, output: &mut [u16], written:
     }
 }
 
+/// A preview: what [`feed`] answers with enough output, with the later session and
+/// the number of characters that it would write set, or the number of a refusal,
+/// which is never 15.
+pub fn preview(
+    words: &[u16],
+    session: &Session,
+    piece: &[u16],
+    later: &mut Session,
+    written: &mut u64,
+) -> u32 {
+    let (later, later_uses) = parts(later);
+    // SAFETY: each pointer and length are those of a slice, the sessions have the
+    // layout of the header's, of which the function touches but the part before
+    // the counts, and what is written is borrowed for this call alone.
+    unsafe {
+        c::cobbletwill_preview_parts(
+            words.as_ptr(),
+            words.len(),
+            session,
+            &session.uses,
+            piece.as_ptr(),
+            piece.len(),
+            later,
+            later_uses,
+            written,
+        )
+    }
+}
+
 /// A session and its counts, the two parts that it is lent in.
 fn parts(session: &mut Session) -> (*mut Session, *mut [u64; USES]) {
     let session: *mut Session = session;
@@ -326,11 +366,15 @@ mod tests {
         let mut words = vec![0; WORDS];
         assert_eq!(super::compile(&TABLE, &mut words), 0);
         let (words, length) = (words.as_ptr(), words.len());
-        let (mut session, mut written) = (Session::FRESH, 19);
+        let (mut session, mut later, mut written) = (Session::FRESH, Session::FRESH, 19);
         // SAFETY: with the length 0 a pointer is not used; the others are those
-        // of the words, of a session and of a number borrowed for this call alone.
+        // of the words, of sessions and of a number borrowed for this call alone.
         unsafe {
             let ((at, uses), out, n) = (parts(&mut session), null_mut(), &mut written);
+            let (to, counts) = parts(&mut later);
+            let seen =
+                c::cobbletwill_preview_parts(words, length, at, uses, null(), 0, to, counts, n);
+            assert_eq!((seen, *n), (65, 0));
             let fed = c::cobbletwill_feed_parts(words, length, at, uses, null(), 0, out, 0, n);
             assert_eq!((fed, *n), (65, 0));
             let refused = c::cobbletwill_finish_parts(null(), 0, at, uses, out, 0, n);

@@ -1,4 +1,4 @@
-//! Sessions, feed and finish.
+//! Sessions, feed, finish and preview.
 
 use crate::machine::Machine;
 use crate::raw::{self, Session, DEFAULT};
@@ -22,6 +22,17 @@ pub struct Progress {
     pub written: usize,
     /// The session's status after the call.
     pub status: Status,
+}
+
+/// What an accepted preview answers.
+#[derive(Clone, Copy, Debug, PartialEq, Eq)]
+pub struct Preview {
+    /// The number of characters that the feed would write.
+    pub written: usize,
+    /// The session's status after that feed.
+    pub status: Status,
+    /// The session after it.
+    pub session: Session,
 }
 
 impl Session {
@@ -66,6 +77,19 @@ impl Session {
         progress(answer, written)
     }
 
+    /// What a feed of the piece would answer and leave, with room for all that it may
+    /// write; nothing is written. Refused by 12 to 14.
+    pub fn preview(&self, machine: &Machine, piece: &[u16]) -> Result<Preview, Refusal> {
+        let (mut session, mut written) = (Session::fresh(), 0);
+        let answer = raw::preview(machine.words(), self, piece, &mut session, &mut written);
+        let Progress { written, status } = progress(answer, written)?;
+        Ok(Preview {
+            written,
+            status,
+            session,
+        })
+    }
+
     /// Gives the input its end. Refused by 12, 13 or 15, with nothing changed.
     pub fn finish(&mut self, machine: &Machine, output: &mut [u16]) -> Result<Progress, Refusal> {
         let mut written = 0;
@@ -95,7 +119,8 @@ pub fn run<'a>(
     Ok((text, session))
 }
 
-/// The answer of a feed or finish; what it wrote is at most the output's length.
+/// The answer of a call. What it wrote, or would, is at most eight times the
+/// characters held and those of a slice.
 fn progress(answer: u32, written: u64) -> Result<Progress, Refusal> {
     let status = match answer {
         raw::OK => Status::Closed,

@@ -27,7 +27,9 @@ entry_points() {
     echo crates/words/src/sound_words.rt is_sound
     echo crates/session/src/kept.rt fresh
     echo crates/station/src/two.rt convert_in_two
-    for name in feed finish feed_by_value finish_by_value feed_kept finish_kept; do echo crates/session/src/call.rt "$name"; done
+    for name in feed finish preview; do
+        for how in "" _by_value _kept; do echo crates/session/src/call.rt "$name$how"; done
+    done
 }
 
 checked=0
@@ -40,7 +42,7 @@ while read -r file name; do
     done
     checked=$((checked + 1))
 done < <(entry_points)
-[ "$checked" -ge 20 ] || fail "only $checked entry points are found"
+[ "$checked" -ge 24 ] || fail "only $checked entry points are found"
 
 total=0
 for file in crates/*/specs/[A-Z]*.antt; do

@@ -1,7 +1,8 @@
 /*
  * The library without a C library: linked with `-nostdlib -ffreestanding`, and
  * with memcpy and memset alone beside it. Ends with 0 if T2 (anchored `a` writes
- * X, `a` writes Y) makes YX of `aa`, in 5 steps and with one use of each rule.
+ * X, `a` writes Y) makes YX of `aa`, in 5 steps and with one use of each rule, and
+ * if a preview of `aa` saw what the feed wrote and left.
  */
 #include "cobbletwill.h"
 
@@ -31,13 +32,19 @@ static uint16_t words[COBBLETWILL_WORDS];
 static int run(void) {
     static const uint16_t text[] = {'a', 'a'};
     uint16_t output[4];
-    uint64_t first = 0, rest = 0;
-    cobbletwill_session session = COBBLETWILL_FRESH;
+    uint64_t seen = 0, first = 0, rest = 0;
+    cobbletwill_session session = COBBLETWILL_FRESH, later;
     if (cobbletwill_compile(table, sizeof table, words, COBBLETWILL_WORDS) != COBBLETWILL_OK) {
         return 1;
     }
+    if (cobbletwill_preview(words, COBBLETWILL_WORDS, &session, text, 2, &later, &seen) != COBBLETWILL_OPEN) {
+        return 7;
+    }
     if (cobbletwill_feed(words, COBBLETWILL_WORDS, &session, text, 2, output, 4, &first) != COBBLETWILL_OPEN) {
         return 2;
+    }
+    if (seen != first || later.held_count != session.held_count || later.tally.steps != session.tally.steps) {
+        return 8;
     }
     if (cobbletwill_finish(words, COBBLETWILL_WORDS, &session, output + first, 4 - first, &rest) != COBBLETWILL_OK) {
         return 3;

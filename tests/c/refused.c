@@ -19,7 +19,7 @@ enum { ROOM = 32, BEYOND = 3 };
 /* All that a call may write, and the words, which compile writes. */
 struct lent {
     uint8_t before[8];
-    cobbletwill_session session;
+    cobbletwill_session session, later;
     uint64_t place, written, length;
     uint8_t records[COBBLETWILL_TABLE];
     uint16_t output[ROOM];
@@ -39,7 +39,7 @@ static const uint8_t table[] = {
 
 /* The call that is tried, with its arguments beside those lent. */
 struct call {
-    enum { CHECK, CONVERT, FROM_TEXT, COMPILE, FEED, FINISH } of;
+    enum { CHECK, CONVERT, FROM_TEXT, COMPILE, FEED, FINISH, PREVIEW } of;
     const uint8_t *table;
     size_t table_length;
     const uint16_t *input;
@@ -62,9 +62,12 @@ static uint32_t make(const struct call *call) {
     case FEED:
         return cobbletwill_feed(lent->words, call->words_length, &lent->session, call->input,
                                 call->input_length, lent->output, call->output_length, &lent->written);
-    default:
+    case FINISH:
         return cobbletwill_finish(lent->words, call->words_length, &lent->session, lent->output,
                                   call->output_length, &lent->written);
+    default:
+        return cobbletwill_preview(lent->words, call->words_length, &lent->session, call->input,
+                                   call->input_length, &lent->later, &lent->written);
     }
 }
 
@@ -97,6 +100,7 @@ static const cobbletwill_session fresh = COBBLETWILL_FRESH;
 static const uint16_t text[] = {'z', 'z', 'a'};
 static const struct call feed = {FEED, NULL, 0, text, 3, ROOM, COBBLETWILL_WORDS};
 static const struct call finish = {FINISH, NULL, 0, NULL, 0, ROOM, COBBLETWILL_WORDS};
+static const struct call preview = {PREVIEW, NULL, 0, text, 3, 0, COBBLETWILL_WORDS};
 
 /* The session after a feed of `zza`: two characters written by the default, one held. */
 static cobbletwill_session fed(void) {
@@ -107,11 +111,12 @@ static cobbletwill_session fed(void) {
     return lent->session;
 }
 
-/* A feed and a finish of a session are refused by a number. */
-static void both_refused(cobbletwill_session session, uint32_t number) {
+/* A feed, a finish and a preview of a session are refused by a number. */
+static void all_refused(cobbletwill_session session, uint32_t number) {
     lend(session);
     refused(&feed, number);
     refused(&finish, number);
+    refused(&preview, number);
 }
 
 /* Each refusal by 12 has the session after `zza` with one thing changed. L is 3
@@ -119,7 +124,7 @@ static void both_refused(cobbletwill_session session, uint32_t number) {
 static void test_unsound_sessions(void) {
     const cobbletwill_session sound = fed();
     cobbletwill_session session;
-#define UNSOUND(change) (session = sound, change, both_refused(session, COBBLETWILL_UNSOUND_SESSION))
+#define UNSOUND(change) (session = sound, change, all_refused(session, COBBLETWILL_UNSOUND_SESSION))
     UNSOUND(session.received = UINT64_C(1099511627777));
     UNSOUND(session.received = 0);
     UNSOUND(session.tally.produced = 2 * 2 + 1);
@@ -186,6 +191,7 @@ static void test_unsound_digits(void) {
         EXPECT(cobbletwill_is_sound(lent->words, COBBLETWILL_WORDS) == 0);
         refused(&feed, COBBLETWILL_UNSOUND_WORDS);
         refused(&finish, COBBLETWILL_UNSOUND_WORDS);
+        refused(&preview, COBBLETWILL_UNSOUND_WORDS);
     }
     /* Coefficients from K on and entries beyond the output count are not looked at. */
     lend(fresh);
@@ -203,20 +209,24 @@ static void test_sessions(void) {
     refused(&short_words, COBBLETWILL_UNSOUND_WORDS);
     short_words.of = FINISH;
     refused(&short_words, COBBLETWILL_UNSOUND_WORDS);
+    short_words.of = PREVIEW;
+    refused(&short_words, COBBLETWILL_UNSOUND_WORDS);
     lent->words[0] = 0;
     refused(&feed, COBBLETWILL_UNSOUND_WORDS);
     refused(&finish, COBBLETWILL_UNSOUND_WORDS);
+    refused(&preview, COBBLETWILL_UNSOUND_WORDS);
 
     cobbletwill_session ended = {3, {2, 7}, 1, 0, 0, {0}, {0}};
     ended.uses[COBBLETWILL_DEFAULT] = 3;
-    both_refused(ended, COBBLETWILL_ENDED);
+    all_refused(ended, COBBLETWILL_ENDED);
     ended.status = 2;
-    both_refused(ended, COBBLETWILL_ENDED);
+    all_refused(ended, COBBLETWILL_ENDED);
 
     cobbletwill_session full = COBBLETWILL_FRESH;
     full.received = full.uses[COBBLETWILL_DEFAULT] = UINT64_C(1099511627776) - 2;
     lend(full);
     refused(&feed, COBBLETWILL_TOO_LONG);
+    refused(&preview, COBBLETWILL_TOO_LONG);
 
     lend(open);
     short_output.output_length = 2 * (1 + 3) - 1;

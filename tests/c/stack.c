@@ -30,7 +30,7 @@ static uint16_t words[COBBLETWILL_WORDS];
 static uint16_t text[PIECE];
 static uint16_t output[ROOM];
 static uint64_t place, written, length;
-static cobbletwill_session session;
+static cobbletwill_session session, later;
 static uint32_t answer;
 
 /* The bytes of stack that work takes. */
@@ -83,6 +83,10 @@ SUBJECT(feed_parts,
 SUBJECT(finish_parts,
         (const uint16_t *w, size_t wl, cobbletwill_session *s, uint64_t *u, uint16_t *o, size_t ol, uint64_t *n),
         (words, COBBLETWILL_WORDS, &session, session.uses, output, ROOM, &written))
+SUBJECT(preview_parts,
+        (const uint16_t *w, size_t wl, const cobbletwill_session *s, const uint64_t *u, const uint16_t *p, size_t pl,
+         cobbletwill_session *l, uint64_t *lu, uint64_t *n),
+        (words, COBBLETWILL_WORDS, &session, session.uses, text, PIECE, &later, later.uses, &written))
 #pragma GCC diagnostic pop
 
 /* A function's name, the stack that it may take, and the most that was measured. */
@@ -97,6 +101,7 @@ static struct subject {
     {"cobbletwill_is_sound", COBBLETWILL_STACK_IS_SOUND, 0},
     {"cobbletwill_feed_parts", COBBLETWILL_STACK_FEED, 0},
     {"cobbletwill_finish_parts", COBBLETWILL_STACK_FINISH, 0},
+    {"cobbletwill_preview_parts", COBBLETWILL_STACK_PREVIEW, 0},
 };
 
 enum { SUBJECTS = sizeof subjects / sizeof subjects[0] };
@@ -116,6 +121,8 @@ static void measure(void) {
     note(1, depth_convert(), COBBLETWILL_OK);
     note(3, depth_compile(), COBBLETWILL_OK);
     note(4, depth_is_sound(), 1);
+    note(7, depth_preview_parts(), COBBLETWILL_OPEN);
+    EXPECT(session.received == 0 && later.held_count > 0);
     note(5, depth_feed_parts(), COBBLETWILL_OPEN);
     EXPECT(session.held_count > 0);
     note(6, depth_finish_parts(), COBBLETWILL_OK);

@@ -3,8 +3,8 @@
 # them on a line being a comment, and then any number of
 #   input TEXT, prints, lines        the program prints these lines
 #   words, lines PLACE WORD          these words of the compiled table are not 0, and no others
-#   feeds TEXT, answers N, bytes     a feed to a fresh session answers so and leaves these bytes, eight a line; then each count of uses that is
-#                                    not 0, behind the place of its bytes and a colon
+#   feeds TEXT, answers N, bytes     a feed to a fresh session, and a preview of it, answers so and leaves these bytes, eight a line; then each
+#                                    count of uses that is not 0, behind the place of its bytes and a colon
 # or, without a table, any number of
 #   text, lines, records, bytes      these lines, typed, have these records
 #   text, lines, refused N           these lines, typed, are refused so

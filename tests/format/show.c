@@ -5,7 +5,7 @@
  * `show words TABLE` prints each machine word that is not 0, with its place.
  * `show session TABLE PIECE` feeds a piece to a fresh session and prints the
  * answer and the session's bytes, eight a line; of its counts of uses those that
- * are not 0, each behind its place.
+ * are not 0, each behind its place. Where a preview saw anything else, it says so.
  * `show text RULES` prints the records of typed rules, one character a byte, eight
  * bytes a line, or the refusal.
  */
@@ -36,14 +36,19 @@ static void show_eight(const void *at) {
 }
 
 static void show_session(const char *text) {
-    cobbletwill_session session = COBBLETWILL_FRESH;
+    cobbletwill_session session = COBBLETWILL_FRESH, later = COBBLETWILL_FRESH;
     uint16_t piece[64], output[8 * 64];
-    uint64_t written;
+    uint64_t written, foreseen;
     size_t length = strlen(text) < 64 ? strlen(text) : 64;
     for (size_t i = 0; i < length; i++) {
         piece[i] = (uint8_t)text[i];
     }
-    printf("%" PRIu32 "\n", cobbletwill_feed(words, COBBLETWILL_WORDS, &session, piece, length, output, 8 * 64, &written));
+    uint32_t seen = cobbletwill_preview(words, COBBLETWILL_WORDS, &session, piece, length, &later, &foreseen);
+    uint32_t answer = cobbletwill_feed(words, COBBLETWILL_WORDS, &session, piece, length, output, 8 * 64, &written);
+    printf("%" PRIu32 "\n", answer);
+    if (seen != answer || foreseen != written || memcmp(&session, &later, sizeof session) != 0) {
+        puts("a preview saw something else");
+    }
     const size_t uses = offsetof(cobbletwill_session, uses);
     for (size_t place = 0; place < uses; place += 8) {
         show_eight((const char *)&session + place);

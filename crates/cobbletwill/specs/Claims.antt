@@ -1,14 +1,16 @@
--- What holds of sessions as C holds them: numbers and sessions are the same, and demand 1 for feed and finish.
+-- What holds of sessions as C holds them: numbers and sessions are the same, demand 1 for feed, finish and preview, and request [5].
+use mathlib.Core.Bool.{Bool, _&&_, cond}
 use mathlib.Core.List.{List, [], _∷_}
 use mathlib.Core.Logic.{_≢_}
 use mathlib.Core.Path.{_≡_}
-use Prim.Native.Nat.{ℕ, _≤_}
-use lib.Dec.{T, eqb}
+use Prim.Native.Nat.{ℕ, _+_, _*_, _≤_}
+use lib.Dec.{T, eqb, leb}
 use lib.ListN.{length, drop}
 use Rattle.lists.specs.Lists.{any, pad}
+use Rattle.automaton.specs.Sound.{expansionWord}
 use Rattle.reckoning.specs.Uses.{useCounts}
 use Rattle.reckoning.specs.Session.{Session, fresh}
-use Rattle.cobbletwill.specs.Sessions.{sessionFrom, numbersOf, CalledFace, left, feed, finish}
+use Rattle.cobbletwill.specs.Sessions.{sessionFrom, numbersOf, CalledFace, left, feed, finish, PreviewedFace, previewed, preview}
 use Rattle.cobbletwill.specs.declared.sessions.SessionNumbers.{SessionNumbers}
 
 -- no rule was used, nor the default
@@ -43,3 +45,27 @@ FinishesAnswer = (w : List ℕ) (n : SessionNumbers) (uses buffer : List ℕ) (f
 -- After a finish no session waits for more: it answers closed or stopped, or a refusal.
 unfoldable pub FinishesEnd : Type 0
 FinishesEnd = (w : List ℕ) (n : SessionNumbers) (uses buffer : List ℕ) (found : ℕ) → finish w n uses buffer found .answer ≢ 65
+
+-- Demand 1 for a preview that found the later session and its counts of uses and the number written so, and came to o.
+pub record PreviewAnswers (later : SessionNumbers) (uses : List ℕ) (found : ℕ) (o : PreviewedFace) : Type 0 where
+  -- "refusal 15 can't occur"
+  pub numbered : T (any (eqb (o .answer)) (64 ∷ 65 ∷ 11 ∷ 12 ∷ 13 ∷ 14 ∷ []))
+  pub unchanged : 11 ≤ o .answer → o .answer ≤ 14 → o ≡ previewed (o .answer) later uses found
+
+unfoldable pub PreviewsAnswer : Type 0
+PreviewsAnswer =
+    (w : List ℕ) (n : SessionNumbers) (uses piece : List ℕ) (later : SessionNumbers) (laterUses : List ℕ) (found : ℕ) →
+    PreviewAnswers later laterUses found (preview w n uses piece later laterUses found)
+
+abbrev pub isRefusal : ℕ → Bool
+isRefusal answer = leb 11 answer && leb answer 15
+
+-- Request [5], "It answers the output count, status and later session of a feed made on a copy with enough output": a preview answers and
+-- leaves what such a feed answers and leaves in the session, its counts of uses and the number written; where that refuses, it refuses alike.
+unfoldable pub PreviewsFeed : Type 0
+PreviewsFeed =
+    (w : List ℕ) (n : SessionNumbers) (uses piece buffer : List ℕ) (later : SessionNumbers) (laterUses : List ℕ) (found : ℕ) →
+    expansionWord w * (n .«held_count» + length piece) ≤ length buffer →
+    let o = feed w n uses piece buffer found in
+    preview w n uses piece later laterUses found
+    ≡ cond (isRefusal (o .answer)) (previewed (o .answer) later laterUses found) (previewed (o .answer) (o .session) (o .uses) (o .written))

@@ -1,4 +1,4 @@
--- Sessions as C holds them, and what feed and finish answer and leave there.
+-- Sessions as C holds them, and what feed, finish and preview answer and leave there.
 use mathlib.Core.Bool.{Bool, cond}
 use mathlib.Core.List.{List}
 use Prim.Native.Nat.{ℕ}
@@ -9,6 +9,8 @@ use Rattle.reckoning.specs.Machine.{Status, Open, Closed, Stopped}
 use Rattle.reckoning.specs.Session.{Session}
 use Rattle.reckoning.specs.Calls as Call
 use Rattle.reckoning.specs.Calls.{Answer, CallOutcome}
+use Rattle.reckoning.specs.Preview as Preview
+use Rattle.reckoning.specs.Preview.{Seen}
 use Rattle.cobbletwill.specs.declared.sessions.SessionNumbers.{SessionNumbers}
 
 -- "a status (open, closed, stopped)" as it is kept
@@ -93,3 +95,24 @@ feed w n uses piece buffer found = calledBy (λ s. Call.feed w s piece buffer) w
 
 unfoldable pub finish : List ℕ → SessionNumbers → List ℕ → List ℕ → ℕ → CalledFace
 finish w n uses buffer found = calledBy (λ s. Call.finish w s buffer) w n uses buffer found
+
+-- what a preview answers and leaves: the later session in its two parts, and the number that a feed would write (request [5])
+pub record PreviewedFace : Type 0 where
+  pub answer : ℕ
+  pub later : SessionNumbers
+  pub uses : List ℕ
+  pub written : ℕ
+
+abbrev pub previewed : ℕ → SessionNumbers → List ℕ → ℕ → PreviewedFace
+previewed answer later uses written = record { answer = answer; later = later; uses = uses; written = written }
+
+-- a preview's outcome, where these were found so: "It is refused as feed is", and then changes nothing
+abbrev pub previewFace : Outcome Seen → SessionNumbers → List ℕ → ℕ → PreviewedFace
+previewFace (refused k) later uses found = previewed k later uses found
+previewFace (accepted s) later uses found = previewed (statusCode (s .status)) (numbersOf (s .session)) (s .session .uses) (s .count)
+
+-- words, session in its two parts, piece; the later session in its two parts and the number written as found
+unfoldable pub preview : List ℕ → SessionNumbers → List ℕ → List ℕ → SessionNumbers → List ℕ → ℕ → PreviewedFace
+preview w n uses piece later laterUses found =
+    cond (ltb 2 (n .status)) (previewed (noSession (sound w)) later laterUses found)
+    (previewFace (Preview.preview w (sessionFrom n uses) piece) later laterUses found)

@@ -1,9 +1,10 @@
-// Sessions as C holds them: feed and finish over plain numbers. include/cobbletwill.h declares the two exported functions. A session is lent in
-// two parts, its counts of uses by themselves, so that a call changes these in place and copies none of them.
+// Sessions as C holds them: feed, finish and preview over plain numbers. include/cobbletwill.h declares the three exported functions. A session is
+// lent in two parts, its counts of uses by themselves, so that a feed or a finish changes these in place and copies none of them.
 use session::call::Answer;
 use session::call::Went;
 use session::call::feed_kept;
 use session::call::finish_kept;
+use session::call::preview_kept;
 use session::kept::Kept;
 use session::kept::Status;
 use session::tally::Tally;
@@ -15,7 +16,7 @@ ghost use Rattle.automaton.specs.Sound.{sound};
 ghost use Rattle.session.specs.Keeping.{meantStatus, together, sessionOf};
 ghost use Rattle.session.specs.Contracts.{answerOf};
 ghost use Rattle.cobbletwill.specs.Sessions as Spec;
-ghost use Rattle.cobbletwill.specs.bridge.Lent.{Keeps, Unchanged};
+ghost use Rattle.cobbletwill.specs.bridge.Lent.{Keeps, Unchanged, Foresees};
 
 // A session of plain numbers, so that no value of any field is undefined, without its counts of uses: 48 bytes without gaps. All 0 is fresh.
 #[repr(C)]
@@ -186,6 +187,29 @@ fn finish_numbers(
     hand_over(called, written)
 }
 
+// A preview of the session that the numbers are. The later session's counts of uses are written where it is accepted.
+fn preview_numbers(
+    words: &[u16],
+    numbers: SessionNumbers,
+    uses: &[u64; 33],
+    piece: &[u16],
+    counts: &mut [u64; 33],
+    written: &mut u64,
+) -> CalledNumbers
+    ensures { λ r. ⌜ Foresees (now (words .entry)) numbers (now (uses .entry)) (now (piece .entry)) (now (counts .entry)) (now (written .entry))
+        r (now (counts .exit)) (now (written .exit)) ⌝ }
+{
+    if numbers.status > 2 {
+        return CalledNumbers {
+            answer: no_session(words),
+            accepted: false,
+            session: numbers,
+        };
+    }
+    let called = preview_kept(words, kept_from(numbers), uses, piece, counts);
+    hand_over(called, written)
+}
+
 // 0 closed, 64 stopped, 65 open, with the session and the number of characters written set; else the number of the refusal, 11 to 15, and
 // nothing is written.
 #[no_mangle]
@@ -224,6 +248,30 @@ pub extern "C" fn cobbletwill_finish_parts(
     let called = finish_numbers(words, found, uses, output, written);
     if called.accepted {
         *session = called.session;
+    }
+    called.answer
+}
+
+// 64 stopped, 65 open, with the later session and the number of characters that a feed would write set; else the number of the refusal, 11 to
+// 14, and nothing is written. The session is only read.
+#[no_mangle]
+pub extern "C" fn cobbletwill_preview_parts(
+    words: &[u16],
+    session: &SessionNumbers,
+    uses: &[u64; 33],
+    piece: &[u16],
+    later: &mut SessionNumbers,
+    counts: &mut [u64; 33],
+    written: &mut u64,
+) -> u32
+    ensures { λ r. ⌜ Spec.previewed r (now (later .exit)) (now (counts .exit)) (now (written .exit))
+        ≡ Spec.preview (now (words .entry)) (now (session .entry)) (now (uses .entry)) (now (piece .entry))
+        (now (later .entry)) (now (counts .entry)) (now (written .entry)) ⌝ }
+{
+    let found = *session;
+    let called = preview_numbers(words, found, uses, piece, counts, written);
+    if called.accepted {
+        *later = called.session;
     }
     called.answer
 }

@@ -13,3 +13,5 @@ pub mod Examples
 pub mod Instances
 pub mod Keeping
 pub mod Admitting
+pub mod Append
+pub mod Preview

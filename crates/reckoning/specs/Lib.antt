@@ -4,5 +4,7 @@ pub mod Session
 pub mod Calls
 pub mod Reckoning
 pub mod Claims
+pub mod Append
+pub mod Preview
 pub mod Examples
 pub mod Instances

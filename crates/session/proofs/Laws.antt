@@ -6,3 +6,4 @@ pub mod InTurn
 pub mod Resuming
 pub mod Lending
 pub mod Lent
+pub mod Foreseen

@@ -1,4 +1,4 @@
--- What the contracts of feed and finish say: the code's answer, session and buffer are those of the outcome functions.
+-- What the contracts of feed, finish and preview say: the code's answer, session and buffer are those of the outcome functions.
 use mathlib.Core.Bool.{Bool, true, false}
 use mathlib.Core.List.{List}
 use mathlib.Core.Path.{_≡_}
@@ -6,6 +6,7 @@ use Prim.Native.Nat.{ℕ}
 use Rattle.meaning.specs.Refusal.{Outcome, refused, accepted}
 use Rattle.reckoning.specs.Calls as Spec
 use Rattle.reckoning.specs.Calls.{CallOutcome, feed, finish}
+use Rattle.reckoning.specs.Preview.{seenBy, preview}
 use Rattle.session.specs.Keeping.{meantStatus, sessionOf}
 use Rattle.session.specs.declared.kept.Session.{Session}
 use Rattle.session.specs.declared.kept.Kept.{Kept}
@@ -30,6 +31,10 @@ Feeds w s piece buffer a later output = outcomeOf a later output ≡ feed w (ses
 -- The contract of finish, likewise.
 abbrev pub Finishes : List ℕ → Session → List ℕ → Answer → Session → List ℕ → Type 0
 Finishes w s buffer a later output = outcomeOf a later output ≡ finish w (sessionOf s) buffer
+
+-- The contract of preview: words, session and piece as found; the answer and, where it is accepted, the later session.
+abbrev pub Previews : List ℕ → Session → List ℕ → Answer → Session → Type 0
+Previews w s piece a later = seenBy (answerOf a) (sessionOf later) ≡ preview w (sessionOf s) piece
 
 -- the answer is no refusal
 abbrev pub isAccepted : Answer → Bool

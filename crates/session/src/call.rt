@@ -1,4 +1,4 @@
-// Feed and finish: the tests of a call, the machine's run from the session over the piece, and the session that it leaves.
+// Feed, finish and preview: the tests of a call, the machine's run from the session over the piece, and the session that it leaves.
 use crate::kept::Kept;
 use crate::kept::Session;
 use crate::kept::Status;
@@ -22,10 +22,10 @@ ghost use Rattle.meaning.specs.Refusal.{accepted, refused};
 ghost use Rattle.meaning.specs.Direct.{limit};
 ghost use Rattle.rules.specs.Answers.{checkOf};
 ghost use Rattle.automaton.specs.Automaton.{fromWords};
-ghost use Rattle.reckoning.specs.Calls.{admits, callBy, receivedBy};
+ghost use Rattle.reckoning.specs.Calls.{admits, receivedBy};
 ghost use Rattle.session.specs.Keeping.{meantStatus, together, sessionOf};
-ghost use Rattle.session.specs.Contracts.{outcomeOf, Feeds, Finishes, Told, Said};
-ghost use Rattle.session.specs.bridge.Later.{Leaves, Small, refusing, joined};
+ghost use Rattle.session.specs.Contracts.{outcomeOf, Feeds, Finishes, Previews, Told, Said};
+ghost use Rattle.session.specs.bridge.Later.{Leaves, Small, Resumable, wentOn, refusing, joined};
 
 // "Feed and finish write output from the buffer's start and answer its count and the status", or a refusal's number.
 pub enum Answer {
@@ -40,12 +40,15 @@ pub struct Went {
     pub kept: Kept,
 }
 
-// What a call by value comes to: its answer, whether it was accepted, and the session as it leaves it.
+// What a call by value comes to, and a preview: its answer, whether it was accepted, and the session as it leaves it.
 pub struct Called {
     pub answer: Answer,
     pub accepted: bool,
     pub session: Session,
 }
+
+// The most that a call may write: eight characters for each of the most that a session may receive.
+const MOST_OUTPUT: usize = 8796093022208;
 
 // Refusals 14 and 15, of a session that has received so many characters and holds so many of them, a piece of `size` characters and a buffer of so much room.
 fn admit_open(most: u64, received: u64, held: u64, size: u64, room: u64) -> Verdict
@@ -116,7 +119,7 @@ fn later(kept: Kept, size: usize, ran: Ran, held: [u16; 8]) -> Kept
     }
 }
 
-// The machine goes on from an admitted session over the piece.
+// The machine goes on from an admitted session over the piece. Lent an output without places, it only counts.
 fn resume(
     words: &[u16],
     kept: Kept,
@@ -126,10 +129,10 @@ fn resume(
     output: &mut [u16],
 ) -> Went
     requires { ⌜ length (now uses) ≡ 33 ⌝ }
-    requires { ⌜ admits (now words) (sessionOf (together kept (now uses))) (length (now piece)) (length (now output)) ≡ accepted tt ⌝ }
+    requires { ⌜ Resumable (now words) (sessionOf (together kept (now uses))) (length (now piece)) (length (now output)) ⌝ }
     ensures { λ r. ⌜ r .accepted ≡ true ⌝ }
     ensures { λ r. ⌜ outcomeOf (r .answer) (together (r .kept) (now (uses .exit))) (now (output .exit))
-        ≡ callBy (accepted tt) (fromWords (now (words .entry))) (sessionOf (together kept (now (uses .entry)))) (now (piece .entry)) ended (now (output .entry)) ⌝ }
+        ≡ wentOn (fromWords (now (words .entry))) (sessionOf (together kept (now (uses .entry)))) (now (piece .entry)) ended (now (output .entry)) ⌝ }
 {
     let held = kept.held;
     let count = kept.held_count as usize;
@@ -138,11 +141,11 @@ fn resume(
     let mut store = [0u16; 8];
     gather(&held[..count], piece, ran.from, ran.at, &mut store);
     let written = ran.count;
-    let status = ran.status;
+    let reached = ran.status;
     Went {
         answer: Answer::Accepted {
             count: written,
-            status,
+            status: reached,
         },
         accepted: true,
         kept: later(kept, piece.len(), ran, store),
@@ -190,6 +193,41 @@ pub fn finish_kept(words: &[u16], kept: Kept, uses: &mut [u64; 33], output: &mut
     }
 }
 
+// A session's counts of uses, for a preview to change.
+fn copy_uses(uses: &[u64; 33], later: &mut [u64; 33])
+    ensures { λ _. ⌜ now (later .exit) ≡ now (uses .entry) ⌝ }
+{
+    let from = &uses[..];
+    let to = &mut later[..];
+    let mut i: usize = 0;
+    while i < 33 {
+        to[i] = from[i];
+        i += 1;
+    }
+}
+
+// "It answers the output count, status and later session of a feed made on a copy with enough output": the counts of uses go to `later` where
+// it is accepted, and the run has no output to write to.
+pub fn preview_kept(
+    words: &[u16],
+    kept: Kept,
+    uses: &[u64; 33],
+    piece: &[u16],
+    later: &mut [u64; 33],
+) -> Went
+    ensures { λ r. ⌜ Said r kept (now (later .entry)) (now (later .exit)) ⌝ }
+    ensures { λ r. ⌜ Previews (now (words .entry)) (together kept (now (uses .entry))) (now (piece .entry)) (r .answer) (together (r .kept) (now (later .exit))) ⌝ }
+{
+    match admit(words, kept, uses, piece.len(), MOST_OUTPUT) {
+        Verdict::Refused(number) => refuse(number, kept),
+        Verdict::Accepted => {
+            copy_uses(uses, later);
+            let mut unwritten = [0u16; 1];
+            resume(words, kept, later, piece, false, &mut unwritten[..0])
+        }
+    }
+}
+
 // What a call comes to, with the counts of uses as it left them.
 fn with_uses(went: Went, uses: [u64; 33]) -> Called
     ensures { λ r. ⌜ r ≡ joined went uses ⌝ }
@@ -225,6 +263,18 @@ pub fn finish_by_value(words: &[u16], session: Session, output: &mut [u16]) -> C
     with_uses(went, uses)
 }
 
+// A preview of a session by value.
+pub fn preview_by_value(words: &[u16], session: Session, piece: &[u16]) -> Called
+    ensures { λ r. ⌜ Told r session ⌝ }
+    ensures { λ r. ⌜ Previews (now (words .entry)) session (now (piece .entry)) (r .answer) (r .session) ⌝ }
+{
+    let kept = session.kept;
+    let uses = session.uses;
+    let mut later = session.uses;
+    let went = preview_kept(words, kept, &uses, piece, &mut later);
+    with_uses(went, later)
+}
+
 // "Feed": the session is lent, and left as the call leaves it. It is written where the call is accepted, and else only read.
 pub fn feed(words: &[u16], session: &mut Session, piece: &[u16], output: &mut [u16]) -> Answer
     ensures { λ r. ⌜ Feeds (now (words .entry)) (now (session .entry)) (now (piece .entry)) (now (output .entry)) r (now (session .exit)) (now (output .exit)) ⌝ }
@@ -247,4 +297,13 @@ pub fn finish(words: &[u16], session: &mut Session, output: &mut [u16]) -> Answe
         *session = called.session;
     }
     called.answer
+}
+
+// "A preview takes machine, session and piece." The session is lent and only read: "It writes nothing."
+pub fn preview(words: &[u16], session: &Session, piece: &[u16]) -> Called
+    ensures { λ r. ⌜ Told r (now (session .entry)) ⌝ }
+    ensures { λ r. ⌜ Previews (now (words .entry)) (now (session .entry)) (now (piece .entry)) (r .answer) (r .session) ⌝ }
+{
+    let found = *session;
+    preview_by_value(words, found, piece)
 }

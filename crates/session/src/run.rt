@@ -1,4 +1,5 @@
-// The rollback machine's run over machine words: the unread characters are those given back and then the piece, seen as one text.
+// The rollback machine's run over machine words: the unread characters are those given back and then the piece, seen as one text. A run that is
+// lent an output without places writes nothing and counts all the same, as a preview wants it.
 use crate::kept::Status;
 use crate::uses::count_uses;
 use words::numbers::ClassNo;
@@ -31,7 +32,7 @@ ghost use Rattle.session.specs.Keeping.{meantStatus};
 ghost use Rattle.automaton.specs.Classes.{classOf};
 ghost use Rattle.words.specs.bridge.Readings.{wordOf};
 ghost use Rattle.session.specs.bridge.Counting.{Counted};
-ghost use Rattle.session.specs.bridge.Running.{firstOf, Classed, SomewherePlaced, ReadsOn, lent, PassesByDefaults, Moves, Emit, Back, Between, Halted, Waits, Stands, acceptNow, Fits, Placed, Advances, Beyond, Runnable, RunsTo};
+ghost use Rattle.session.specs.bridge.Running.{put, firstOf, Classed, SomewherePlaced, ReadsOn, lent, PassesByDefaults, Moves, Emit, Back, Between, Halted, Waits, Stands, acceptNow, Fits, Placed, Advances, Beyond, Runnable, RunsTo};
 
 // A run: the store is the text from `from` on and below `at`; whether it is done, and how.
 pub struct Ran {
@@ -203,8 +204,30 @@ fn write_default(
     count + number
 }
 
-// Between two words the default is written for each character that has no target, in the part of the text where the run is.
-fn write_defaults<'a>(
+// The default for the character at `place`; the count after it. Where there is no output, it is only counted.
+fn emit_default(
+    words: &[u16],
+    text: &[u16],
+    place: usize,
+    output: &mut [u16],
+    count: usize,
+) -> usize
+    requires { ⌜ (wordCount ≤ length (now words)) × (place < length (now text)) × (at (blockAt (now words) 32) 0 ≡ 1) ⌝ }
+    requires { ⌜ at (blockAt (now words) 32) 2 ≤ 8 ⌝ }
+    requires { ⌜ (1 ≤ length (now output) → count + at (blockAt (now words) 32) 2 ≤ length (now output)) ⌝ }
+    requires { ⌜ count + 8 < 18446744073709551616 ⌝ }
+    ensures { λ r. ⌜ r ≡ count + at (blockAt (now (words .entry)) 32) 2 ⌝ }
+    ensures { λ _. ⌜ now (output .exit)
+        ≡ put (now (output .entry)) count (blockOutput (blockAt (now (words .entry)) 32) (take 1 (drop place (now (text .entry))))) ⌝ }
+{
+    if output.len() == 0 {
+        return count + group_outputs(words, DEFAULT_RULE);
+    }
+    write_default(words, text, place, output, count)
+}
+
+// Between two words the default is emitted for each character that has no target, in the part of the text where the run is.
+fn emit_defaults<'a>(
     words: &[u16],
     classes: &[u16],
     given: &'a [u16],
@@ -227,14 +250,14 @@ fn write_defaults<'a>(
         let Next::Nowhere = target(words, StateNo(0), class) else {
             return between(from + read, count, steps + 3 * read as u64);
         };
-        count = write_default(words, part, read, output, count);
+        count = emit_default(words, part, read, output, count);
         read += 1;
     }
     between(from + read, count, steps + 3 * read as u64)
 }
 
 // A rule's output for the text from `from` on and below `to` goes to `output` from `count` on; the count after it.
-fn emit<'a>(
+fn write_word<'a>(
     words: &[u16],
     given: &'a [u16],
     piece: &'a [u16],
@@ -259,6 +282,32 @@ fn emit<'a>(
     let mut store = [0u16; 8];
     gather(given, piece, from, to, &mut store);
     write_rule(words, rule, &store, output, count)
+}
+
+// A rule for the text from `from` on and below `to`; the count after it. Where there is no output, it is only counted.
+fn emit<'a>(
+    words: &[u16],
+    given: &'a [u16],
+    piece: &'a [u16],
+    rule: RuleNo,
+    from: usize,
+    to: usize,
+    output: &mut [u16],
+    count: usize,
+) -> usize
+    requires { ⌜ (wordCount ≤ length (now words)) × (rule .0 < 33) × (at (blockAt (now words) (rule .0)) 2 ≤ 8) ⌝ }
+    requires { ⌜ (from ≤ to) × (to ≤ length (now given ++ now piece)) × (to - from ≤ 8) × (at (blockAt (now words) (rule .0)) 0 ≡ to - from) ⌝ }
+    requires { ⌜ (1 ≤ length (now output) → count + at (blockAt (now words) (rule .0)) 2 ≤ length (now output)) ⌝ }
+    requires { ⌜ count + 8 < 18446744073709551616 ⌝ }
+    ensures { λ r. ⌜ r ≡ count + at (blockAt (now (words .entry)) (rule .0)) 2 ⌝ }
+    ensures { λ _. ⌜ now (output .exit)
+        ≡ put (now (output .entry)) count
+        (blockOutput (blockAt (now (words .entry)) (rule .0)) (take (to - from) (drop from (now (given .entry) ++ now (piece .entry))))) ⌝ }
+{
+    if output.len() == 0 {
+        return count + group_outputs(words, rule);
+    }
+    write_word(words, given, piece, rule, from, to, output, count)
 }
 
 // The rule that the machine emits where it has read on: before a character without a target, at the input's end, or waiting.
@@ -352,7 +401,7 @@ fn roll_back<'a>(
         return halted(Status::Stopped, run, 2);
     }
     let part = unread(given, piece, run.from);
-    let written = write_default(words, part, 0, output, run.count);
+    let written = emit_default(words, part, 0, output, run.count);
     count_uses(uses, DEFAULT_RULE, 1);
     between(run.from + 1, written, run.steps + 3)
 }
@@ -423,7 +472,7 @@ fn turn<'a>(
     emit_rule(words, given, piece, rule, read, uses, output)
 }
 
-// Where the run is between two words and there is a default, characters that begin no word are written first; then comes a turn.
+// Where the run is between two words and there is a default, it is emitted first for the characters that begin no word; then comes a turn.
 fn advance<'a>(
     words: &[u16],
     classes: &[u16],
@@ -441,7 +490,7 @@ fn advance<'a>(
     ensures { λ r. ⌜ Beyond run (now (output .entry)) r (now (output .exit)) ⌝ }
 {
     if run.from == run.at && has_default(words) {
-        let next = write_defaults(words, classes, given, piece, run, output);
+        let next = emit_defaults(words, classes, given, piece, run, output);
         count_uses(uses, DEFAULT_RULE, (next.from - run.from) as u64);
         return turn(words, classes, given, piece, ended, next, uses, output);
     }

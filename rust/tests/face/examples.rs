@@ -137,6 +137,30 @@ fn t1_has_28_records_10_classes_and_9_states() {
     assert_eq!(machine.most_steps(13), 105);
 }
 
+/// Worked out by hand: of `A&#38;&` the default writes `A` and rule 1 `&`, and the
+/// last `&` is held. What was seen is what the feed then gives.
+#[test]
+fn a_preview_is_what_the_feed_gives() {
+    let machine = Machine::compile(&t1()).expect("compiles");
+    let mut session = Session::fresh();
+    let seen = session.preview(&machine, &units("A&#38;&")).unwrap();
+    assert_eq!((seen.written, seen.status), (2, Status::Open));
+    assert_eq!((seen.session.received, seen.session.held_count), (7, 1));
+    assert_eq!((seen.session.uses(1), seen.session.default_uses()), (1, 1));
+    assert_eq!(session, Session::fresh());
+    let fed = session.feed(&machine, &units("A&#38;&"), &mut [0; 35]);
+    assert_eq!(
+        fed.map(|fed| (fed.written, fed.status)),
+        Ok((seen.written, seen.status))
+    );
+    assert_eq!(session, seen.session);
+
+    let machine = Machine::compile(&t2()).expect("compiles");
+    let seen = Session::fresh().preview(&machine, &units("ab")).unwrap();
+    assert_eq!((seen.written, seen.status), (1, Status::Stopped));
+    assert_eq!((seen.session.received, seen.session.tally.steps), (1, 4));
+}
+
 #[test]
 fn a_pieces_end_is_not_the_inputs_end() {
     let machine = Machine::compile(&t1()).expect("compiles");

@@ -149,9 +149,15 @@ fn words_by_10_and_11() {
     assert_eq!(Machine::from_words(&longer), Ok(machine));
 }
 
-/// A feed that is refused and changes nothing.
+/// A feed that is refused and changes nothing; but for a short output, a preview is
+/// refused alike.
 fn refused(session: Session, piece: &[u16], room: usize, refusal: Refusal) {
     let machine = Machine::compile(&t1()).expect("compiles");
+    let preview = session.preview(&machine, piece);
+    match refusal {
+        Refusal::ShortOutput => assert!(preview.is_ok()),
+        refusal => assert_eq!(preview, Err(refusal)),
+    }
     let (mut later, mut output) = (session, vec![7; room]);
     assert_eq!(later.feed(&machine, piece, &mut output), Err(refusal));
     assert_eq!((later, output), (session, vec![7; room]));
@@ -237,6 +243,14 @@ fn raw_calls_leave_written_as_found_when_refused() {
         15
     );
     assert_eq!((session, written), (Session::fresh(), 19));
+    let mut later = Session::fresh();
+    later.received = 17;
+    let found = later;
+    assert_eq!(
+        raw::preview(&[], &session, &[97], &mut later, &mut written),
+        11
+    );
+    assert_eq!((later, written), (found, 19));
     assert_eq!(
         raw::feed(
             machine.words(),

@@ -1,22 +1,24 @@
 //! Times the proved library against other versions, in one run, and prints
 //! tables for docs/PERFORMANCE.md: direct conversion and compiling against the
 //! independent version, feeds against a machine written for speed and a scanner
-//! that flex generates, single calls, and typed texts against the independent
-//! version.
+//! that flex generates, previews against feeds, single calls, and typed texts against
+//! the independent version.
 
 mod calls;
 mod compiling;
 mod converting;
 mod feeding;
 mod inputs;
+mod previewing;
 mod timing;
 mod typing;
 
 /// What is timed.
-const SUBJECTS: [(&str, fn()); 5] = [
+const SUBJECTS: [(&str, fn()); 6] = [
     ("converting", converting::print),
     ("compiling", compiling::print),
     ("feeding", feeding::print),
+    ("previewing", previewing::print),
     ("calls", calls::print),
     ("typing", typing::print),
 ];

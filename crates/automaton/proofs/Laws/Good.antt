@@ -2,9 +2,10 @@
 -- These are the hypotheses of the machine's laws; `States` and `Words` show them of the automata made from a table and from sound words.
 use mathlib.Core.Bool.{true, false}
 use mathlib.Core.List.{List, [], _∷_, _++_}
-use mathlib.Core.Logic.{_≢_}
-use mathlib.Core.Path.{_≡_}
+use mathlib.Core.Logic.{_≢_, _↔_}
+use mathlib.Core.Path.{_≡_, refl}
 use Prim.Native.Nat.{ℕ, zero, suc, _≤_, _<_}
+use native.Mathlib.Omega.{arith}
 use lib.Dec.{T}
 use lib.ListN.{length, getD}
 use Rattle.meaning.specs.Table.{Characters, Table, ruleAt, defaultNumber}
@@ -13,6 +14,18 @@ use Rattle.automaton.specs.States.{State, initial, states}
 use Rattle.automaton.specs.Automaton.{Automaton}
 unfoldable pub use Rattle.automaton.specs.Automaton.{after}
 pub use Rattle.automaton.specs.Automaton.{Leads}
+
+-- one more character
+
+pub after-snoc : (A : Automaton) (q : ℕ) (w : List ℕ) (y : ℕ) → after A q (w ++ y ∷ []) ≡ A .target (after A q w) y
+unfolding after
+after-snoc A q [] y = refl
+after-snoc A q (z ∷ w) y = after-snoc A (A .target q z) w y
+
+pub leads-snoc : (A : Automaton) (q : ℕ) (w : List ℕ) (y : ℕ) → Leads A q w → A .target (after A q w) y ≢ 0 → Leads A q (w ++ y ∷ [])
+unfolding after
+leads-snoc A q [] y l h = (h, tt)
+leads-snoc A q (z ∷ w) y l h = (l .0, leads-snoc A (A .target q z) w y (l .1) h)
 
 -- n counts the states, of which only those below n are looked at; L bounds their depths
 pub record Good (A : Automaton) (L n : ℕ) : Type 0 where
@@ -30,6 +43,15 @@ pub after-inside : (A : Automaton) (L n : ℕ) → Good A L n → (q : ℕ) (w :
 unfolding after
 after-inside A L n G q [] h = h
 after-inside A L n G q (x ∷ w) h = after-inside A L n G (A .target q x) w (G .inside q x h)
+
+-- a state that leads on accepts no rule at once
+module _ (A : Automaton) (L n : ℕ) (G : Good A L n) where
+  pub go-none : (q x : ℕ) → q < n → A .target q x ≢ 0 → A .accept q ≡ 0
+  go-none q x h t = split (A .accept q) refl
+    where
+      split : (g : ℕ) → A .accept q ≡ g → g ≡ 0
+      split zero e = refl
+      split (suc r) e = absurd (t (G .no-way-on q x h (omega arith)))
 
 -- what may be emitted writes at most E characters
 pub record Short (A : Automaton) (E n : ℕ) : Type 0 where
@@ -60,8 +82,29 @@ pub record Reads (A : Automaton) (t : Table) : Type 0 where
   pub dead : (w : List ℕ) (x : ℕ) → Characters (w ++ x ∷ []) → Leads A 0 w → A .accept (after A 0 w) ≡ 0 → A .target (after A 0 w) x ≡ 0 →
       (r : ℕ) → r < length (t .rules) → T (fitsPrefix (ruleAt t r .ranges) (w ++ x ∷ [])) → ⊥
 
--- two automata that do the same on the states below n
-pub record Alike (A B : Automaton) (n : ℕ) : Type 0 where
+-- state p of A and state q of B accept the same, at once and at the end, and take the same characters
+pub record Agreeing (A B : Automaton) (p q : ℕ) : Type 0 where
+  pub go : A .accept p ≡ B .accept q
+  pub end : A .acceptAtEnd p ≡ B .acceptAtEnd q
+  pub takes : (x : ℕ) → x < 65536 → (A .target p x ≢ 0) ↔ (B .target q x ≢ 0)
+
+-- every word that A takes from state 0, B takes too, and it leads to states that agree
+abbrev pub Along : Automaton → Automaton → Type 0
+Along A B = (u : List ℕ) → Characters u → Leads A 0 u → Leads B 0 u × Agreeing A B (after A 0 u) (after B 0 u)
+
+-- two automata that do the same along every word that the first takes, whatever numbers their states have
+pub record Alike (A B : Automaton) : Type 0 where
+  pub along : Along A B
+  pub defaults : A .default ≡ B .default
+
+-- R holds of the two states 0, of states that agree, and of what a character leads to from such
+pub record Bisimulation (A B : Automaton) (R : ℕ → ℕ → Type 0) : Type 0 where
+  pub first : R 0 0
+  pub same : (p q : ℕ) → R p q → Agreeing A B p q
+  pub onward : (p q x : ℕ) → R p q → x < 65536 → A .target p x ≢ 0 → R (A .target p x) (B .target q x)
+
+-- two automata that do the same on the states below n, by the same numbers
+pub record SameNumbers (A B : Automaton) (n : ℕ) : Type 0 where
   pub targets : (q x : ℕ) → q < n → x < 65536 → A .target q x ≡ B .target q x
   pub accepts : (q : ℕ) → q < n → A .accept q ≡ B .accept q
   pub ends : (q : ℕ) → q < n → A .acceptAtEnd q ≡ B .acceptAtEnd q

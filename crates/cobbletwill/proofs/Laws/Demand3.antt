@@ -4,12 +4,12 @@ use mathlib.Core.List.{List, [], _∷_, _++_}
 use mathlib.Core.Path.{_≡_, refl, sym, ap, subst, _∙_}
 use Prim.Native.Nat.{ℕ, _≤_}
 use native.Mathlib.Omega.{arith}
-use lib.Dec.{T, eqb, eqb→eq}
+use lib.Dec.{T, eqb}
 use lib.ListN.{length}
 use borrow.Author.Tests.{le-ltb}
 use Rattle.lists.specs.Lists.{any, Each}
 use Rattle.lists.specs.Decide.{select}
-use Rattle.lists.proofs.Laws.Tests.{or-cases}
+use Rattle.lists.proofs.Laws.Tests.{one-of}
 use Rattle.meaning.specs.Refusal.{Outcome, refused, accepted, RefusedBy}
 use Rattle.meaning.specs.Table.{Characters}
 use Rattle.reckoning.specs.Machine.{Status, Open, Closed, Stopped}
@@ -30,11 +30,7 @@ use Rattle.cobbletwill.proofs.Laws.Claims.{faithful}
 refusal-back : (k found : ℕ) → T (any (eqb k) (11 ∷ 12 ∷ 13 ∷ 14 ∷ 15 ∷ [])) → answerFrom k found ≡ refused k
 unfolding answerFrom select
 refusal-back k found h =
-    or-cases (eqb k 11) _ h (λ e. rw (eqb→eq k 11 e) refl)
-    (λ h. or-cases (eqb k 12) _ h (λ e. rw (eqb→eq k 12 e) refl)
-    (λ h. or-cases (eqb k 13) _ h (λ e. rw (eqb→eq k 13 e) refl)
-    (λ h. or-cases (eqb k 14) _ h (λ e. rw (eqb→eq k 14 e) refl)
-    (λ h. or-cases (eqb k 15) _ h (λ e. rw (eqb→eq k 15 e) refl) (λ x. absurd x)))))
+    one-of (λ k. answerFrom k found ≡ refused k) (11 ∷ 12 ∷ 13 ∷ 14 ∷ 15 ∷ []) (refl, (refl, (refl, (refl, (refl, tt))))) k h
 
 status-back : (count : ℕ) (s : Status) → answerFrom (statusCode s) count ≡ accepted (record { count = count; status = s })
 unfolding answerFrom select

@@ -1,4 +1,4 @@
--- What the cores of the C face's feed and finish return, as the law of lent structs has it.
+-- What the cores of the C face's feed, finish and preview return, as the law of lent structs has it.
 -- Each part is a field of `CalledNumbers`, where its laws say what it is.
 use mathlib.Core.Path.{refl}
 use mir.Syntax.{tyInt, w32}

@@ -64,14 +64,6 @@ number-put text number after n k h e d =
       text = e ∙ ap (λ l. l ++ number) (put-next text (take n text) n (n + 1) 32 refl h refl) ∙ append-assoc (take n text) (32 ∷ []) number;
     }
 
--- one more element of a copied list
-pub copy-next : (source copy : List ℕ) (i : ℕ) → i < length source → i < length copy → take i copy ≡ take i source →
-    take (i + 1) (set copy i (getD source i 0)) ≡ take (i + 1) source
-copy-next source copy i h k e =
-    put-next copy (take i source) i (i + 1) (getD source i 0) refl k e
-    ∙ sym (take-suc source i 0 h)
-    ∙ ap (λ j. take j source) (sym (add-one i))
-
 pub lines-next : (cs : List ℕ) (i : ℕ) → i < length cs → hexLines (take (i + 1) cs) ≡ hexLines (take i cs) ++ hexLine (getD cs i 0)
 unfolding hexLines
 lines-next cs i h =

@@ -1,13 +1,14 @@
 -- A padded list, and what stands at a place of it, of rows of one length, and of parts joined.
 -- By recursion on the list of elements, rows or parts.
 use mathlib.Core.List.{List, [], _∷_, _++_, append-assoc}
-use mathlib.Core.Path.{_≡_, refl, ap, _∙_}
+use mathlib.Core.Path.{_≡_, refl, sym, ap, _∙_}
 use Prim.Native.Nat.{ℕ, zero, suc, _+_, _*_, _≤_, _<_}
 use native.Mathlib.Nat.{mul-zero, mul-suc, zero-add}
+use native.Mathlib.Numerals.{add-one}
 use native.Mathlib.Omega.{arith}
 use lib.Dec.{T, eqb}
-use lib.ListN.{length, getD, take, drop, length-append, List·getD-append}
-use lib.Seq.{getD-append-add}
+use lib.ListN.{length, getD, set, take, drop, length-append, List·getD-append}
+use lib.Seq.{getD-append-add, take-suc, take-suc-set}
 use Rattle.lists.specs.Lists.{all, flatMap, pad}
 
 pub length-pad : (n : ℕ) (xs : List ℕ) → length (pad n xs) ≡ n
@@ -67,3 +68,15 @@ pub getD-there : {A : Type 0} (xs : List A) (i : ℕ) (a b : A) → i < length x
 getD-there [] i a b h = absurd (omega arith)
 getD-there (x ∷ xs) zero a b h = refl
 getD-there (x ∷ xs) (suc i) a b h = getD-there xs i a b (omega arith)
+
+-- one more element of a copied list
+pub copy-next : (source copy : List ℕ) (i : ℕ) → i < length source → i < length copy → take i copy ≡ take i source →
+    take (i + 1) (set copy i (getD source i 0)) ≡ take (i + 1) source
+copy-next source copy i h k e =
+    let x = getD source i 0 in
+    let one : i + 1 ≡ suc i = add-one i in
+    ap (λ j. take j (set copy i x)) one
+    ∙ take-suc-set copy i x k
+    ∙ ap (λ l. l ++ x ∷ []) e
+    ∙ sym (take-suc source i 0 h)
+    ∙ ap (λ j. take j source) (sym one)

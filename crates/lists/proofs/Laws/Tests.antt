@@ -96,6 +96,11 @@ neqb→ne m n t e = T-not (eqb m n) t (eq→eqb m n e)
 pub ne→neqb : (m n : ℕ) → m ≢ n → T (not (eqb m n))
 ne→neqb m n h = not-T (eqb m n) (λ t. h (eqb→eq m n t))
 
+-- what holds of each number of a list holds of one that is among them
+pub one-of : (P : ℕ → Type 0) (ks : List ℕ) → Each P ks → (n : ℕ) → T (any (eqb n) ks) → P n
+one-of P [] h n t = absurd t
+one-of P (k ∷ ks) h n t = or-cases (eqb n k) (any (eqb n) ks) t (λ u. subst P (sym (eqb→eq n k u)) (h .0)) (one-of P ks (h .1) n)
+
 pub of-between : (lo hi x : ℕ) → T (leb lo x && leb x hi) → (lo ≤ x) × (x ≤ hi)
 of-between lo hi x t = (leb→le lo x (and-left (leb lo x) (leb x hi) t), leb→le x hi (and-right (leb lo x) (leb x hi) t))
 

@@ -1,6 +1,6 @@
 -- Demand 1 for feed and finish, of any words and session: refusals, what stays as found, and kept soundness, of which request [2]'s sum is a part.
 -- The tests of an accepted call give sound words and a sound open session, whose run writes at most E for each character that it covers.
-use mathlib.Core.Bool.{not}
+use mathlib.Core.Bool.{Bool, not}
 use mathlib.Core.List.{List, [], _∷_, _++_}
 use mathlib.Core.Path.{_≡_, refl, sym, ap, _∙_}
 use Prim.Native.Nat.{ℕ, _+_, _*_, _≤_}
@@ -74,6 +74,22 @@ admission w s n room =
       ),
     )
 
+-- a run writes at most E for each character held and read
+pub text-most : (w : List ℕ) (s : Session) (p : List ℕ) (e : Bool) → T (sound w) → T (soundSession w s) → s .status ≡ Open →
+    length (textOf (fromWords w .write) (resumed (fromWords w) s p e .final .log)) ≤ expansionWord w * (s .count + length p)
+text-most w s p e W kept o =
+    let A = fromWords w in
+    let E = expansionWord w in
+    let G = sound-good w W in
+    let u = store s ++ p in
+    let t = trace A e 0 u in
+    let tells = call-tells w W s p e kept o in
+    let few : length (textOf (A .write) (logOf t)) ≤ E * covered (logOf t) = trace-few A (longestWord w) E (stateCount w) G (sound-short w W) e 0 u in
+    let all : covered (logOf t) ≤ length u = counted-most (statusOf t) _ _ _ (bounded A (longestWord w) (stateCount w) G e u .counted) in
+    let held : covered (logOf t) ≤ s .count + length p = omega (arith, length-append (store s) p, length-take (s .count) (s .held)) in
+    let most = mul-le-mul-left E held in
+    rw (tells .log) (omega arith)
+
 module _ (w : List ℕ) (s : Session) (c : Call) where
   abbrev outcome : Outcome (Unit {0}) → CallOutcome
   outcome o = callBy o (fromWords w) s (piece c) (ends c) (bufferOf c)
@@ -86,19 +102,9 @@ module _ (w : List ℕ) (s : Session) (c : Call) where
 
   text-fits : Admitted w s (length (piece c)) (room c) → length text ≤ room c
   text-fits a =
-      let A = fromWords w in
-      let E = expansionWord w in
-      let G = sound-good w (a .sound-words) in
-      let u = store s ++ piece c in
-      let t = trace A (ends c) 0 u in
-      let tells = call-tells w (a .sound-words) s (piece c) (ends c) (a .sound-session) (a .passed .0) in
-      let few : length (textOf (A .write) (logOf t)) ≤ E * covered (logOf t) =
-      trace-few A (longestWord w) E (stateCount w) G (sound-short w (a .sound-words)) (ends c) 0 u in
-      let all : covered (logOf t) ≤ length u = counted-most (statusOf t) _ _ _ (bounded A (longestWord w) (stateCount w) G (ends c) u .counted) in
-      let held : covered (logOf t) ≤ s .count + length (piece c) = omega (arith, length-append (store s) (piece c), length-take (s .count) (s .held)) in
-      let most = mul-le-mul-left E held in
+      let most = text-most w s (piece c) (ends c) (a .sound-words) (a .sound-session) (a .passed .0) in
       let enough = a .passed .2 in
-      rw (tells .log) (omega arith)
+      omega arith
 
   numbered-by : (o : Outcome (Unit {0})) → Tested o → RefusedBy refusals (outcome o .answer)
   numbered-by (refused k) h = h

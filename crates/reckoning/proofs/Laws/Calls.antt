@@ -44,7 +44,7 @@ abbrev pub told : Automaton → Trace → ℕ → Session
 told B t m =
     record {
       status = statusOf t;
-      state = stateOf t;
+      state = stateOf B t;
       held = pad 8 (heldOf t);
       count = length (heldOf t);
       received = receivedBy (statusOf t) m (covered (logOf t));
@@ -54,7 +54,7 @@ told B t m =
     }
 
 fresh-told : (B : Automaton) → fresh ≡ told B (trace B false 0 []) 0
-unfolding fresh trace statusOf stateOf heldOf logOf cost textOf covered pad
+unfolding fresh trace after statusOf heldOf logOf cost textOf covered pad
 fresh-told B = refl
 
 -- One accepted call.
@@ -78,10 +78,10 @@ module _ (B : Automaton) (L n : ℕ) (H : Good B L n) (small : L ≤ 8) (e : Boo
   abbrev ended-as : Ended
   ended-as = resumed B session p e
 
-  tells : Tells (start (heldOf before) p (stateOf before)) rest ended-as
+  tells : Tells B (start (heldOf before) p (stateOf B before)) rest ended-as
   tells =
       let k = rests-open B (trace B false 0 u) (trace-rests B L n H 0 u) o in
-      rw (take-pad 8 (heldOf (trace B false 0 u)) few) (run-tells B L n H small e (heldOf (trace B false 0 u)) p (stateOf (trace B false 0 u)) (k .1) (k .0))
+      rw (take-pad 8 (heldOf (trace B false 0 u)) few) (run-tells B L n H small e (heldOf (trace B false 0 u)) p (stateOf B (trace B false 0 u)) (k .0) refl)
 
   text-later : textOf (B .write) (logOf before) ++ textOf (B .write) (ended-as .final .log) ≡ textOf (B .write) (logOf after-call)
   text-later =
@@ -108,7 +108,7 @@ module _ (B : Automaton) (L n : ℕ) (H : Good B L n) (small : L ≤ 8) (e : Boo
       ap (usesAfter (usesOf (logOf before))) (tells .log) ∙ uses-append (logOf before) (logOf rest) ∙ ap usesOf (sym (joined .log)) in
       λ i. record {
         status = st i;
-        state = (tells .state ∙ sym (joined .state)) i;
+        state = (tells .state ∙ ap (after B 0) (sym (joined .held))) i;
         held = pad 8 (hd i);
         count = length (hd i);
         received = receivedBy (st i) (rc i) (co i);
@@ -127,18 +127,19 @@ same-refusals Open received m n k E room f = rw (f refl)
 same-refusals Closed received m n k E room f = refl
 same-refusals Stopped received m n k E room f = refl
 
--- what compiling gives of a table and its words
-pub record Compiled (t : Table) (w : List ℕ) : Type 0 where
+-- what is asked of words for a table: that they are sound, do the same along every word as the automaton of the table, which reads its
+-- rules, and write and expand as the table does
+pub record Matched (t : Table) (w : List ℕ) : Type 0 where
   pub shaped : Shaped t
   pub small : longest t ≤ 8
   pub good : Good (fromTable t) (longest t) (length (states t))
   pub reads : Reads (fromTable t) t
   pub sound-words : T (sound w)
-  pub alike : Alike (fromTable t) (fromWords w) (length (states t))
+  pub alike : Alike (fromTable t) (fromWords w)
   pub writes : Writes (fromTable t) (fromWords w) t
   pub expands : expansionWord w ≡ expansion t
 
-module _ (t : Table) (w : List ℕ) (K : Compiled t w) where
+module _ (t : Table) (w : List ℕ) (K : Matched t w) where
   abbrev machine : Automaton
   machine = fromWords w
 
@@ -154,12 +155,12 @@ module _ (t : Table) (w : List ℕ) (K : Compiled t w) where
     pub characters : Characters (i .characters)
 
   -- the table's machine over the input
-  pub ran-tells : (u : List ℕ) (e : Bool) → Tells (start [] u 0) (trace (fromTable t) e 0 u) (ran t u e)
+  pub ran-tells : (u : List ℕ) (e : Bool) → Tells (fromTable t) (start [] u 0) (trace (fromTable t) e 0 u) (ran t u e)
   unfolding ran after
   ran-tells u e = run-tells (fromTable t) (longest t) (length (states t)) (K .good) (K .small) e [] u 0 tt refl
 
   pub same-trace : (u : List ℕ) (e : Bool) → Characters u → trace (fromTable t) e 0 u ≡ trace machine e 0 u
-  same-trace u e c = trace-alike (fromTable t) machine (longest t) (length (states t)) (K .good) (K .alike) e 0 u c
+  same-trace u e c = trace-alike (fromTable t) machine (K .alike) e 0 u c
 
   -- and it writes what the words' trace tells
   pub ran-text : (u : List ℕ) (e : Bool) → Characters u → ranText t (ran t u e) ≡ textOf (machine .write) (logOf (trace machine e 0 u))

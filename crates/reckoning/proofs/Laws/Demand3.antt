@@ -19,12 +19,13 @@ use Rattle.automaton.specs.States.{states}
 use Rattle.automaton.specs.Layout.{wordCount, words}
 use Rattle.automaton.specs.Claims.{KeepsCompiling}
 use Rattle.automaton.proofs.Laws.States.{table-good, table-reads}
+use Rattle.automaton.proofs.Laws.Good.{SameNumbers}
 use Rattle.automaton.proofs.Laws.Places.{layout-expansion}
-use Rattle.automaton.proofs.Laws.Alike.{words-alike}
+use Rattle.automaton.proofs.Laws.Alike.{words-numbers, numbers-alike, numbers-after}
 use Rattle.automaton.proofs.Laws.Write.{words-write}
 use Rattle.automaton.proofs.Laws.Sound.{compiled-sound}
 use Rattle.automaton.proofs.Laws.Compile.{compile-accepts}
-use Rattle.automaton.specs.Automaton.{Automaton, fromTable, fromWords}
+use Rattle.automaton.specs.Automaton.{Automaton, fromTable, fromWords, after}
 use Rattle.reckoning.specs.Machine.{Status, Open, Closed, Stopped}
 use Rattle.reckoning.specs.Uses.{usesOf}
 use Rattle.reckoning.specs.Session.{Session, consumed}
@@ -32,9 +33,9 @@ use Rattle.reckoning.specs.Calls.{Answer, receivedBy}
 use Rattle.reckoning.specs.Reckoning.{Call, piece, ends, Served, unserved, serve, acceptedPieces, Input, noInput, ran, ranText, reckoned, answerBy, inputBy, reckonCall, reckon}
 use Rattle.reckoning.specs.Claims.{isStopped, Agrees, OutcomesAgree}
 use Rattle.reckoning.proofs.Laws.Trace.{trace, cost, logOf, heldOf, statusOf}
-use Rattle.reckoning.proofs.Laws.Rounds.{NotOpen, not-open, trace-graft, graft-stopped, ended-empty, Counted, Bounded, bounded}
+use Rattle.reckoning.proofs.Laws.Rounds.{NotOpen, not-open, trace-covers, held-characters, trace-graft, graft-stopped, ended-empty, Counted, Bounded, bounded}
 use Rattle.reckoning.proofs.Laws.Meaning.{ending, meaning-law}
-use Rattle.reckoning.proofs.Laws.Calls.{told, Compiled, Standing, calls-stand, ran-tells, same-trace, ran-text}
+use Rattle.reckoning.proofs.Laws.Calls.{told, Matched, Standing, calls-stand, ran-tells, same-trace, ran-text}
 
 -- a trace that stopped without the end is the trace of every longer input, ended or not
 pub stopped-firm : (A : Automaton) (u more : List ℕ) (e : Bool) → statusOf (trace A false 0 u) ≡ Stopped → trace A e 0 (u ++ more) ≡ trace A false 0 u
@@ -103,7 +104,7 @@ module _ (t : Table) where
   pub input-pieces : (cs : List Call) → reckon t cs noInput .characters ≡ acceptedPieces cs (reckon t cs noInput .answers)
   input-pieces cs = let g = reckon-grown cs noInput in g .characters ∙ ap (acceptedPieces cs) (sym (g .answers))
 
-module _ (t : Table) (w : List ℕ) (K : Compiled t w) where
+module _ (t : Table) (w : List ℕ) (K : Matched t w) where
   default-is : fromTable t .default ≡ isSome (t .default)
   unfolding fromTable
   default-is = refl
@@ -118,9 +119,10 @@ module _ (t : Table) (w : List ℕ) (K : Compiled t w) where
   unfolding fromTable
   text-is l = refl
 
-  agrees : (cs : List Call) (v : Served) (i : Input) → i .characters ≡ acceptedPieces cs (i .answers) → Standing t w K v i →
-      Agrees t cs v i (ran t (i .characters) (i .ended))
-  agrees cs v i pieces S =
+  -- where the words number the states as the table's machine does, the session's state is reckoned too
+  agrees : SameNumbers (fromTable t) (fromWords w) (length (states t)) → (cs : List Call) (v : Served) (i : Input) →
+      i .characters ≡ acceptedPieces cs (i .answers) → Standing t w K v i → Agrees t cs v i (ran t (i .characters) (i .ended))
+  agrees N cs v i pieces S =
       let u = i .characters in
       let e = i .ended in
       let A = fromTable t in
@@ -137,8 +139,11 @@ module _ (t : Table) (w : List ℕ) (K : Compiled t w) where
       let out : v .output ≡ ranText t r = S .output ∙ sym wrote in
       let b : Bounded (longest t) u x = bounded A (longest t) (length (states t)) (K .good) e u in
       let con : consumed (v .session) ≡ covered (logOf x) =
-      ap consumed s ∙ consumed-is (statusOf x) (length u) (covered (logOf x)) (length (heldOf x)) (b .counted) (λ n. ap length (ended-empty x n .1)) in
+      ap consumed s ∙ consumed-is (statusOf x) (length u) (covered (logOf x)) (length (heldOf x)) (b .counted) (λ n. ap length (ended-empty x n)) in
       let over : T (e || isStopped (v .session .status)) → x ≡ trace A true 0 u = λ h. over-trace A u e (subst (λ z. T (e || isStopped z)) st h) in
+      let after-is : after A 0 (heldOf x) ≡ after M 0 (heldOf x) =
+      numbers-after A M (longest t) (length (states t)) (K .good) N 0 (heldOf x) (K .good .some-state)
+      (held-characters x u (trace-covers A (longest t) (length (states t)) (K .good) e 0 u (omega arith)) (S .characters)) in
       let D = meaning-trace u (S .characters) in
       let log-is : T (e || isStopped (v .session .status)) → logOf x ≡ convert t u .log = λ h. ap logOf (over h) ∙ D .0 in
       let end-is : T (e || isStopped (v .session .status)) → v .session .status ≡ ending (convert t u .closed) = λ h. st ∙ ap statusOf (over h) ∙ D .1 in
@@ -147,7 +152,7 @@ module _ (t : Table) (w : List ℕ) (K : Compiled t w) where
         input = pieces ∙ ap (acceptedPieces cs) (sym (S .answers));
         output = out;
         status = st ∙ sym (tells .status);
-        state = ap (λ (z : Session). z .state) s ∙ sym (tells .state);
+        state = ap (λ (z : Session). z .state) s ∙ sym after-is ∙ sym (tells .state);
         held = ap (λ (z : Session). z .held) s ∙ ap (pad 8) (sym (tells .store));
         count = ap (λ (z : Session). z .count) s ∙ ap length (sym (tells .store));
         steps = ap (λ (z : Session). z .steps) s ∙ sym steps-are;
@@ -176,23 +181,24 @@ module _ (t : Table) (w : List ℕ) (K : Compiled t w) where
             );
       }
 
-  -- DEMAND 3, for a table and words that hold what it compiles to.
-  pub calls-agree : (cs : List Call) → Each (λ c. Characters (piece c)) cs →
+  -- DEMAND 3, for a table and words that match it and number the states as it does.
+  pub calls-agree : SameNumbers (fromTable t) (fromWords w) (length (states t)) → (cs : List Call) → Each (λ c. Characters (piece c)) cs →
       (let i = reckon t cs noInput in Agrees t cs (serve w cs unserved) i (ran t (i .characters) (i .ended)))
-  calls-agree cs a = agrees cs (serve w cs unserved) (reckon t cs noInput) (input-pieces t cs) (calls-stand t w K cs a)
+  calls-agree N cs a = agrees N cs (serve w cs unserved) (reckon t cs noInput) (input-pieces t cs) (calls-stand t w K cs a)
 
 -- DEMAND 3, for every table that keeps the rules for compiling and every buffer that it is compiled into.
-compiled : (b buffer : List ℕ) (t : Table) → KeepsCompiling b t → Compiled t (words t ++ drop wordCount buffer)
+compiled : (b buffer : List ℕ) (t : Table) → KeepsCompiling b t → Matched t (words t ++ drop wordCount buffer)
 compiled b buffer t k =
     let rest = drop wordCount buffer in
     let s = well-formed-shaped t (k .keeps .well-formed) in
+    let good = table-good t s in
     record {
       shaped = s;
       small = longest-small t s;
-      good = table-good t s;
+      good = good;
       reads = table-reads t s;
       sound-words = compiled-sound t rest s (k .classes) (k .states);
-      alike = words-alike t rest (k .classes) (k .states);
+      alike = numbers-alike (fromTable t) (fromWords (words t ++ rest)) (longest t) (length (states t)) good (words-numbers t rest (k .classes) (k .states));
       writes = words-write t rest s (k .keeps .values);
       expands = layout-expansion t rest;
     }
@@ -200,4 +206,6 @@ compiled b buffer t k =
 pub outcomes-agree : OutcomesAgree
 unfolding OutcomesAgree
 outcomes-agree b buffer t k room cs a =
-    rw (compile-accepts b buffer .keeping t k room .1) (calls-agree t (words t ++ drop wordCount buffer) (compiled b buffer t k) cs a)
+    let w = words t ++ drop wordCount buffer in
+    rw (compile-accepts b buffer .keeping t k room .1)
+    (calls-agree t w (compiled b buffer t k) (words-numbers t (drop wordCount buffer) (k .classes) (k .states)) cs a)

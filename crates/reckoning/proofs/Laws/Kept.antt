@@ -18,14 +18,14 @@ use Rattle.meaning.specs.Meaning.{Emission, textOf, covered}
 use Rattle.meaning.specs.Direct.{limit}
 use Rattle.automaton.specs.Sound.{used, longestWord, expansionWord, stateCount, sound}
 use Rattle.automaton.specs.Automaton.{Automaton, fromWords}
-use Rattle.automaton.proofs.Laws.Good.{after, Leads, Good, after-inside, Short}
+use Rattle.automaton.proofs.Laws.Good.{after, Leads, Good, go-none, after-inside, Short}
 use Rattle.automaton.proofs.Laws.Words.{sound-good, sound-short, sound-longest}
 use Rattle.reckoning.specs.Machine.{Status, Open, Closed, Stopped, Ended, start}
 use Rattle.reckoning.specs.Uses.{usesAfter, soundUses}
 use Rattle.reckoning.specs.Session.{Session, fresh, consumed, store, isOpen, settled, pathIf, path, isAt, soundSession}
 use Rattle.reckoning.specs.Calls.{receivedBy, resumed, later}
 use Rattle.reckoning.proofs.Laws.Trace.{Round, waits, closes, stops, accepts, defaults, back, onWait, onEnd, walk, Trace, lastOf, handle, trace, cost, logOf, heldOf, stateOf, statusOf}
-use Rattle.reckoning.proofs.Laws.Walk.{settled-both, settled-hit, on-character-elim, go-none, Takes, walk-takes}
+use Rattle.reckoning.proofs.Laws.Walk.{settled-both, settled-hit, on-character-elim, Takes, walk-takes}
 use Rattle.reckoning.proofs.Laws.Rounds.{NotOpen, not-open, trace-rests, rests-open, ended-empty, trace-ended, Counted, spare-of, bounded}
 use Rattle.reckoning.proofs.Laws.Run.{Tells, run-tells, tells-unique}
 use Rattle.reckoning.proofs.Laws.Uses.{UsesFacts, uses-facts, facts-uses, uses-fresh, uses-kept, trace-fits}
@@ -34,13 +34,13 @@ use Rattle.reckoning.proofs.Laws.Uses.{UsesFacts, uses-facts, facts-use
 module _ (A : Automaton) (L E n : ℕ) (G : Good A L n) (S : Short A E n) where
   -- what a round emits is short
   abbrev Brief : Round → Type 0
-  Brief (waits q) = Unit {0}
+  Brief waits = Unit {0}
   Brief closes = Unit {0}
   Brief (stops d) = Unit {0}
   Brief (accepts r d) = (w : List ℕ) → length (A .write r w) ≤ E
   Brief (defaults d) = (w : List ℕ) → length (A .write defaultNumber w) ≤ E
 
-  brief-wait : (h : Bool) (d q : ℕ) → q < n → settled A q ≡ h → Brief (onWait h (A .accept q) d q)
+  brief-wait : (h : Bool) (d q : ℕ) → q < n → settled A q ≡ h → Brief (onWait h (A .accept q) d)
   brief-wait true d q i p =
       let k = settled-both A q (to-T (settled A q) p) in
       λ w. subst (λ g. length (A .write (pred g) w) ≤ E) (sym (k .1)) (S .of-accept q (k .0) i (k .1) w)
@@ -68,7 +68,7 @@ module _ (A : Automaton) (L E n : ℕ) (G : Good A L n) (S : Short A E n) where
 
   few-round : (o : Round) (x : ℕ) (u : List ℕ) (f : ℕ → Trace) → Takes o → Brief o → ((k : ℕ) → Few (logOf (f k))) → Few (logOf (handle o (x ∷ u) f))
   unfolding logOf textOf covered
-  few-round (waits q) x u f k b h = omega arith
+  few-round waits x u f k b h = omega arith
   few-round closes x u f k b h = omega arith
   few-round (stops d) x u f k b h = omega arith
   few-round (accepts r zero) x u f k b h = absurd (omega arith)
@@ -137,7 +137,7 @@ module _ (A : Automaton) (L n : ℕ) (G : Good A L n) where
 
   -- where a trace waits
   pub trace-open : (e : Bool) (u : List ℕ) → statusOf (trace A e 0 u) ≡ Open →
-      (stateOf (trace A e 0 u) ≡ after A 0 (heldOf (trace A e 0 u))) × Leads A 0 (heldOf (trace A e 0 u)) × (settled A (stateOf (trace A e 0 u)) ≡ false)
+      Leads A 0 (heldOf (trace A e 0 u)) × (settled A (stateOf A (trace A e 0 u)) ≡ false)
   trace-open false u o = rests-open A (trace A false 0 u) (trace-rests A L n G 0 u) o
   trace-open true u o = absurd (not-open (statusOf (trace A true 0 u)) (trace-ended A 0 u) o)
 
@@ -145,10 +145,10 @@ module _ (A : Automaton) (L n : ℕ) (G : Good A L n) where
   trace-held e u = by-status (statusOf (trace A e 0 u)) refl
     where
       nothing : NotOpen (statusOf (trace A e 0 u)) → length (heldOf (trace A e 0 u)) ≤ L
-      nothing k = let z : length (heldOf (trace A e 0 u)) ≡ 0 = ap length (ended-empty (trace A e 0 u) k .1) in omega arith
+      nothing k = let z : length (heldOf (trace A e 0 u)) ≡ 0 = ap length (ended-empty (trace A e 0 u) k) in omega arith
 
       by-status : (b : Status) → statusOf (trace A e 0 u) ≡ b → length (heldOf (trace A e 0 u)) ≤ L
-      by-status Open p = leads-short (heldOf (trace A e 0 u)) (trace-open e u p .1)
+      by-status Open p = leads-short (heldOf (trace A e 0 u)) (trace-open e u p .0)
       by-status Closed p = nothing (rw p tt)
       by-status Stopped p = nothing (rw p tt)
 
@@ -260,12 +260,16 @@ few-sum : (E c d a b : ℕ) → a ≤ E * c → b ≤ E * d → a + b ≤ E * (c
 few-sum E c d a b i j = omega arith
 
 -- the run's end as the trace tells it, after k steps
-abbrev told : Trace → ℕ → Ended
-told t k = record { status = statusOf t; final = record { store = heldOf t; unread = []; state = stateOf t; due = false; log = logOf t; steps = k } }
+abbrev told : Automaton → Trace → ℕ → Ended
+told A t k = record { status = statusOf t; final = record { store = heldOf t; unread = []; state = stateOf A t; due = false; log = logOf t; steps = k } }
+
+nothing-after : (A : Automaton) → after A 0 [] ≡ 0
+unfolding after
+nothing-after A = refl
 
 -- a call's run on a sound open session tells the trace of what is held and the piece
 pub call-tells : (w : List ℕ) → T (sound w) → (s : Session) (piece : List ℕ) (ended : Bool) → T (soundSession w s) → s .status ≡ Open →
-    Tells (start (store s) piece (s .state)) (trace (fromWords w) ended 0 (store s ++ piece)) (resumed (fromWords w) s piece ended)
+    Tells (fromWords w) (start (store s) piece (s .state)) (trace (fromWords w) ended 0 (store s ++ piece)) (resumed (fromWords w) s piece ended)
 call-tells w W s piece ended sn o =
     let v : Stands w s Open = subst (Stands w s) o (sound-facts w s sn .stands) in
     let l = path-leads (fromWords w) 0 (s .state) (store s) (v .0) in
@@ -286,7 +290,7 @@ module _ (w : List ℕ) (W : T (sound w)) (s : Session) (piece : List ℕ) (ende
 
   -- what the call leaves, after k steps
   abbrev left : ℕ → Session
-  left k = later s (length piece) (length (textOf (A .write) (logOf t))) (told t k)
+  left k = later s (length piece) (length (textOf (A .write) (logOf t))) (told A t k)
 
   module _ (f : SoundFacts w s) (o : s .status ≡ Open) (e8 : length (s .held) ≡ 8) where
     stored : length (store s) ≡ s .count
@@ -297,7 +301,7 @@ module _ (w : List ℕ) (W : T (sound w)) (s : Session) (piece : List ℕ) (ende
         sums (statusOf t) (s .received) (s .count) (length piece) (covered (logOf t)) (length (heldOf t)) (f .enough)
         (subst (λ z. Counted (statusOf t) z (covered (logOf t)) (length (heldOf t))) (length-append (store s) piece ∙ ap (λ z. z + length piece) stored)
         (bounded A (longestWord w) n G ended (store s ++ piece) .counted))
-        (λ k. ap length (ended-empty t k .1))
+        (λ k. ap length (ended-empty t k))
 
     module _ (k : ℕ) (j : k + length (store s) ≡ cost t) where
       -- all steps so far, against all that was consumed
@@ -314,11 +318,10 @@ module _ (w : List ℕ) (W : T (sound w)) (s : Session) (piece : List ℕ) (ende
       left-stands : (b : Status) → statusOf t ≡ b → Stands w (left k) b
       left-stands Open p =
           let r = trace-open A (longestWord w) n G ended (store s ++ piece) p in
-          let z : settled A (after A 0 (heldOf t)) ≡ false = ap (settled A) (sym (r .0)) ∙ r .2 in
           let i : length (heldOf t) ≤ 8 = omega (arith, sound-longest w W, trace-held A (longestWord w) n G ended (store s ++ piece)) in
-          (rw (take-pad 8 (heldOf t) i, r .0) (leads-path A (longestWord w) n G 0 (heldOf t) (G .some-state) (r .1) z), spent Open p)
-      left-stands Closed p = let z = ended-empty t (rw p tt) in (z .0, ap length (z .1), omega (arith, spent Closed p))
-      left-stands Stopped p = let z = ended-empty t (rw p tt) in (z .0, ap length (z .1), omega (arith, spent Stopped p))
+          (rw (take-pad 8 (heldOf t) i) (leads-path A (longestWord w) n G 0 (heldOf t) (G .some-state) (r .0) (r .1)), spent Open p)
+      left-stands Closed p = let z = ended-empty t (rw p tt) in (ap (after A 0) z ∙ nothing-after A, ap length z, omega (arith, spent Closed p))
+      left-stands Stopped p = let z = ended-empty t (rw p tt) in (ap (after A 0) z ∙ nothing-after A, ap length z, omega (arith, spent Stopped p))
 
       left-facts : s .received + length piece ≤ limit → SoundFacts w (left k)
       left-facts h = record {
@@ -342,10 +345,10 @@ module _ (w : List ℕ) (W : T (sound w)) (s : Session) (piece : List ℕ) (ende
   kept-sound sn o e8 h =
       let f : SoundFacts w s = sound-facts w s sn in
       let r : Ended = resumed A s piece ended in
-      let a : Tells (start (store s) piece (s .state)) t r = call-tells w W s piece ended sn o in
+      let a : Tells A (start (store s) piece (s .state)) t r = call-tells w W s piece ended sn o in
       let k : ℕ = r .final .steps in
-      let b : Tells (start (store s) piece (s .state)) t (told t k) =
+      let b : Tells A (start (store s) piece (s .state)) t (told A t k) =
       record { status = refl; state = refl; store = refl; unread = refl; log = refl; steps = a .steps; due = refl } in
-      let same : told t k ≡ r = tells-unique (start (store s) piece (s .state)) t (told t k) r b a in
+      let same : told A t k ≡ r = tells-unique A (start (store s) piece (s .state)) t (told A t k) r b a in
       subst (λ z. T (soundSession w (later s (length piece) (length (textOf (A .write) (z .final .log))) z))) same
       (facts-sound w (left k) (left-facts f o e8 k (omega (arith, a .steps)) h))

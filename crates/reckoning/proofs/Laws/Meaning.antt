@@ -26,7 +26,7 @@ use Rattle.reckoning.proofs.Laws.Trace.{Round, waits, closes, stops, ac
 
 -- what a round has to do with the choice; the flag tells if there is a default
 abbrev Picks : Table → Bool → List ℕ → Round → Type 0
-Picks t b z (waits q) = ⊥
+Picks t b z waits = ⊥
 Picks t b z closes = z ≡ []
 Picks t b z (stops d) = Chosen t (length (t .rules)) z none × (b ≡ false)
 Picks t b z (defaults d) = Chosen t (length (t .rules)) z none × (b ≡ true)
@@ -159,7 +159,7 @@ module _ (t : Table) (s : Shaped t) (x : ℕ) (u : List ℕ) (f : ℕ → Trace)
 
   round-tells : (o : Round) → Picks t (isSome (t .default)) (x ∷ u) o → Tells (handle o (x ∷ u) f) (convertBy t (choose t (x ∷ u)) (x ∷ u) g)
   unfolding logOf statusOf
-  round-tells (waits q) p = absurd p
+  round-tells waits p = absurd p
   round-tells closes p = absurd (let z : length (x ∷ u) ≡ 0 = ap length p in omega arith)
   round-tells (stops d) p = rw (choose-is t (x ∷ u) none (p .0), p .1) (refl, refl)
   round-tells (defaults d) p =

@@ -9,6 +9,8 @@ use native.Mathlib.Nat.{zero-add, mul-le-mul-left}
 use native.Mathlib.Omega.{arith}
 use lib.ListN.{length, drop, length-append, take-append-drop}
 use lib.Seq.{take-append-le, length-take-le}
+use Rattle.lists.proofs.Laws.Each.{each-back}
+use Rattle.meaning.specs.Table.{Characters}
 use Rattle.meaning.specs.Meaning.{covered}
 use Rattle.automaton.specs.Automaton.{Automaton}
 use Rattle.automaton.proofs.Laws.Good.{after, Leads, Good}
@@ -43,7 +45,7 @@ graft-round : (o o′ : Round) (x : ℕ) (u v : List ℕ) (f f′ : ℕ → Trac
     (Firm o → o′ ≡ o) → Span 0 (suc (length u)) o → ((k : ℕ) → k ≤ length u → f′ k ≡ graft (f k) F) →
     F (x ∷ u) ≡ handle o′ (x ∷ u ++ v) f′ → handle o′ (x ∷ u ++ v) f′ ≡ graft (handle o (x ∷ u) f) F
 unfolding graft
-graft-round (waits q) o′ x u v f f′ F m s h w = sym w
+graft-round waits o′ x u v f f′ F m s h w = sym w
 graft-round closes o′ x u v f f′ F m s h w = rw (m tt)
 graft-round (stops d) o′ x u v f f′ F m s h w = rw (m tt)
 graft-round (accepts r d) o′ x u v f f′ F m s h w = rw (m tt, h (pred d) (omega arith), take-append-le d (x ∷ u) v (s .1))
@@ -66,7 +68,7 @@ module _ (A : Automaton) (e : Bool) (v : List ℕ) where
 
 pub graft-stopped : (t : Trace) (f : List ℕ → Trace) → statusOf t ≢ Open → graft t f ≡ t
 unfolding graft statusOf
-graft-stopped (waiting q h) f s = absurd (s refl)
+graft-stopped (waiting h) f s = absurd (s refl)
 graft-stopped closing f s = refl
 graft-stopped (stopping d) f s = refl
 graft-stopped (accepting r w t) f s = ap (accepting r w) (graft-stopped t f s)
@@ -75,7 +77,6 @@ graft-stopped (defaulting d x t) f s = ap (defaulting d x) (graft-stopped t f s)
 -- a trace that is told in two parts
 pub record Joined (t s r : Trace) : Type 0 where
   pub status : statusOf r ≡ statusOf s
-  pub state : stateOf r ≡ stateOf s
   pub held : heldOf r ≡ heldOf s
   pub log : logOf r ≡ logOf t ++ logOf s
   pub costs : cost r + length (heldOf t) ≡ cost t + cost s
@@ -89,28 +90,37 @@ pub not-open : (s : Status) → NotOpen s → s ≢ Open
 not-open s k p = subst NotOpen p k
 
 pub graft-open : (t : Trace) (f : List ℕ → Trace) → statusOf t ≡ Open → Joined t (f (heldOf t)) (graft t f)
-unfolding graft statusOf stateOf heldOf logOf cost
-graft-open (waiting q h) f s = record { status = refl; state = refl; held = refl; log = refl; costs = omega arith }
+unfolding graft statusOf heldOf logOf cost
+graft-open (waiting h) f s = record { status = refl; held = refl; log = refl; costs = omega arith }
 graft-open closing f s = absurd (not-open Closed tt s)
 graft-open (stopping d) f s = absurd (not-open Stopped tt s)
 graft-open (accepting r w t) f s =
     let j : Joined t (f (heldOf t)) (graft t f) = graft-open t f s in
-    record { status = j .status; state = j .state; held = j .held; log = rw (j .log); costs = omega arith }
+    record { status = j .status; held = j .held; log = rw (j .log); costs = omega arith }
 graft-open (defaulting d x t) f s =
     let j : Joined t (f (heldOf t)) (graft t f) = graft-open t f s in
-    record { status = j .status; state = j .state; held = j .held; log = rw (j .log); costs = omega arith }
+    record { status = j .status; held = j .held; log = rw (j .log); costs = omega arith }
 
 -- What a trace has to do with its input: the words that it emits come from its front, and what waits is held whole.
 abbrev pub Covers : List ℕ → Trace → Type 0
-Covers u (waiting q h) = h ≡ u
+Covers u (waiting h) = h ≡ u
 Covers u closing = u ≡ []
 Covers u (stopping d) = 0 < length u
 Covers u (accepting g w t) = (r : List ℕ) × (u ≡ w ++ r) × Covers r t
 Covers u (defaulting d x t) = (r : List ℕ) × (u ≡ x ∷ r) × Covers r t
 
--- what waits is in the state after what is held, which leads there; the state is not settled
+-- what is held is of the input
+pub held-characters : (t : Trace) (u : List ℕ) → Covers u t → Characters u → Characters (heldOf t)
+unfolding heldOf
+held-characters (waiting h) u c a = subst Characters (sym c) a
+held-characters closing u c a = tt
+held-characters (stopping d) u c a = tt
+held-characters (accepting g w t) u c a = held-characters t (c .0) (c .2) (each-back (λ x. x < 65536) w (c .0) (subst Characters (c .1) a))
+held-characters (defaulting d x t) u c a = held-characters t (c .0) (c .2) (subst Characters (c .1) a .1)
+
+-- what is held leads to the state after it, which is not settled
 abbrev pub Rests : Automaton → Trace → Type 0
-Rests A (waiting q h) = (q ≡ after A 0 h) × Leads A 0 h × (settled A q ≡ false)
+Rests A (waiting h) = Leads A 0 h × (settled A (after A 0 h) ≡ false)
 Rests A closing = Unit {0}
 Rests A (stopping d) = Unit {0}
 Rests A (accepting g w t) = Rests A t
@@ -118,7 +128,7 @@ Rests A (defaulting d x t) = Rests A t
 
 -- what the last part of a trace may cost
 unfoldable pub spare : ℕ → Trace → ℕ
-spare L (waiting q h) = length h
+spare L (waiting h) = length h
 spare L closing = 1
 spare L (stopping d) = L + 2
 spare L (accepting g w t) = spare L t
@@ -126,7 +136,7 @@ spare L (defaulting d x t) = spare L t
 
 covers-round : (o : Round) (x : ℕ) (u : List ℕ) (f : ℕ → Trace) → Takes o → Span 0 (suc (length u)) o →
     ((k : ℕ) → k ≤ length u → Covers (drop k u) (f k)) → Covers (x ∷ u) (handle o (x ∷ u) f)
-covers-round (waits q) x u f k s h = refl
+covers-round waits x u f k s h = refl
 covers-round closes x u f k s h = absurd k
 covers-round (stops d) x u f k s h = omega arith
 covers-round (accepts r zero) x u f k s h = absurd (omega arith)
@@ -134,7 +144,7 @@ covers-round (accepts r (suc d)) x u f k s h = (drop d u, sym (take-append-drop 
 covers-round (defaults d) x u f k s h = (u, refl, h 0 (omega arith))
 
 rests-round : (A : Automaton) (o : Round) (u : List ℕ) (f : ℕ → Trace) → Waited A 0 u o → ((k : ℕ) → Rests A (f k)) → Rests A (handle o u f)
-rests-round A (waits q) u f w h = w
+rests-round A waits u f w h = w
 rests-round A closes u f w h = tt
 rests-round A (stops d) u f w h = tt
 rests-round A (accepts r d) u f w h = h (pred d)
@@ -147,7 +157,7 @@ Cheap L t = cost t ≤ (L + 3) * covered (logOf t) + spare L t
 cost-round : (L : ℕ) (o : Round) (x : ℕ) (u : List ℕ) (f : ℕ → Trace) → Takes o → Span 0 (suc (length u)) o → Span 0 L o →
     ((k : ℕ) → Cheap L (f k)) → Cheap L (handle o (x ∷ u) f)
 unfolding cost logOf covered spare
-cost-round L (waits q) x u f k s l h = omega arith
+cost-round L waits x u f k s l h = omega arith
 cost-round L closes x u f k s l h = omega arith
 cost-round L (stops d) x u f k s l h = omega arith
 cost-round L (accepts r d) x u f k s l h =
@@ -183,26 +193,26 @@ module _ (A : Automaton) (L n : ℕ) (G : Good A L n) (e : Bool) where
 module _ (A : Automaton) (L n : ℕ) (G : Good A L n) where
   pub trace-rests : (k : ℕ) (u : List ℕ) → Rests A (trace A false k u)
   unfolding trace after
-  trace-rests k [] = (refl, tt, rw (G .accept-0))
+  trace-rests k [] = (tt, rw (G .accept-0))
   trace-rests (suc k) (x ∷ u) = trace-rests k u
   trace-rests zero (x ∷ u) = rests-round A (walk A false 0 0 (x ∷ u)) (x ∷ u) (λ k. trace A false k u) (walk-waited A 0 0 (x ∷ u)) (λ k. trace-rests k u)
 
 -- of a whole trace that waits, what rests
 pub rests-open : (A : Automaton) (t : Trace) → Rests A t → statusOf t ≡ Open →
-    (stateOf t ≡ after A 0 (heldOf t)) × Leads A 0 (heldOf t) × (settled A (stateOf t) ≡ false)
-unfolding statusOf stateOf heldOf
-rests-open A (waiting q h) r s = r
+    Leads A 0 (heldOf t) × (settled A (stateOf A t) ≡ false)
+unfolding statusOf heldOf
+rests-open A (waiting h) r s = r
 rests-open A closing r s = absurd (not-open Closed tt s)
 rests-open A (stopping d) r s = absurd (not-open Stopped tt s)
 rests-open A (accepting g w t) r s = rests-open A t r s
 rests-open A (defaulting d x t) r s = rests-open A t r s
 
--- a trace that does not wait holds nothing, in state 0
-pub ended-empty : (t : Trace) → NotOpen (statusOf t) → (stateOf t ≡ 0) × (heldOf t ≡ [])
-unfolding statusOf stateOf heldOf
-ended-empty (waiting q h) k = absurd k
-ended-empty closing k = (refl, refl)
-ended-empty (stopping d) k = (refl, refl)
+-- a trace that does not wait holds nothing
+pub ended-empty : (t : Trace) → NotOpen (statusOf t) → heldOf t ≡ []
+unfolding statusOf heldOf
+ended-empty (waiting h) k = absurd k
+ended-empty closing k = refl
+ended-empty (stopping d) k = refl
 ended-empty (accepting g w t) k = ended-empty t k
 ended-empty (defaulting d x t) k = ended-empty t k
 
@@ -224,7 +234,7 @@ counted-more Stopped w r m c h k p = omega (arith, length-append w r)
 
 pub covers-counted : (t : Trace) (u : List ℕ) → Covers u t → Counted (statusOf t) (length u) (covered (logOf t)) (length (heldOf t))
 unfolding statusOf logOf covered heldOf
-covers-counted (waiting q h) u c = zero-add (length h) ∙ ap length c
+covers-counted (waiting h) u c = zero-add (length h) ∙ ap length c
 covers-counted closing u c = sym (ap length c)
 covers-counted (stopping d) u c = c
 covers-counted (accepting g w t) u c =
@@ -239,7 +249,7 @@ spare-of L Stopped h = L + 2
 
 pub spare-is : (L : ℕ) (t : Trace) → spare L t ≡ spare-of L (statusOf t) (length (heldOf t))
 unfolding spare statusOf heldOf
-spare-is L (waiting q h) = refl
+spare-is L (waiting h) = refl
 spare-is L closing = refl
 spare-is L (stopping d) = refl
 spare-is L (accepting g w t) = spare-is L t
@@ -285,7 +295,7 @@ walk-firm A d q (x ∷ u) =
 
 firm-round : (o : Round) (u : List ℕ) (f : ℕ → Trace) → Firm o → ((k : ℕ) → NotOpen (statusOf (f k))) → NotOpen (statusOf (handle o u f))
 unfolding statusOf
-firm-round (waits q) u f h k = h
+firm-round waits u f h k = h
 firm-round closes u f h k = tt
 firm-round (stops d) u f h k = tt
 firm-round (accepts r d) u f h k = k (pred d)

@@ -11,15 +11,15 @@ use lib.Dec.{eqb·suc-zero}
 use lib.ListN.{length, take, drop, length-append}
 use lib.Seq.{length-take-le, take-append-seam, drop-append-seam}
 use Rattle.lists.specs.Decide.{select}
-use Rattle.lists.proofs.Laws.Tests.{to-T, either}
+use Rattle.lists.proofs.Laws.Tests.{to-T, either, by-cases}
 use Rattle.meaning.specs.Table.{defaultNumber}
 use Rattle.meaning.specs.Meaning.{Emission}
 use Rattle.automaton.specs.Automaton.{Automaton}
-use Rattle.automaton.proofs.Laws.Good.{after, Leads, Good}
-use Rattle.reckoning.specs.Machine.{Configuration, Status, Open, Closed, Stopped, onward, halt, emit, read, rollBack, end, fallBack, step, Ended, steps, run, start}
+use Rattle.automaton.proofs.Laws.Good.{after, after-snoc, Leads, leads-snoc, Good}
+use Rattle.reckoning.specs.Machine.{Configuration, Status, Open, Closed, Stopped, Step, onward, halt, emit, read, rollBack, end, fallBack, step, Ended, follow, steps, run, start}
 use Rattle.reckoning.specs.Session.{settled}
 use Rattle.reckoning.proofs.Laws.Trace.{Round, waits, closes, stops, accepts, defaults, back, walk, Trace, waiting, closing, stopping, accepting, defaulting, handle, trace, cost, logOf, heldOf, stateOf, statusOf}
-use Rattle.reckoning.proofs.Laws.Walk.{settled-both, Span, walk-span, walk-resume, after-snoc, leads-snoc}
+use Rattle.reckoning.proofs.Laws.Walk.{settled-both, Span, walk-span, walk-resume}
 use Rattle.reckoning.proofs.Laws.Rounds.{trace-round, not-open, trace-rests, rests-open, trace-ended, bounded}
 
 abbrev pub at : List ℕ → List ℕ → ℕ → List Emission → ℕ → Configuration
@@ -98,10 +98,10 @@ pub steps-halt : (A : Automaton) (e : Bool) (m : ℕ) (c d : Configuration) (s :
 unfolding steps
 steps-halt A e m c d s p = rw p
 
--- the run from c ended as the trace t says
-pub record Tells (c : Configuration) (t : Trace) (r : Ended) : Type 0 where
+-- A's run from c ended as the trace t says
+pub record Tells (A : Automaton) (c : Configuration) (t : Trace) (r : Ended) : Type 0 where
   pub status : r .status ≡ statusOf t
-  pub state : r .final .state ≡ stateOf t
+  pub state : r .final .state ≡ stateOf A t
   pub store : r .final .store ≡ heldOf t
   pub unread : r .final .unread ≡ []
   pub log : r .final .log ≡ c .log ++ logOf t
@@ -109,8 +109,8 @@ pub record Tells (c : Configuration) (t : Trace) (r : Ended) : Type 0 where
   pub due : r .final .due ≡ false
 
 -- the trace and the first configuration leave nothing open
-pub tells-unique : (c : Configuration) (t : Trace) (r r′ : Ended) → Tells c t r → Tells c t r′ → r ≡ r′
-tells-unique c t r r′ a b =
+pub tells-unique : (A : Automaton) (c : Configuration) (t : Trace) (r r′ : Ended) → Tells A c t r → Tells A c t r′ → r ≡ r′
+tells-unique A c t r r′ a b =
     let p : r .final .steps ≡ r′ .final .steps = omega arith in
     λ i. record {
       status = (a .status ∙ sym (b .status)) i;
@@ -126,12 +126,12 @@ tells-unique c t r r′ a b =
 
 -- What becomes of the telling by an emission, a read, and at the run's end.
 
-tells-emit : (w u : List ℕ) (q : ℕ) (l : List Emission) (s s′ i : ℕ) (g : Emission) (t t′ : Trace) (r : Ended) → s′ ≡ s + i →
-    statusOf t ≡ statusOf t′ → stateOf t ≡ stateOf t′ → heldOf t ≡ heldOf t′ → logOf t ≡ g ∷ logOf t′ → cost t ≡ length w + i + cost t′ →
-    (v : List ℕ) → Tells (at [] v 0 (l ++ g ∷ []) s′) t′ r → Tells (at w u q l s) t r
-tells-emit w u q l s s′ i g t t′ r p₀ p₁ p₂ p₃ p₄ p₅ v a = record {
+tells-emit : (A : Automaton) (w u : List ℕ) (q : ℕ) (l : List Emission) (s s′ i : ℕ) (g : Emission) (t t′ : Trace) (r : Ended) → s′ ≡ s + i →
+    statusOf t ≡ statusOf t′ → heldOf t ≡ heldOf t′ → logOf t ≡ g ∷ logOf t′ → cost t ≡ length w + i + cost t′ →
+    (v : List ℕ) → Tells A (at [] v 0 (l ++ g ∷ []) s′) t′ r → Tells A (at w u q l s) t r
+tells-emit A w u q l s s′ i g t t′ r p₀ p₁ p₃ p₄ p₅ v a = record {
   status = a .status ∙ sym p₁;
-  state = a .state ∙ sym p₂;
+  state = a .state ∙ ap (after A 0) (sym p₃);
   store = a .store ∙ sym p₃;
   unread = a .unread;
   log = a .log ∙ append-assoc l (g ∷ []) (logOf t′) ∙ ap (λ z. l ++ z) (sym p₄);
@@ -139,9 +139,9 @@ tells-emit w u q l s s′ i g t t′ r p₀ p₁ p₂ p₃ p₄ p₅ v a = recor
   due = a .due;
 }
 
-tells-read : (w u u′ : List ℕ) (y q q′ : ℕ) (l : List Emission) (s : ℕ) (t : Trace) (r : Ended) →
-    Tells (at (w ++ y ∷ []) u′ q′ l (s + 1)) t r → Tells (at w u q l s) t r
-tells-read w u u′ y q q′ l s t r a = record {
+tells-read : (A : Automaton) (w u u′ : List ℕ) (y q q′ : ℕ) (l : List Emission) (s : ℕ) (t : Trace) (r : Ended) →
+    Tells A (at (w ++ y ∷ []) u′ q′ l (s + 1)) t r → Tells A (at w u q l s) t r
+tells-read A w u u′ y q q′ l s t r a = record {
   status = a .status;
   state = a .state;
   store = a .store;
@@ -152,11 +152,11 @@ tells-read w u u′ y q q′ l s t r a = record {
 }
 
 -- t has no emission
-tells-last : (w u : List ℕ) (q : ℕ) (l : List Emission) (s : ℕ) (t : Trace) (b : Status) (w′ : List ℕ) (q′ s′ : ℕ) → b ≡ statusOf t → q′ ≡ stateOf t →
-    w′ ≡ heldOf t → [] ≡ logOf t → s′ + length w ≡ s + cost t → Tells (at w u q l s) t (record { status = b; final = at w′ [] q′ l s′ })
-tells-last w u q l s t b w′ q′ s′ p₁ p₂ p₃ p₄ p₅ = record {
+tells-last : (A : Automaton) (w u : List ℕ) (q : ℕ) (l : List Emission) (s : ℕ) (t : Trace) (b : Status) (w′ : List ℕ) (q′ s′ : ℕ) → b ≡ statusOf t → q′ ≡ after A 0 w′ →
+    w′ ≡ heldOf t → [] ≡ logOf t → s′ + length w ≡ s + cost t → Tells A (at w u q l s) t (record { status = b; final = at w′ [] q′ l s′ })
+tells-last A w u q l s t b w′ q′ s′ p₁ p₂ p₃ p₄ p₅ = record {
   status = p₁;
-  state = p₂;
+  state = p₂ ∙ ap (after A 0) p₃;
   store = p₃;
   unread = refl;
   log = sym (append-nil l) ∙ ap (λ z. l ++ z) p₄;
@@ -164,12 +164,12 @@ tells-last w u q l s t b w′ q′ s′ p₁ p₂ p₃ p₄ p₅ = record {
   due = refl;
 }
 
-tells-via : (c : Configuration) (t t′ : Trace) (r r′ : Ended) → t ≡ t′ → r ≡ r′ → Tells c t′ r′ → Tells c t r
-tells-via c t t′ r r′ p p′ a = rw (p, p′) a
+tells-via : (A : Automaton) (c : Configuration) (t t′ : Trace) (r r′ : Ended) → t ≡ t′ → r ≡ r′ → Tells A c t′ r′ → Tells A c t r
+tells-via A c t t′ r r′ p p′ a = rw (p, p′) a
 
 cost-least : (o : Round) (w u : List ℕ) (f : ℕ → Trace) → Span (length w) (length w + length u) o → length w ≤ cost (handle o (w ++ u) f)
 unfolding cost
-cost-least (waits q) w u f s = omega (arith, length-append w u)
+cost-least waits w u f s = omega (arith, length-append w u)
 cost-least closes w u f s = omega arith
 cost-least (stops d) w u f s = omega arith
 cost-least (accepts r d) w u f s =
@@ -209,7 +209,7 @@ module _ (A : Automaton) (L n : ℕ) (G : Good A L n) (e : Bool) (w u : List ℕ
 abbrev Holds : Automaton → Bool → ℕ → Type 0
 Holds A e b =
     (m : ℕ) (w u : List ℕ) (q : ℕ) (l : List Emission) (s : ℕ) (t : Trace) → Leads A 0 w → q ≡ after A 0 w → t ≡ trace A e 0 (w ++ u) →
-    cost t < b + length w → cost t < m + length w → Tells (at w u q l s) t (steps A e m (at w u q l s))
+    cost t < b + length w → cost t < m + length w → Tells A (at w u q l s) t (steps A e m (at w u q l s))
 
 module _ (A : Automaton) (L n : ℕ) (G : Good A L n) where
   -- in state 0 nothing is accepted, so what accepts has a store
@@ -228,16 +228,16 @@ module _ (A : Automaton) (L n : ℕ) (G : Good A L n) where
   module _ (e : Bool) (b : ℕ) (ih : Holds A e b) (m : ℕ) (w u : List ℕ) (q : ℕ) (l : List Emission) (s : ℕ) (t : Trace)
       (ld : Leads A 0 w) (p : q ≡ after A 0 w) (tr : t ≡ trace A e 0 (w ++ u)) (few : cost t < suc b + length w) (fuel : cost t < suc m + length w) where
     accept-case : (g : ℕ) → walk A e (length w) q u ≡ accepts g (length w) → w ≢ [] → step A e (at w u q l s) ≡ emit (at w u q l s) g →
-        Tells (at w u q l s) t (steps A e (suc m) (at w u q l s))
-    unfolding statusOf stateOf heldOf logOf cost
+        Tells A (at w u q l s) t (steps A e (suc m) (at w u q l s))
+    unfolding statusOf heldOf logOf cost
     accept-case g k h st =
         let c : Configuration = at w u q l s in
         let t′ : Trace = trace A e 0 u in
         let x : Emission = record { group = g; word = w } in
         let d : Configuration = at [] u 0 (l ++ x ∷ []) (s + 1) in
         let p′ : t ≡ accepting g w t′ = tr ∙ mid-accept A L n G e w u q ld p g k h in
-        tells-via c t (accepting g w t′) (steps A e (suc m) c) (steps A e m d) p′ (steps-onward A e m c d st)
-        (tells-emit w u q l s (s + 1) 1 x (accepting g w t′) t′ (steps A e m d) refl refl refl refl refl refl u
+        tells-via A c t (accepting g w t′) (steps A e (suc m) c) (steps A e m d) p′ (steps-onward A e m c d st)
+        (tells-emit A w u q l s (s + 1) 1 x (accepting g w t′) t′ (steps A e m d) refl refl refl refl refl u
         (ih m [] u 0 (l ++ x ∷ []) (s + 1) t′ tt after-nothing refl (omega (arith, ap cost p′)) (omega (arith, ap cost p′))))
 
   -- after a roll-back the store is unread again: the default takes one character, or the run stops
@@ -245,8 +245,8 @@ module _ (A : Automaton) (L n : ℕ) (G : Good A L n) where
       (ld : Leads A 0 w) (p : q ≡ after A 0 w) (tr : t ≡ trace A e 0 (w ++ u)) (few : cost t < suc b + length w)
       (st : step A e (at w u q l s) ≡ rollBack (at w u q l s)) where
     default-case : (m y : ℕ) (v : List ℕ) → A .default ≡ true → w ++ u ≡ y ∷ v → t ≡ defaulting (length w) y (trace A e 0 v) →
-        cost t < m + length w → Tells (at w u q l s) t (steps A e m (at w u q l s))
-    unfolding statusOf stateOf heldOf logOf cost
+        cost t < m + length w → Tells A (at w u q l s) t (steps A e m (at w u q l s))
+    unfolding statusOf heldOf logOf cost
     default-case zero y v pf pv p′ fuel = absurd (omega (arith, ap cost p′))
     default-case (suc zero) y v pf pv p′ fuel = absurd (omega (arith, ap cost p′))
     default-case (suc (suc zero)) y v pf pv p′ fuel = absurd (omega (arith, ap cost p′))
@@ -258,27 +258,27 @@ module _ (A : Automaton) (L n : ℕ) (G : Good A L n) where
         let c₂ : Configuration = dueAt (y ∷ []) v l (s + 1 + 1) in
         let c₃ : Configuration = at [] v 0 (l ++ x ∷ []) (s + 1 + 1 + 1) in
         let st₁ : step A e c ≡ onward c₁ = st ∙ ap (λ z. onward (dueAt [] z l (s + 1))) pv in
-        tells-via c t (defaulting (length w) y t′) (steps A e (suc (suc (suc m))) c) (steps A e m c₃) p′
+        tells-via A c t (defaulting (length w) y t′) (steps A e (suc (suc (suc m))) c) (steps A e m c₃) p′
         (steps-onward A e (suc (suc m)) c c₁ st₁ ∙ steps-onward A e (suc m) c₁ c₂ (due-read A e (y ∷ v) l (s + 1) pf)
         ∙ steps-onward A e m c₂ c₃ (due-emit A e v l (s + 1 + 1) y))
-        (tells-emit w u q l s (s + 1 + 1 + 1) 3 x (defaulting (length w) y t′) t′ (steps A e m c₃) (omega arith) refl refl refl refl refl v
+        (tells-emit A w u q l s (s + 1 + 1 + 1) 3 x (defaulting (length w) y t′) t′ (steps A e m c₃) (omega arith) refl refl refl refl v
         (ih m [] v 0 (l ++ x ∷ []) (s + 1 + 1 + 1) t′ tt after-nothing refl (omega (arith, ap cost p′)) (omega (arith, ap cost p′))))
 
     stop-case : (m : ℕ) → A .default ≡ false → t ≡ stopping (length w) → cost t < m + length w →
-        Tells (at w u q l s) t (steps A e m (at w u q l s))
-    unfolding statusOf stateOf heldOf logOf cost
+        Tells A (at w u q l s) t (steps A e m (at w u q l s))
+    unfolding statusOf heldOf logOf cost
     stop-case zero pf p′ fuel = absurd (omega (arith, ap cost p′))
     stop-case (suc zero) pf p′ fuel = absurd (omega (arith, ap cost p′))
     stop-case (suc (suc m)) pf p′ fuel =
         let c : Configuration = at w u q l s in
         let d : Configuration = dueAt [] (w ++ u) l (s + 1) in
         let f : Configuration = at [] [] 0 l (s + 1 + 1) in
-        tells-via c t (stopping (length w)) (steps A e (suc (suc m)) c) (record { status = Stopped; final = f }) p′
+        tells-via A c t (stopping (length w)) (steps A e (suc (suc m)) c) (record { status = Stopped; final = f }) p′
         (steps-onward A e (suc m) c d st ∙ steps-halt A e m d f Stopped (due-stop A e (w ++ u) l (s + 1) pf))
-        (tells-last w u q l s (stopping (length w)) Stopped [] 0 (s + 1 + 1) refl refl refl refl (omega arith))
+        (tells-last A w u q l s (stopping (length w)) Stopped [] 0 (s + 1 + 1) refl after-nothing refl refl (omega arith))
 
     back-case : (m : ℕ) (f : Bool) (y : ℕ) (v : List ℕ) → A .default ≡ f → w ++ u ≡ y ∷ v → walk A e (length w) q u ≡ back f (length w) →
-        cost t < m + length w → Tells (at w u q l s) t (steps A e m (at w u q l s))
+        cost t < m + length w → Tells A (at w u q l s) t (steps A e m (at w u q l s))
     back-case m true y v pf pv k fuel = default-case m y v pf pv (tr ∙ mid-default A L n G e w u q ld p y v k pv) fuel
     back-case m false y v pf pv k fuel = stop-case m pf (tr ∙ mid-stop A L n G e w u q ld p k) fuel
 
@@ -286,7 +286,7 @@ module _ (A : Automaton) (L n : ℕ) (G : Good A L n) where
   module _ (e : Bool) (b : ℕ) (ih : Holds A e b) (m : ℕ) (w : List ℕ) (y : ℕ) (u : List ℕ) (q : ℕ) (l : List Emission) (s : ℕ) (t : Trace)
       (ld : Leads A 0 w) (p : q ≡ after A 0 w) (tr : t ≡ trace A e 0 (w ++ y ∷ u))
       (few : cost t < suc b + length w) (fuel : cost t < suc m + length w) where
-    character-case : (g k : ℕ) → A .accept q ≡ g → A .target q y ≡ k → Tells (at w (y ∷ u) q l s) t (steps A e (suc m) (at w (y ∷ u) q l s))
+    character-case : (g k : ℕ) → A .accept q ≡ g → A .target q y ≡ k → Tells A (at w (y ∷ u) q l s) t (steps A e (suc m) (at w (y ∷ u) q l s))
     unfolding walk
     character-case (suc r) k pg pk =
         accept-case e b ih m w (y ∷ u) q l s t ld p tr few fuel r (rw pg) (accept-store w q r p pg) (step-accept A e w y u q l s r pg)
@@ -294,14 +294,14 @@ module _ (A : Automaton) (L n : ℕ) (G : Good A L n) where
         let h : A .target (after A 0 w) y ≡ suc k = rw (← p) pk in
         let c : Configuration = at w (y ∷ u) q l s in
         let d : Configuration = at (w ++ y ∷ []) u (suc k) l (s + 1) in
-        tells-via c t t (steps A e (suc m) c) (steps A e m d) refl (steps-onward A e m c d (step-read A e w y u q l s k pg pk))
-        (tells-read w (y ∷ u) u y q (suc k) l s t (steps A e m d)
+        tells-via A c t t (steps A e (suc m) c) (steps A e m d) refl (steps-onward A e m c d (step-read A e w y u q l s k pg pk))
+        (tells-read A w (y ∷ u) u y q (suc k) l s t (steps A e m d)
         (ih m (w ++ y ∷ []) u (suc k) l (s + 1) t (leads-snoc A 0 w y ld (omega arith)) (sym h ∙ sym (after-snoc A 0 w y))
         (tr ∙ ap (trace A e 0) (sym (append-assoc w (y ∷ []) u)))
         (omega (arith, length-append w (y ∷ []))) (omega (arith, length-append w (y ∷ [])))))
     character-case zero zero pg pk = back-now (w ++ y ∷ u) refl
       where
-        back-now : (v : List ℕ) → w ++ y ∷ u ≡ v → Tells (at w (y ∷ u) q l s) t (steps A e (suc m) (at w (y ∷ u) q l s))
+        back-now : (v : List ℕ) → w ++ y ∷ u ≡ v → Tells A (at w (y ∷ u) q l s) t (steps A e (suc m) (at w (y ∷ u) q l s))
         back-now [] h = absurd (omega (arith, length-append w (y ∷ u), ap length h))
         back-now (z ∷ v) h =
             back-case e b ih w (y ∷ u) q l s t ld p tr few (step-back A e w y u q l s pg pk) (suc m) (A .default) z v refl h (rw (pg, pk)) fuel
@@ -310,30 +310,30 @@ module _ (A : Automaton) (L n : ℕ) (G : Good A L n) where
   module _ (b : ℕ) (ih : Holds A false b) (m : ℕ) (w : List ℕ) (q : ℕ) (l : List Emission) (s : ℕ) (t : Trace)
       (ld : Leads A 0 w) (p : q ≡ after A 0 w) (tr : t ≡ trace A false 0 (w ++ []))
       (few : cost t < suc b + length w) (fuel : cost t < suc m + length w) where
-    open-case : (h : Bool) → settled A q ≡ h → Tells (at w [] q l s) t (steps A false (suc m) (at w [] q l s))
-    unfolding walk statusOf stateOf heldOf logOf cost
+    open-case : (h : Bool) → settled A q ≡ h → Tells A (at w [] q l s) t (steps A false (suc m) (at w [] q l s))
+    unfolding walk statusOf heldOf logOf cost
     open-case true h =
         accept-case false b ih m w [] q l s t ld p tr few fuel (pred (A .accept q)) (rw h)
         (let k = settled-both A q (to-T (settled A q) h) in accept-store w q (k .0) p (k .1)) (step-settled A w q l s h)
     open-case false h =
         let c : Configuration = at w [] q l s in
-        tells-via c t (waiting q w) (steps A false (suc m) c) (record { status = Open; final = c })
+        tells-via A c t (waiting w) (steps A false (suc m) c) (record { status = Open; final = c })
         (tr ∙ trace-mid A L n G false w [] q ld p ∙ rw (h, append-nil)) (steps-halt A false m c c Open (step-wait A w q l s h))
-        (tells-last w [] q l s (waiting q w) Open w q s refl refl refl refl refl)
+        (tells-last A w [] q l s (waiting w) Open w q s refl p refl refl refl)
 
   -- nothing is unread, and the input has ended
   end-case : (b : ℕ) → Holds A true b → (m : ℕ) (w : List ℕ) (q : ℕ) (l : List Emission) (s : ℕ) (t : Trace) →
       Leads A 0 w → q ≡ after A 0 w → t ≡ trace A true 0 (w ++ []) → cost t < suc b + length w → cost t < suc m + length w →
-      (k : ℕ) → A .acceptAtEnd q ≡ k → Tells (at w [] q l s) t (steps A true (suc m) (at w [] q l s))
-  unfolding walk statusOf stateOf heldOf logOf cost
+      (k : ℕ) → A .acceptAtEnd q ≡ k → Tells A (at w [] q l s) t (steps A true (suc m) (at w [] q l s))
+  unfolding walk statusOf heldOf logOf cost
   end-case b ih m w q l s t ld p tr few fuel (suc r) k =
       accept-case true b ih m w [] q l s t ld p tr few fuel r (rw k) (end-store w q r p k) (step-end A w q l s r k)
   end-case b ih m [] q l s t ld p tr few fuel zero k =
       let c : Configuration = at [] [] q l s in
       let d : Configuration = at [] [] 0 l (s + 1) in
-      tells-via c t closing (steps A true (suc m) c) (record { status = Closed; final = d })
+      tells-via A c t closing (steps A true (suc m) c) (record { status = Closed; final = d })
       (tr ∙ trace-mid A L n G true [] [] q ld p ∙ rw k) (steps-halt A true m c d Closed (step-close A q l s k))
-      (tells-last [] [] q l s closing Closed [] 0 (s + 1) refl refl refl refl (omega arith))
+      (tells-last A [] [] q l s closing Closed [] 0 (s + 1) refl after-nothing refl refl (omega arith))
   end-case b ih m (y ∷ w) q l s t ld p tr few fuel zero k =
       back-case true b ih (y ∷ w) [] q l s t ld p tr few (step-giveBack A q l s y w k) (suc m) (A .default) y w refl (append-nil (y ∷ w)) (rw k) fuel
 
@@ -347,7 +347,7 @@ module _ (A : Automaton) (L n : ℕ) (G : Good A L n) where
 
   -- the same with fuel that always suffices
   fuel-tells : L ≤ 8 → (e : Bool) (w u : List ℕ) (q : ℕ) → Leads A 0 w → q ≡ after A 0 w → (m : ℕ) → 11 * (length w + length u + 1) ≤ m →
-      Tells (start w u q) (trace A e 0 (w ++ u)) (steps A e m (start w u q))
+      Tells A (start w u q) (trace A e 0 (w ++ u)) (steps A e m (start w u q))
   fuel-tells h e w u q ld p m enough =
       let eleven : L + 3 ≤ 11 = omega arith in
       let few : cost (trace A e 0 (w ++ u)) < m + length w =
@@ -355,7 +355,7 @@ module _ (A : Automaton) (L n : ℕ) (G : Good A L n) where
       tells e m m w u q [] 0 (trace A e 0 (w ++ u)) ld p refl few few
 
   pub run-tells : L ≤ 8 → (e : Bool) (w u : List ℕ) (q : ℕ) → Leads A 0 w → q ≡ after A 0 w →
-      Tells (start w u q) (trace A e 0 (w ++ u)) (run A e (start w u q))
+      Tells A (start w u q) (trace A e 0 (w ++ u)) (run A e (start w u q))
   unfolding run
   run-tells h e w u q ld p = fuel-tells h e w u q ld p (11 * (length w + length u + 1)) (omega arith)
 
@@ -363,7 +363,7 @@ module _ (A : Automaton) (L n : ℕ) (G : Good A L n) where
   pub fuel-enough : L ≤ 8 → (e : Bool) (w u : List ℕ) (q : ℕ) → Leads A 0 w → q ≡ after A 0 w → (m : ℕ) → 11 * (length w + length u + 1) ≤ m →
       steps A e m (start w u q) ≡ run A e (start w u q)
   fuel-enough h e w u q ld p m enough =
-      tells-unique (start w u q) (trace A e 0 (w ++ u)) (steps A e m (start w u q)) (run A e (start w u q)) (fuel-tells h e w u q ld p m enough)
+      tells-unique A (start w u q) (trace A e 0 (w ++ u)) (steps A e m (start w u q)) (run A e (start w u q)) (fuel-tells h e w u q ld p m enough)
       (run-tells h e w u q ld p)
 
   -- a run that ends open is waiting
@@ -372,12 +372,44 @@ module _ (A : Automaton) (L n : ℕ) (G : Good A L n) where
   run-waits h w u q ld p o =
       let t : Trace = trace A false 0 (w ++ u) in
       let c : Configuration = run A false (start w u q) .final in
-      let a : Tells (start w u q) t (run A false (start w u q)) = run-tells h false w u q ld p in
+      let a : Tells A (start w u q) t (run A false (start w u q)) = run-tells h false w u q ld p in
       let rests = rests-open A t (trace-rests A L n G 0 (w ++ u)) (sym (a .status) ∙ o) in
       let is : at (c .store) [] (c .state) (c .log) (c .steps) ≡ c =
       λ i. record { store = c .store; unread = sym (a .unread) i; state = c .state; due = sym (a .due) i; log = c .log; steps = c .steps } in
-      subst (λ d. step A false d ≡ halt Open d) is (step-wait A (c .store) (c .state) (c .log) (c .steps) (ap (settled A) (a .state) ∙ rests .2))
+      subst (λ d. step A false d ≡ halt Open d) is (step-wait A (c .store) (c .state) (c .log) (c .steps) (ap (settled A) (a .state) ∙ rests .1))
 
   -- with the end known no run ends open
   pub run-ends : L ≤ 8 → (w u : List ℕ) (q : ℕ) → Leads A 0 w → q ≡ after A 0 w → run A true (start w u q) .status ≢ Open
   run-ends h w u q ld p o = not-open (statusOf (trace A true 0 (w ++ u))) (trace-ended A 0 (w ++ u)) (sym (run-tells h true w u q ld p .status) ∙ o)
+
+-- Before the input's end no run closes: each of its steps leads on, waits or stops.
+
+abbrev pub NotClosed : Status → Type 0
+NotClosed Open = Unit {0}
+NotClosed Closed = ⊥
+NotClosed Stopped = Unit {0}
+
+abbrev LeadsOn : Step → Type 0
+LeadsOn (onward c) = Unit {0}
+LeadsOn (halt s c) = NotClosed s
+
+step-leads : (A : Automaton) (c : Configuration) → LeadsOn (step A false c)
+unfolding step fallBack
+step-leads A c =
+    by-cases LeadsOn _ (end Closed c) (
+      λ _. by-cases LeadsOn _ (end Stopped c) (λ _. tt, λ _. (λ _. tt, λ _. tt)),
+      λ _. (λ _. tt, λ _. (λ _. tt, λ _. (λ _. tt, λ _. (λ _. tt, λ _. (λ _. tt, λ z. absurd z))))),
+    )
+
+follow-leads : (d : Step) (f : Configuration → Ended) → LeadsOn d → ((c : Configuration) → NotClosed (f c .status)) → NotClosed (follow d f .status)
+follow-leads (onward c) f h k = k c
+follow-leads (halt s c) f h k = h
+
+steps-lead : (A : Automaton) (n : ℕ) (c : Configuration) → NotClosed (steps A false n c .status)
+unfolding steps
+steps-lead A zero c = tt
+steps-lead A (suc n) c = follow-leads (step A false c) (λ d. steps A false n d) (step-leads A c) (λ d. steps-lead A n d)
+
+pub run-unended : (A : Automaton) (c : Configuration) → NotClosed (run A false c .status)
+unfolding run
+run-unended A c = steps-lead A (11 * (length (c .store) + length (c .unread) + 1)) c

@@ -12,7 +12,7 @@ use borrow.Author.Tests.{eq-eqb, ne-eqb}
 use lib.Dec.{T, eqb, ltb, eqb→eq, ltb→lt, nltb→le}
 use lib.ListN.{length, getD, set, take, drop, length-take, length-drop, List·getD-eq-default}
 use lib.Seq.{length-take-le, getD-take, getD-drop}
-use Rattle.lists.specs.Lists.{Each, sumBelow, pad}
+use Rattle.lists.specs.Lists.{Each, sumBelow, tabFrom, pad}
 use Rattle.lists.proofs.Laws.Tests.{to-T, eq→eqb, ne→neqb, neqb→ne, split, implied, to-implies, holds, to-allOf}
 use Rattle.lists.proofs.Laws.Each.{each-weaken, each-places, each-anywhere, all-each, each-all}
 use Rattle.lists.proofs.Laws.Parts.{pad-zeros}
@@ -67,13 +67,17 @@ module _ (found : List ℕ) where
       set (usesAfter found log) g (getD (usesAfter found log) g 0 + 1) ≡ usesAfter found (log ++ (record { group = g; word = word } ∷ []))
   uses-emitted log g word h = uses-more log (record { group = g; word = word } ∷ []) g h (refl, tt)
 
+  -- the counts after one log and then another
+  pub uses-join : (a b : List Emission) → usesAfter (usesAfter found a) b ≡ usesAfter found (a ++ b)
+  uses-join a b =
+      tab-is (λ g. at (usesAfter found a) g + emitsOf g b) useCounts (usesAfter found (a ++ b)) 0 (length-uses (a ++ b))
+      (λ g h. omega (arith, uses-at a g h, uses-at (a ++ b) g h, count-append (isOf g) a b))
+
 pub uses-append : (a b : List Emission) → usesAfter (usesOf a) b ≡ usesOf (a ++ b)
-uses-append a b =
-    tab-is (λ g. at (usesOf a) g + emitsOf g b) useCounts (usesOf (a ++ b)) 0 (length-tab (λ g. emitsOf g (a ++ b)) 0 useCounts)
-    (λ g h. ap (λ n. n + emitsOf g b) (of-log a g h) ∙ sym (count-append (isOf g) a b) ∙ sym (of-log (a ++ b) g h))
+uses-append a b = ap (λ u. usesAfter u b) (sym (from-none a)) ∙ uses-join [] a b ∙ from-none (a ++ b)
   where
-    of-log : (log : List Emission) (g : ℕ) → g < useCounts → at (usesOf log) g ≡ emitsOf g log
-    of-log log g h = getD-tab (λ k. emitsOf k log) 0 useCounts g 0 h ∙ ap (λ k. emitsOf k log) (zero-add g)
+    from-none : (log : List Emission) → usesAfter [] log ≡ usesOf log
+    from-none log = λ i. tabFrom 0 useCounts (λ g. zero-add (emitsOf g log) i)
 
 -- Sound counts, as facts.
 
@@ -132,7 +136,7 @@ Fit w e =
 
 -- the same of a round, for the number of characters read
 abbrev Sized : List ℕ → Round → Type 0
-Sized w (waits q) = Unit {0}
+Sized w waits = Unit {0}
 Sized w closes = Unit {0}
 Sized w (stops d) = Unit {0}
 Sized w (accepts r d) = Names w d (suc r)
@@ -154,7 +158,7 @@ module _ (w : List ℕ) (W : T (sound w)) where
   unfolding fromWords
   default-known p = eqb→eq (at w 5) 1 (to-T (eqb (at w 5) 1) p)
 
-  sized-wait : (h : Bool) (d q : ℕ) → q < stateCount w → depthWord w q ≡ d → settled A q ≡ h → Sized w (onWait h (A .accept q) d q)
+  sized-wait : (h : Bool) (d q : ℕ) → q < stateCount w → depthWord w q ≡ d → settled A q ≡ h → Sized w (onWait h (A .accept q) d)
   sized-wait true d q i p k =
       let b = settled-both A q (to-T (settled A q) k) in rw (b .1) (accept-sized q (b .0) d i p (b .1))
   sized-wait false d q i p k = tt
@@ -181,7 +185,7 @@ module _ (w : List ℕ) (W : T (sound w)) where
   round-fits : (o : Round) (x : ℕ) (u : List ℕ) (f : ℕ → Trace) → Sized w o → Span 0 (0 + length (x ∷ u)) o → ((k : ℕ) → Each (Fit w) (logOf (f k))) →
       Each (Fit w) (logOf (handle o (x ∷ u) f))
   unfolding logOf
-  round-fits (waits q) x u f z s h = tt
+  round-fits waits x u f z s h = tt
   round-fits closes x u f z s h = tt
   round-fits (stops d) x u f z s h = tt
   round-fits (accepts r d) x u f z s h = (inl (z .known, length-take-le d (x ∷ u) (omega arith) ∙ sym (z .size)), h (pred d))

@@ -12,7 +12,7 @@ use lib.ListN.{length, length-append}
 use Rattle.lists.proofs.Laws.Each.{each-front}
 use Rattle.meaning.specs.Table.{Characters, Table}
 use Rattle.automaton.specs.Automaton.{Automaton}
-use Rattle.automaton.proofs.Laws.Good.{after, Leads, Good, Least, Free, Reads}
+use Rattle.automaton.proofs.Laws.Good.{after, after-snoc, Leads, leads-snoc, Good, go-none, Least, Free, Reads}
 use Rattle.reckoning.specs.Session.{settled}
 use Rattle.reckoning.proofs.Laws.Trace.{Round, waits, closes, stops, accepts, defaults, back, onCharacter, onWait, onEnd, onNothing, walk}
 
@@ -33,18 +33,6 @@ settled-both A q t = split (A .accept q) refl (rw (settled-hit A q (A .accept q)
     split zero p h = absurd h
     split (suc r) p h = (r, p, sym (eqb→eq (suc r) (A .acceptAtEnd q) h))
 
--- one more character
-
-pub after-snoc : (A : Automaton) (q : ℕ) (w : List ℕ) (y : ℕ) → after A q (w ++ y ∷ []) ≡ A .target (after A q w) y
-unfolding after
-after-snoc A q [] y = refl
-after-snoc A q (z ∷ w) y = after-snoc A (A .target q z) w y
-
-pub leads-snoc : (A : Automaton) (q : ℕ) (w : List ℕ) (y : ℕ) → Leads A q w → A .target (after A q w) y ≢ 0 → Leads A q (w ++ y ∷ [])
-unfolding after
-leads-snoc A q [] y l h = (h, tt)
-leads-snoc A q (z ∷ w) y l h = (l .0, leads-snoc A (A .target q z) w y (l .1) h)
-
 -- cases of one character
 
 on-read : (g t : ℕ) (b : Bool) (d : ℕ) (f : ℕ → Round) → g ≡ 0 → t ≢ 0 → onCharacter g t b d f ≡ f t
@@ -61,25 +49,18 @@ on-character-elim P zero zero false d f h k x y = y
 
 -- a walk over w ++ u goes on from the state after w
 module _ (A : Automaton) (L n : ℕ) (G : Good A L n) where
-  pub go-none : (q x : ℕ) → q < n → A .target q x ≢ 0 → A .accept q ≡ 0
-  go-none q x h t = split (A .accept q) refl
-    where
-      split : (g : ℕ) → A .accept q ≡ g → g ≡ 0
-      split zero e = refl
-      split (suc r) e = absurd (t (G .no-way-on q x h (omega arith)))
-
   pub walk-resume : (e : Bool) (d q : ℕ) (w u : List ℕ) → q < n → Leads A q w → walk A e d q (w ++ u) ≡ walk A e (d + length w) (after A q w) u
   unfolding walk after
   walk-resume e d q [] u h l = rw add-zero
   walk-resume e d q (x ∷ w) u h l =
-      on-read (A .accept q) (A .target q x) (A .default) d (λ p. walk A e (suc d) p (w ++ u)) (go-none q x h (l .0)) (l .0)
+      on-read (A .accept q) (A .target q x) (A .default) d (λ p. walk A e (suc d) p (w ++ u)) (go-none A L n G q x h (l .0)) (l .0)
       ∙ walk-resume e (suc d) (A .target q x) w u (G .inside q x h) (l .1)
       ∙ ap (λ (m : ℕ). walk A e m (after A (A .target q x) w) u) (omega arith)
 
 -- a walk that does not wait is the same over every longer input, ended or not
 
 abbrev pub Firm : Round → Type 0
-Firm (waits q) = ⊥
+Firm waits = ⊥
 Firm closes = Unit {0}
 Firm (stops d) = Unit {0}
 Firm (accepts r d) = Unit {0}
@@ -93,23 +74,23 @@ on-character-mono zero zero b d f f′ h k = refl
 
 -- a settled state accepts the same rule whatever comes
 
-wait-character : (h : Bool) (g m t d q : ℕ) (b : Bool) (f : ℕ → Round) → (T h → (r : ℕ) × (g ≡ suc r) × (m ≡ suc r)) →
-    Firm (onWait h g d q) → onCharacter g t b d f ≡ onWait h g d q
-wait-character true g m t d q b f s k = rw (s tt .1)
-wait-character false g m t d q b f s k = absurd k
+wait-character : (h : Bool) (g m t d : ℕ) (b : Bool) (f : ℕ → Round) → (T h → (r : ℕ) × (g ≡ suc r) × (m ≡ suc r)) →
+    Firm (onWait h g d) → onCharacter g t b d f ≡ onWait h g d
+wait-character true g m t d b f s k = rw (s tt .1)
+wait-character false g m t d b f s k = absurd k
 
-wait-end : (h : Bool) (g m d q : ℕ) (b : Bool) → (T h → (r : ℕ) × (g ≡ suc r) × (m ≡ suc r)) →
-    Firm (onWait h g d q) → onEnd m b d ≡ onWait h g d q
-wait-end true g m d q b s k = rw (s tt .1, s tt .2)
-wait-end false g m d q b s k = absurd k
+wait-end : (h : Bool) (g m d : ℕ) (b : Bool) → (T h → (r : ℕ) × (g ≡ suc r) × (m ≡ suc r)) →
+    Firm (onWait h g d) → onEnd m b d ≡ onWait h g d
+wait-end true g m d b s k = rw (s tt .1, s tt .2)
+wait-end false g m d b s k = absurd k
 
 module _ (A : Automaton) where
   nothing-mono : (e : Bool) (d q : ℕ) (v : List ℕ) → Firm (walk A false d q []) → walk A e d q v ≡ walk A false d q []
   unfolding walk
   nothing-mono false d q [] k = refl
-  nothing-mono true d q [] k = wait-end (settled A q) (A .accept q) (A .acceptAtEnd q) d q (A .default) (settled-both A q) k
+  nothing-mono true d q [] k = wait-end (settled A q) (A .accept q) (A .acceptAtEnd q) d (A .default) (settled-both A q) k
   nothing-mono e d q (x ∷ v) k =
-      wait-character (settled A q) (A .accept q) (A .acceptAtEnd q) (A .target q x) d q (A .default) (λ p. walk A e (suc d) p v) (settled-both A q) k
+      wait-character (settled A q) (A .accept q) (A .acceptAtEnd q) (A .target q x) d (A .default) (λ p. walk A e (suc d) p v) (settled-both A q) k
 
   pub walk-mono : (e : Bool) (d q : ℕ) (u v : List ℕ) → Firm (walk A false d q u) → walk A e d q (u ++ v) ≡ walk A false d q u
   unfolding walk
@@ -120,22 +101,22 @@ module _ (A : Automaton) where
 
 -- how far a walk reaches: at least lo reads, at most hi
 abbrev pub Span : ℕ → ℕ → Round → Type 0
-Span lo hi (waits q) = Unit {0}
+Span lo hi waits = Unit {0}
 Span lo hi closes = lo ≤ 0
 Span lo hi (stops d) = (lo ≤ d) × (d ≤ hi)
 Span lo hi (accepts r d) = (lo ≤ d) × (d ≤ hi)
 Span lo hi (defaults d) = (lo ≤ d) × (d ≤ hi)
 
 pub span-weaken : (o : Round) (lo lo′ hi hi′ : ℕ) → lo′ ≤ lo → hi ≤ hi′ → Span lo hi o → Span lo′ hi′ o
-span-weaken (waits q) lo lo′ hi hi′ p q′ s = tt
+span-weaken waits lo lo′ hi hi′ p q′ s = tt
 span-weaken closes lo lo′ hi hi′ p q s = omega arith
 span-weaken (stops d) lo lo′ hi hi′ p q s = omega arith
 span-weaken (accepts r d) lo lo′ hi hi′ p q s = omega arith
 span-weaken (defaults d) lo lo′ hi hi′ p q s = omega arith
 
-span-wait : (b : Bool) (g d q hi : ℕ) → d ≤ hi → Span d hi (onWait b g d q)
-span-wait true g d q hi h = omega arith
-span-wait false g d q hi h = tt
+span-wait : (b : Bool) (g d hi : ℕ) → d ≤ hi → Span d hi (onWait b g d)
+span-wait true g d hi h = omega arith
+span-wait false g d hi h = tt
 
 span-back : (b : Bool) (d hi : ℕ) → d ≤ hi → Span d hi (back b d)
 span-back true d hi h = omega arith
@@ -148,7 +129,7 @@ span-end zero b (suc d) hi h = span-back b (suc d) hi h
 
 module _ (A : Automaton) where
   span-nothing : (e : Bool) (d q hi : ℕ) → d ≤ hi → Span d hi (onNothing A e d q)
-  span-nothing false d q hi h = span-wait (settled A q) (A .accept q) d q hi h
+  span-nothing false d q hi h = span-wait (settled A q) (A .accept q) d hi h
   span-nothing true d q hi h = span-end (A .acceptAtEnd q) (A .default) d hi h
 
   pub walk-span : (e : Bool) (d q : ℕ) (u : List ℕ) → Span d (d + length u) (walk A e d q u)
@@ -164,15 +145,15 @@ module _ (A : Automaton) where
 
 -- over a non-empty input a round does not close, and has read something when it accepts
 abbrev pub Takes : Round → Type 0
-Takes (waits q) = Unit {0}
+Takes waits = Unit {0}
 Takes closes = ⊥
 Takes (stops d) = Unit {0}
 Takes (accepts r d) = 1 ≤ d
 Takes (defaults d) = Unit {0}
 
-takes-wait : (b : Bool) (g d q : ℕ) → Takes (onWait b g (suc d) q)
-takes-wait true g d q = omega arith
-takes-wait false g d q = tt
+takes-wait : (b : Bool) (g d : ℕ) → Takes (onWait b g (suc d))
+takes-wait true g d = omega arith
+takes-wait false g d = tt
 
 takes-back : (b : Bool) (d : ℕ) → Takes (back b d)
 takes-back true d = tt
@@ -184,7 +165,7 @@ takes-end zero b d = takes-back b (suc d)
 
 takes-later : (A : Automaton) (e : Bool) (d q : ℕ) (u : List ℕ) → Takes (walk A e (suc d) q u)
 unfolding walk
-takes-later A false d q [] = takes-wait (settled A q) (A .accept q) d q
+takes-later A false d q [] = takes-wait (settled A q) (A .accept q) d
 takes-later A true d q [] = takes-end (A .acceptAtEnd q) (A .default) d
 takes-later A e d q (x ∷ u) =
     on-character-elim Takes (A .accept q) (A .target q x) (A .default) (suc d) (λ p. walk A e (suc (suc d)) p u)
@@ -192,7 +173,7 @@ takes-later A e d q (x ∷ u) =
 
 -- where a walk waits: in the state after all of u, to which u leads, and which is not settled
 abbrev pub Waited : Automaton → ℕ → List ℕ → Round → Type 0
-Waited A q u (waits p) = (p ≡ after A q u) × Leads A q u × (settled A p ≡ false)
+Waited A q u waits = Leads A q u × (settled A (after A q u) ≡ false)
 Waited A q u closes = Unit {0}
 Waited A q u (stops d) = Unit {0}
 Waited A q u (accepts r d) = Unit {0}
@@ -200,17 +181,17 @@ Waited A q u (defaults d) = Unit {0}
 
 waited-cons : (A : Automaton) (q x : ℕ) (u : List ℕ) (o : Round) → A .target q x ≢ 0 → Waited A (A .target q x) u o → Waited A q (x ∷ u) o
 unfolding after
-waited-cons A q x u (waits p) t w = (w .0, (t, w .1), w .2)
+waited-cons A q x u waits t w = ((t, w .0), w .1)
 waited-cons A q x u closes t w = tt
 waited-cons A q x u (stops d) t w = tt
 waited-cons A q x u (accepts r d) t w = tt
 waited-cons A q x u (defaults d) t w = tt
 
 module _ (A : Automaton) where
-  waited-nothing : (h : Bool) (d q : ℕ) → settled A q ≡ h → Waited A q [] (onWait h (A .accept q) d q)
+  waited-nothing : (h : Bool) (d q : ℕ) → settled A q ≡ h → Waited A q [] (onWait h (A .accept q) d)
   unfolding after
   waited-nothing true d q p = tt
-  waited-nothing false d q p = (refl, tt, p)
+  waited-nothing false d q p = (tt, p)
 
   pub walk-waited : (d q : ℕ) (u : List ℕ) → Waited A q u (walk A false d q u)
   unfolding walk

@@ -22,12 +22,12 @@ use Rattle.words.specs.declared.numbers.StateNo.{StateNo}
 use Rattle.automaton.proofs.Laws.Words.{sound-state, sound-class, sound-good}
 use Rattle.reckoning.specs.Uses.{useCounts}
 use Rattle.session.specs.bridge.Counting.{bumped}
-use Rattle.session.specs.bridge.Running.{firstOf, Placed, Lent, lent, Proceeds, Beyond, Passes, PassesByDefaults, Between, ReadsOn, readTo, Read, Back}
+use Rattle.session.specs.bridge.Running.{put, firstOf, Placed, Lent, lent, Proceeds, Beyond, Passes, PassesByDefaults, Between, ReadsOn, readTo, Read, Back}
 use Rattle.session.specs.declared.kept.Status.the-variants as Code
 use Rattle.session.specs.declared.run.Ran.{Ran}
 use Rattle.session.specs.declared.run.Ahead.{Ahead}
 use Rattle.session.proofs.Laws.Counting.{bumped-none, bumped-again}
-use Rattle.session.proofs.Laws.Running.{first-at, character-backs, character-reads, decides-character, turn-room, default-words, advances-read, advances-default, beyond-on}
+use Rattle.session.proofs.Laws.Running.{first-at, character-backs, character-reads, decides-character, turn-room, turn-small, default-words, advances-read, advances-default, beyond-on}
 use Rattle.automaton.specs.Layout.{classesFrom}
 
 -- one more place of a table is filled
@@ -109,7 +109,7 @@ passes-same w u room old new has P e₁ e₂ e₃ e₄ e₅ =
         runs = rw (e₁, e₂, e₃, e₅) (G .runs);
         covers = G .covers ∙ sym e₂;
         count = e₄ ∙ G .count;
-        text = ap (λ k. take k (has .output)) e₄ ∙ G .text;
+        text = λ any. ap (λ k. take k (has .output)) e₄ ∙ G .text any;
         uses = G .uses;
       },
     )
@@ -228,7 +228,7 @@ module _ (w u : List ℕ) (n count made : ℕ) (before : List ℕ) where
   pub defaulted-next : T (sound w) → at w 5 ≡ 1 → (m written more : ℕ) (between : List ℕ) → length between ≡ length before →
       Defaulted w u n count made before m written more between → m < length u → targetWord w 0 (classIn w (getD u m 0)) ≡ 0 → (m′ written′ more′ : ℕ) (after : List ℕ) →
       m′ ≡ m + 1 → written′ ≡ written + at (blockAt w 32) 2 → more′ ≡ more + 3 →
-      after ≡ take written between ++ blockOutput (blockAt w 32) (take 1 (drop m u)) ++ drop (written + at (blockAt w 32) 2) between →
+      after ≡ put between written (blockOutput (blockAt w 32) (take 1 (drop m u))) →
       Defaulted w u n count made before m′ written′ more′ after
   defaulted-next W one m written more between size f some none m′ written′ more′ after p₁ p₂ p₃ wrote now e₁ e₂ e₃ e₄ P =
       let x = getD u m 0 in
@@ -259,10 +259,12 @@ module _ (w u : List ℕ) (n count made : ℕ) (before : List ℕ) where
 
   -- the default has room
   pub defaulted-room : (now : Ran) → now .from ≡ n → now .at ≡ n → now .count ≡ count → now .steps ≡ made → Placed w u (length before) now → (m written more : ℕ) (after : List ℕ) →
-      Defaulted w u n count made before m written more after → m < length u → (k : ℕ) → k ≤ expansionWord w → written + k ≤ length before
-  defaulted-room now e₁ e₂ e₃ e₄ P m written more after f some k few =
+      Defaulted w u n count made before m written more after → m < length u → T (sound w) → (k : ℕ) → k ≤ expansionWord w →
+      (1 ≤ length before → written + k ≤ length before) × (written + 8 < 18446744073709551616)
+  defaulted-room now e₁ e₂ e₃ e₄ P m written more after f some W k few =
       let new = betweenAt now m written more in
-      turn-room w u (length before) new (defaulted-placed w u (length before) now new before after (m - n) (f now e₁ e₂ e₃ e₄ P .1)) some k few
+      let placed = defaulted-placed w u (length before) now new before after (m - n) (f now e₁ e₂ e₃ e₄ P .1) in
+      (turn-room w u (length before) new placed some k few, turn-small w u (length before) new W placed)
 
   pub defaulted-end : T (sound w) → (now : Ran) → now .from ≡ n → now .at ≡ n → now .count ≡ count → now .steps ≡ made → Placed w u (length before) now →
       (m written more : ℕ) (after : List ℕ) → Defaulted w u n count made before m written more after → (new : Ran) → Between m written more new →

@@ -5,7 +5,7 @@ use mathlib.Core.List.{List, [], _∷_, _++_, append-nil}
 use mathlib.Core.Logic.{_≢_}
 use mathlib.Core.Path.{_≡_, refl, sym, ap, subst, _∙_}
 use Prim.Native.Nat.{ℕ, zero, suc, pred, _+_, _*_, _-_, _≤_, _<_}
-use native.Mathlib.Nat.{mul-le-mul-left}
+use native.Mathlib.Nat.{mul-le-mul, mul-le-mul-left}
 use native.Mathlib.Omega.{arith}
 use lib.Dec.{T, eqb, eqb→eq}
 use lib.ListN.{length, getD, set, take, drop, length-append, length-drop, take-append-drop, drop-of-length-le}
@@ -28,7 +28,7 @@ use Rattle.reckoning.specs.Uses.{useCounts, usesAfter}
 use Rattle.reckoning.specs.Session.{path, isAt}
 use Rattle.session.specs.Keeping.{meantStatus}
 use Rattle.session.specs.bridge.Counting.{bumped, Counted}
-use Rattle.session.specs.bridge.Running.{firstOf, standing, stepBy, Fits, Decides, storeOf, Placed, Lent, Going, EndsAs, left, Proceeds, Advances, Beyond, Move, Emit, Read, Back, Wait, Close}
+use Rattle.session.specs.bridge.Running.{put, firstOf, standing, stepBy, Fits, Decides, storeOf, Placed, Lent, Going, EndsAs, left, Proceeds, Advances, Beyond, Move, Emit, Read, Back, Wait, Close}
 use Rattle.session.specs.declared.run.Ran.{Ran}
 use Rattle.reckoning.proofs.Laws.Run.{step-accept, step-read, step-back, due-read, due-stop, due-emit, steps-onward, steps-halt, fuel-enough}
 use Rattle.reckoning.proofs.Laws.Uses.{uses-none, uses-emitted}
@@ -169,31 +169,61 @@ module _ (write : ℕ → List ℕ → List ℕ) (log : List Emission) (g : ℕ)
   unfolding covered
   covers-one = let h : covered (log ++ (emission ∷ [])) ≡ covered log + covered (emission ∷ []) = covered-append log (emission ∷ []) in omega arith
 
-placed-text : (before out after : List ℕ) (n k : ℕ) → n ≤ length before → length out ≡ k → after ≡ take n before ++ out ++ drop (n + k) before →
-    (take (n + k) after ≡ take n before ++ out) × (drop (n + k) after ≡ drop (n + k) before)
-placed-text before out after n k h i e =
-    let z : length (take n before ++ out) ≡ n + k = omega (arith, length-append (take n before) out, length-take-le n before h) in
-    (ap (take (n + k)) e ∙ take-at (take n before ++ out) (drop (n + k) before) (n + k) z, ap (drop (n + k)) e ∙ drop-at (take n before ++ out) (drop (n + k) before) (n + k) z)
+-- A text that is put into an output.
+
+pub put-none : (output : List ℕ) (n : ℕ) (text : List ℕ) → length output ≡ 0 → put output n text ≡ output
+put-none [] n text h = refl
+put-none (x ∷ output) n text h = absurd (omega arith)
+
+pub put-some : (output : List ℕ) (n : ℕ) (text : List ℕ) → 1 ≤ length output → put output n text ≡ take n output ++ text ++ drop (n + length text) output
+put-some [] n text h = absurd (omega arith)
+put-some (x ∷ output) n text h = refl
+
+-- what a block writes, into an output with places
+pub put-group : (b word output : List ℕ) (n : ℕ) → 1 ≤ length output →
+    take n output ++ blockOutput b word ++ drop (n + at b 2) output ≡ put output n (blockOutput b word)
+put-group b word output n any =
+    ap (λ k. take n output ++ blockOutput b word ++ drop (n + k) output) (sym (length-blockOutput b word)) ∙ sym (put-some output n (blockOutput b word) any)
+
+-- the text at its place, and what stands beyond it
+placed-text : (output text : List ℕ) (n k : ℕ) → (1 ≤ length output → n ≤ length output) → length text ≡ k →
+    (1 ≤ length (put output n text) → (1 ≤ length output) × (take (n + k) (put output n text) ≡ take n output ++ text))
+    × (drop (n + k) (put output n text) ≡ drop (n + k) output)
+placed-text [] text n k h i = (λ l. absurd (omega arith), refl)
+placed-text (x ∷ output) text n k h i =
+    let whole = x ∷ output in
+    let front : length (take n whole ++ text) ≡ n + length text = omega (arith, length-append (take n whole) text, length-take-le n whole (h (omega arith))) in
+    rw (← i) (
+      λ l. (omega arith, take-at (take n whole ++ text) (drop (n + length text) whole) (n + length text) front),
+      drop-at (take n whole ++ text) (drop (n + length text) whole) (n + length text) front,
+    )
 
 -- a group that writes at most E characters has room
-pub turn-room : (w u : List ℕ) (room : ℕ) (now : Ran) → Placed w u room now → now .from < length u → (k : ℕ) → k ≤ expansionWord w → now .count + k ≤ room
-turn-room w u room now P some k few =
+pub turn-room : (w u : List ℕ) (room : ℕ) (now : Ran) → Placed w u room now → now .from < length u → (k : ℕ) → k ≤ expansionWord w → 1 ≤ room → now .count + k ≤ room
+turn-room w u room now P some k few any =
     let z : expansionWord w * (now .from + 1) ≤ expansionWord w * length u = mul-le-mul-left (expansionWord w) (omega arith) in
     let x : expansionWord w * (now .from + 1) ≡ expansionWord w * now .from + expansionWord w = omega arith in
-    omega (arith, P .written, P .enough)
+    omega (arith, P .written, P .enough any)
+
+-- no count comes near the end of 64 bits
+pub turn-small : (w u : List ℕ) (room : ℕ) (now : Ran) → T (sound w) → Placed w u room now → now .count + 8 < 18446744073709551616
+turn-small w u room now W P =
+    let few : now .from ≤ 1099511627784 = omega (arith, P .order, P .inside, P .short) in
+    let z : expansionWord w * now .from ≤ 8 * 1099511627784 = mul-le-mul (sound-header w W .expansion) few in
+    omega (arith, P .written)
 
 -- group g is written for a word after what was written, and what stands beyond it is as found
 module _ (w u : List ℕ) (old : Ran) (before : List ℕ) (P : Placed w u (length before) old) where
-  group-put : (g : ℕ) (word after : List ℕ) → after ≡ take (old .count) before ++ blockOutput (blockAt w g) word ++ drop (old .count + at (blockAt w g) 2) before →
-      (take (old .count + at (blockAt w g) 2) after ≡ take (old .count) before ++ blockOutput (blockAt w g) word)
+  group-put : (g : ℕ) (word after : List ℕ) → after ≡ put before (old .count) (blockOutput (blockAt w g) word) →
+      (1 ≤ length after → (1 ≤ length before) × (take (old .count + at (blockAt w g) 2) after ≡ take (old .count) before ++ blockOutput (blockAt w g) word))
       × (drop (old .count + at (blockAt w g) 2) after ≡ drop (old .count + at (blockAt w g) 2) before)
   group-put g word after wrote =
       let z : expansionWord w * old .from ≤ expansionWord w * length u = mul-le-mul-left (expansionWord w) (omega (arith, P .order, P .inside)) in
-      let room : old .count ≤ length before = omega (arith, P .written, P .enough) in
-      placed-text before (blockOutput (blockAt w g) word) after (old .count) (at (blockAt w g) 2) room (length-blockOutput (blockAt w g) word) wrote
+      let room : 1 ≤ length before → old .count ≤ length before = λ any. omega (arith, P .written, P .enough any) in
+      rw wrote (placed-text before (blockOutput (blockAt w g) word) (old .count) (at (blockAt w g) 2) room (length-blockOutput (blockAt w g) word))
 
   pub beyond-put : (new : Ran) (g : ℕ) (word after : List ℕ) → new .count ≡ old .count + at (blockAt w g) 2 →
-      after ≡ take (old .count) before ++ blockOutput (blockAt w g) word ++ drop (old .count + at (blockAt w g) 2) before → Beyond old before new after
+      after ≡ put before (old .count) (blockOutput (blockAt w g) word) → Beyond old before new after
   beyond-put new g word after e wrote = (omega arith, rw e (group-put g word after wrote .1))
 
 pub default-words : (w : List ℕ) (b : Bool) → b ≡ eqb (at w 5) 1 → fromWords w .default ≡ b
@@ -237,7 +267,7 @@ module _ (w u : List ℕ) (ended : Bool) (W : T (sound w)) (old : Ran) (before :
         store = e₂;
         covers = ap covered e₆ ∙ G .covers ∙ sym e₃;
         count = e₄ ∙ G .count ∙ ap (λ l. length (textOf (fromWords w .write) l)) (sym e₆);
-        text = ap (λ k. take k (before .output)) e₄ ∙ G .text ∙ ap (textOf (fromWords w .write)) (sym e₆);
+        text = λ any. ap (λ k. take k (before .output)) e₄ ∙ G .text any ∙ ap (textOf (fromWords w .write)) (sym e₆);
         uses = G .uses ∙ ap (usesAfter found) (sym e₆);
         steps = e₅;
       })
@@ -282,7 +312,7 @@ module _ (w u : List ℕ) (ended : Bool) (W : T (sound w)) (old : Ran) (before :
             runs = read-runs r (G .log) (G .runs);
             covers = G .covers ∙ sym e₂;
             count = e₄ ∙ G .count;
-            text = ap (λ k. take k (before .output)) e₄ ∙ G .text;
+            text = λ any. ap (λ k. take k (before .output)) e₄ ∙ G .text any;
             uses = G .uses;
           },
         )
@@ -292,7 +322,7 @@ module _ (w u : List ℕ) (ended : Bool) (W : T (sound w)) (old : Ran) (before :
       (e₄ : new .count ≡ old .count + at (blockAt w g) 2) (e₅ : new .steps ≡ old .steps + j)
       (some : 0 < n) (inside : old .from + n ≤ length u) (cheap : old .at - old .from + j ≤ 11 * n) (ahead : old .at - old .from < 9 * n)
       (few : at (blockAt w g) 2 ≤ expansionWord w)
-      (wrote : after .output ≡ take (old .count) (before .output) ++ blockOutput (blockAt w g) (take n (drop (old .from) u)) ++ drop (old .count + at (blockAt w g) 2) (before .output))
+      (wrote : after .output ≡ put (before .output) (old .count) (blockOutput (blockAt w g) (take n (drop (old .from) u))))
       (known : g < useCounts) (counted : after .uses ≡ bumped (before .uses) g 1)
       (leads : (r : Ended) (log : List Emission) → Runs A ended most r (stood log (old .steps)) →
       Runs A ended most r (standing [] (drop (old .from + n) u) 0 (log ++ (record { group = g; word = take n (drop (old .from) u) } ∷ [])) (old .steps + j))) where
@@ -302,10 +332,9 @@ module _ (w u : List ℕ) (ended : Bool) (W : T (sound w)) (old : Ran) (before :
     abbrev k : ℕ
     k = at (blockAt w g) 2
 
-    text-put :
-        (take (old .count + k) (after .output) ≡ take (old .count) (before .output) ++ blockOutput (blockAt w g) word)
-        × (drop (old .count + k) (after .output) ≡ drop (old .count + k) (before .output))
-    text-put = group-put w u old (before .output) P g word (after .output) wrote
+    text-put : 1 ≤ length (after .output) →
+        (1 ≤ length (before .output)) × (take (old .count + k) (after .output) ≡ take (old .count) (before .output) ++ blockOutput (blockAt w g) word)
+    text-put = group-put w u old (before .output) P g word (after .output) wrote .0
 
     emit-placed : Placed w u (length (before .output)) new
     emit-placed =
@@ -346,7 +375,9 @@ module _ (w u : List ℕ) (ended : Bool) (W : T (sound w)) (old : Ran) (before :
           runs = subst (Runs A ended most r) q (leads r log (G .runs));
           covers = omega arith;
           count = omega arith;
-          text = ap (λ x. take x (after .output)) e₄ ∙ text-put .0 ∙ ap (λ l. l ++ blockOutput (blockAt w g) word) (G .text) ∙ sym t;
+          text = λ any.
+              let put-there = text-put any in
+              ap (λ x. take x (after .output)) e₄ ∙ put-there .1 ∙ ap (λ l. l ++ blockOutput (blockAt w g) word) (G .text (put-there .0)) ∙ sym t;
           uses = counted ∙ ap (λ l. bumped l g 1) (G .uses) ∙ uses-emitted found log g word known;
         }
 
@@ -357,8 +388,7 @@ module _ (w u : List ℕ) (ended : Bool) (W : T (sound w)) (old : Ran) (before :
   module _ (g : RuleNo) (after : Lent) (st : (log : List Emission) (n : ℕ) → step A ended (stood log n) ≡ stepBy (Emit g) (stood log n))
       (fits : Fits w (old .state .0) (Emit g)) (e₁ : new .state .0 ≡ 0) (e₂ : new .from ≡ old .at) (e₃ : new .at ≡ old .at)
       (e₄ : new .count ≡ old .count + at (blockAt w (g .0)) 2) (e₅ : new .steps ≡ old .steps + 1)
-      (wrote : after .output
-      ≡ take (old .count) (before .output) ++ blockOutput (blockAt w (g .0)) (storeOf u old) ++ drop (old .count + at (blockAt w (g .0)) 2) (before .output))
+      (wrote : after .output ≡ put (before .output) (old .count) (blockOutput (blockAt w (g .0)) (storeOf u old)))
       (counted : after .uses ≡ bumped (before .uses) (g .0) 1) where
     to-end : old .from + (old .at - old .from) ≡ old .at
     to-end = omega (arith, P .order)
@@ -405,9 +435,7 @@ module _ (w u : List ℕ) (ended : Bool) (W : T (sound w)) (old : Ran) (before :
 
     module _ (after : Lent) (d : A .default ≡ true) (e₁ : new .state .0 ≡ 0) (e₂ : new .from ≡ old .from + 1) (e₃ : new .at ≡ old .from + 1)
         (e₄ : new .count ≡ old .count + at (blockAt w defaultNumber) 2) (e₅ : new .steps ≡ old .steps + 3)
-        (wrote : after .output
-        ≡ take (old .count) (before .output) ++ blockOutput (blockAt w defaultNumber) (take 1 (drop (old .from) u))
-        ++ drop (old .count + at (blockAt w defaultNumber) 2) (before .output))
+        (wrote : after .output ≡ put (before .output) (old .count) (blockOutput (blockAt w defaultNumber) (take 1 (drop (old .from) u))))
         (counted : after .uses ≡ bumped (before .uses) defaultNumber 1) where
       default-leads : (r : Ended) (log : List Emission) → Runs A ended most r (stood log (old .steps)) →
           Runs A ended most r (standing [] v 0 (log ++ (record { group = defaultNumber; word = take 1 (drop (old .from) u) } ∷ [])) (old .steps + 3))
@@ -482,12 +510,20 @@ stage-on w u ended room r found old new before after true f G = (f r found G, om
 stage-on w u ended room r found old new before after false f G = ((f .0 .0, f .1, f .0 .2 r found G), omega (arith, f .0 .1))
 
 -- what a finished run has written
-pub ends-over : (w u : List ℕ) (r : Ended) (found : List ℕ) (now : Ran) (has : Lent) (buffer : List ℕ) → EndsAs w u r found now has →
-    drop (now .count) (has .output) ≡ drop (now .count) buffer → has .output ≡ over (textOf (fromWords w .write) (r .final .log)) buffer
-ends-over w u r found now has buffer F e =
+pub ends-put : (w u : List ℕ) (r : Ended) (found : List ℕ) (now : Ran) (has : Lent) (buffer : List ℕ) → EndsAs w u r found now has →
+    length (has .output) ≡ length buffer → drop (now .count) (has .output) ≡ drop (now .count) buffer →
+    has .output ≡ put buffer 0 (textOf (fromWords w .write) (r .final .log))
+ends-put w u r found now has [] F l e = none (has .output) l
+  where
+    none : (output : List ℕ) → length output ≡ 0 → output ≡ []
+    none [] z = refl
+    none (x ∷ output) z = absurd (omega arith)
+ends-put w u r found now has (x ∷ buffer) F l e =
     let output = has .output in
-    sym (take-append-drop (now .count) output) ∙ ap (λ l. l ++ drop (now .count) output) (F .text) ∙ ap (λ l. textOf (fromWords w .write) (r .final .log) ++ l) e
-    ∙ ap (λ k. textOf (fromWords w .write) (r .final .log) ++ drop k buffer) (F .count)
+    let text = textOf (fromWords w .write) (r .final .log) in
+    let none-more : length text ≡ 0 + length text = omega arith in
+    sym (take-append-drop (now .count) output) ∙ ap (λ o. o ++ drop (now .count) output) (F .text (omega arith)) ∙ ap (λ o. text ++ o) e
+    ∙ ap (λ k. text ++ drop k (x ∷ buffer)) (F .count ∙ none-more)
 
 pub beyond-on : (old new : Ran) (found before after : List ℕ) → drop (old .count) before ≡ drop (old .count) found → Beyond old before new after →
     drop (new .count) after ≡ drop (new .count) found
@@ -509,7 +545,8 @@ depth-after w W q (x ∷ h) i l =
 
 -- The run as it begins: the given characters are the store.
 module _ (w given piece : List ℕ) (ended : Bool) (W : T (sound w)) (q : ℕ) (at-path : T (isAt q (path (fromWords w) 0 given))) (has : Lent)
-    (short : length given + length piece ≤ 1099511627784) (enough : expansionWord w * (length given + length piece) ≤ length (has .output))
+    (short : length given + length piece ≤ 1099511627784)
+    (enough : 1 ≤ length (has .output) → expansionWord w * (length given + length piece) ≤ length (has .output))
     (counted : Counted (has .uses) 0) (now : Ran)
     (e₁ : now .state .0 ≡ q) (e₂ : now .from ≡ 0) (e₃ : now .at ≡ length given) (e₄ : now .count ≡ 0) (e₅ : now .steps ≡ 0) where
   abbrev u : List ℕ
@@ -554,7 +591,7 @@ module _ (w given piece : List ℕ) (ended : Bool) (W : T (sound w)) (q : ℕ) (
             (fuel-enough (fromWords w) (longestWord w) (stateCount w) (sound-good w W) (sound-longest w W) ended given piece q (l .0) (l .1) m (omega (arith, size)));
         covers = sym e₂;
         count = e₄;
-        text = ap (λ k. take k (has .output)) e₄;
+        text = λ any. ap (λ k. take k (has .output)) e₄;
         uses = sym (uses-none (has .uses) (counted .whole));
       }
 

@@ -1,7 +1,7 @@
 -- A turn of the run over machine words: what the machine does where it has read on, and how what was done before and after joins.
 -- Before a character without a target a state's rule decides; at the text's end its rule there, and whether more may come.
 use mathlib.Core.Bool.{Bool, true, false, _&&_, cond}
-use mathlib.Core.List.{List, [], _∷_, _++_}
+use mathlib.Core.List.{List, [], _∷_}
 use mathlib.Core.Path.{_≡_, refl, sym, ap, subst, _∙_}
 use Prim.Native.Nat.{ℕ, suc, pred, _+_, _-_, _≤_, _<_}
 use native.Mathlib.Omega.{arith}
@@ -19,7 +19,7 @@ use Rattle.automaton.proofs.Laws.Words.{sound-state}
 use Rattle.reckoning.specs.Machine.{Stopped, Closed, step}
 use Rattle.reckoning.specs.Session.{settled}
 use Rattle.session.specs.bridge.Counting.{bumped, Counted}
-use Rattle.session.specs.bridge.Running.{Move, Emit, Back, Wait, Close, standing, stepBy, Fits, Decides, storeOf, Placed, Lent, Advances, Beyond, Between, Halted, Waits, readTo, Passes, Stands, ReadsOn, Moves, acceptNow}
+use Rattle.session.specs.bridge.Running.{Move, Emit, Back, Wait, Close, standing, stepBy, Fits, Decides, put, storeOf, Placed, Lent, Advances, Beyond, Between, Halted, Waits, readTo, Passes, Stands, ReadsOn, Moves, acceptNow}
 use Rattle.session.specs.declared.run.Ran.{Ran}
 use Rattle.session.specs.declared.run.Ahead.{Ahead}
 use Rattle.reckoning.proofs.Laws.Walk.{settled-both}
@@ -113,8 +113,7 @@ module _ (w u : List ℕ) (W : T (sound w)) (old : Ran) (before : Lent) (P : Pla
   counted-on g after e h = subst (λ l. Counted l (new .from)) (sym e) (counted-bumped (before .uses) g 1 (old .from) (new .from) C h)
 
   pub emit-moves : (g : RuleNo) (after : Lent) → Fits w (old .state .0) (Emit g) → Between (old .at) (old .count + at (blockAt w (g .0)) 2) (old .steps + 1) new →
-      after .output
-      ≡ take (old .count) (before .output) ++ blockOutput (blockAt w (g .0)) (storeOf u old) ++ drop (old .count + at (blockAt w (g .0)) 2) (before .output) →
+      after .output ≡ put (before .output) (old .count) (blockOutput (blockAt w (g .0)) (storeOf u old)) →
       after .uses ≡ bumped (before .uses) (g .0) 1 →
       Moves w u (length (before .output)) old before (Emit g) new after × Beyond old (before .output) new (after .output)
   emit-moves g after f B e c = (
@@ -127,9 +126,7 @@ module _ (w u : List ℕ) (W : T (sound w)) (old : Ran) (before : Lent) (P : Pla
 
   pub default-moves : (after : Lent) → old .from < length u → fromWords w .default ≡ true →
       Between (old .from + 1) (old .count + at (blockAt w defaultNumber) 2) (old .steps + 3) new →
-      after .output
-      ≡ take (old .count) (before .output) ++ blockOutput (blockAt w defaultNumber) (take 1 (drop (old .from) u))
-      ++ drop (old .count + at (blockAt w defaultNumber) 2) (before .output) →
+      after .output ≡ put (before .output) (old .count) (blockOutput (blockAt w defaultNumber) (take 1 (drop (old .from) u))) →
       after .uses ≡ bumped (before .uses) defaultNumber 1 →
       Moves w u (length (before .output)) old before Back new after × Beyond old (before .output) new (after .output)
   default-moves after some d B e c = (

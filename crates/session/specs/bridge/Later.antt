@@ -1,12 +1,16 @@
 -- Where held characters lead, and the session that a run leaves, as the code works them out.
-use mathlib.Core.Bool.{false}
+use mathlib.Core.Bool.{Bool, false}
 use mathlib.Core.List.{List}
 use mathlib.Core.Option.{Option, none, some}
 use mathlib.Core.Path.{_≡_}
 use Prim.Native.Nat.{ℕ, _+_, _*_, _-_, _≤_}
 use Rattle.meaning.specs.Direct.{limit}
-use Rattle.reckoning.specs.Calls.{receivedBy}
+use Rattle.meaning.specs.Refusal.{accepted}
+use Rattle.meaning.specs.Meaning.{textOf}
+use Rattle.automaton.specs.Automaton.{Automaton}
+use Rattle.reckoning.specs.Calls.{CallOutcome, admits, receivedBy, resumed, callBy}
 use Rattle.session.specs.Keeping.{meantStatus, together, sessionOf}
+use Rattle.session.specs.bridge.Running.{put}
 use Rattle.session.specs.declared.kept.Path.{Path}
 use Rattle.session.specs.declared.kept.Path.the-variants.{To, Nowhere}
 use Rattle.session.specs.declared.run.Ran.{Ran}
@@ -46,6 +50,16 @@ pub record Small (found : Kept) (n : ℕ) (ran : Ran) : Type 0 where
   pub inside : ran .at ≤ found .«held_count» + n
   pub produced : found .tally .produced + ran .count ≤ 8 * limit
   pub steps : found .tally .steps + ran .steps ≤ 11 * (limit + 1)
+
+-- what a call that goes on asks: its tests passed for some room, and where the output has any place it has so many
+abbrev pub Resumable : List ℕ → Rattle.reckoning.specs.Session.Session → ℕ → ℕ → Type 0
+Resumable w s n places = (room : ℕ) × (admits w s n room ≡ accepted tt) × (1 ≤ places → room ≤ places)
+
+-- what it comes to, where an output without places takes nothing
+abbrev pub wentOn : Automaton → Rattle.reckoning.specs.Session.Session → List ℕ → Bool → List ℕ → CallOutcome
+wentOn m s piece ended output =
+    let o = callBy (accepted tt) m s piece ended output in
+    record { answer = o .answer; session = o .session; output = put output 0 (textOf (m .write) (resumed m s piece ended .final .log)) }
 
 -- a refused call
 abbrev pub refusing : ℕ → Kept → Went

@@ -7,7 +7,6 @@ use lib.Dec.{T, eqb}
 use lib.ListN.{length, getD, take, drop}
 use Rattle.meaning.specs.Meaning.{Emission, textOf, covered}
 use Rattle.meaning.specs.Table.{defaultNumber}
-use Rattle.meaning.specs.Direct.{over}
 use Rattle.meaning.specs.Block.{at}
 use Rattle.automaton.specs.Classes.{classOf}
 use Rattle.automaton.specs.Sound.{sound, expansionWord, classCount, stateCount, depthWord, acceptWord, acceptAtEndWord, used, blockAt}
@@ -66,14 +65,19 @@ Decides w u ended q before after v =
 abbrev pub storeOf : List ℕ → Ran → List ℕ
 storeOf u now = take (now .at - now .from) (drop (now .from) u)
 
--- the numbers of a run over the text u, with so much room, keep their bounds
+-- the output with a text put at a place; one without places takes nothing: a run that is lent it only counts
+abbrev pub put : List ℕ → ℕ → List ℕ → List ℕ
+put [] place text = []
+put (x ∷ output) place text = take place (x ∷ output) ++ text ++ drop (place + length text) (x ∷ output)
+
+-- the numbers of a run over the text u, with so much room, keep their bounds; where there is any room, it is enough
 pub record Placed (w u : List ℕ) (room : ℕ) (now : Ran) : Type 0 where
   pub order : now .from ≤ now .at
   pub inside : now .at ≤ length u
   pub state : now .state .0 < stateCount w
   pub depth : depthWord w (now .state .0) ≡ now .at - now .from
   pub written : now .count ≤ expansionWord w * now .from
-  pub enough : expansionWord w * length u ≤ room
+  pub enough : 1 ≤ room → expansionWord w * length u ≤ room
   pub short : length u ≤ 1099511627784
   pub few : now .steps ≤ 11 * now .from + (now .at - now .from)
 
@@ -91,7 +95,7 @@ pub record Going (w u : List ℕ) (ended : Bool) (r : Ended) (found : List ℕ) 
   pub runs : (m : ℕ) → 11 * (length u + 1) ≤ m → steps (fromWords w) ended m (standing (storeOf u now) (drop (now .at) u) (now .state .0) log (now .steps)) ≡ r
   pub covers : covered log ≡ now .from
   pub count : now .count ≡ length (textOf (fromWords w .write) log)
-  pub text : take (now .count) (has .output) ≡ textOf (fromWords w .write) log
+  pub text : 1 ≤ length (has .output) → take (now .count) (has .output) ≡ textOf (fromWords w .write) log
   pub uses : has .uses ≡ usesAfter found log
 
 -- the run, which found these counts of uses, ended as r
@@ -103,7 +107,7 @@ pub record EndsAs (w u : List ℕ) (r : Ended) (found : List ℕ) (now : Ran) (h
   pub store : storeOf u now ≡ r .final .store
   pub covers : covered (r .final .log) ≡ now .from
   pub count : now .count ≡ length (textOf (fromWords w .write) (r .final .log))
-  pub text : take (now .count) (has .output) ≡ textOf (fromWords w .write) (r .final .log)
+  pub text : 1 ≤ length (has .output) → take (now .count) (has .output) ≡ textOf (fromWords w .write) (r .final .log)
   pub uses : has .uses ≡ usesAfter found (r .final .log)
   pub steps : now .steps ≡ r .final .steps
 
@@ -214,15 +218,16 @@ acceptNow w q true ended = acceptWord w q
 acceptNow w q false true = acceptAtEndWord w q
 acceptNow w q false false = cond (used (acceptWord w q) && eqb (acceptWord w q) (acceptAtEndWord w q)) (acceptWord w q) 0
 
--- what a run over a piece asks: sound words, few given characters, which lead to state q, room for all that may be written, and counted uses
+-- what a run over a piece asks: sound words, few given characters, which lead to state q, no room or room for all that may be written, and
+-- counted uses
 abbrev pub Runnable : List ℕ → List ℕ → List ℕ → ℕ → Lent → Type 0
 Runnable w given piece q has =
     (T (sound w) × T (isAt q (path (fromWords w) 0 given)))
     × (((length given ≤ 8) × (length given + length piece ≤ 1099511627784))
-    × ((expansionWord w * (length given + length piece) ≤ length (has .output)) × Counted (has .uses) 0))
+    × ((1 ≤ length (has .output) → expansionWord w * (length given + length piece) ≤ length (has .output)) × Counted (has .uses) 0))
 
--- the run is the machine's, and what stands beyond the characters written is as found
+-- the run is the machine's, and an output with places has its text, with what stands beyond as found
 abbrev pub RunsTo : List ℕ → List ℕ → List ℕ → ℕ → Bool → Lent → Ran → Lent → Type 0
 RunsTo w given piece q ended found now has =
     let r = run (fromWords w) ended (start given piece q) in
-    EndsAs w (given ++ piece) r (found .uses) now has × (has .output ≡ over (textOf (fromWords w .write) (r .final .log)) (found .output))
+    EndsAs w (given ++ piece) r (found .uses) now has × (has .output ≡ put (found .output) 0 (textOf (fromWords w .write) (r .final .log)))

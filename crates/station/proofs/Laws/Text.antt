@@ -58,7 +58,7 @@ module _ (t : Table) (s : Shaped t) where
   abbrev A : Automaton
   A = fromTable t
 
-  run-is : (u : List ℕ) (e : Bool) → Tells (start [] u 0) (trace A e 0 u) (ran t u e)
+  run-is : (u : List ℕ) (e : Bool) → Tells A (start [] u 0) (trace A e 0 u) (ran t u e)
   unfolding ran after
   run-is u e = run-tells A (longest t) (length (states t)) (table-good t s) (longest-small t s) e [] u 0 tt refl
 

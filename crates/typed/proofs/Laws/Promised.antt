@@ -5,11 +5,11 @@ use mathlib.Core.List.{List, [], _∷_}
 use mathlib.Core.Path.{_≡_, refl, sym, ap, ap₂, subst, _∙_}
 use Prim.Native.Nat.{ℕ, _≤_, _<_}
 use native.Mathlib.Omega.{arith}
-use lib.Dec.{T, eqb, eqb→eq}
+use lib.Dec.{T, eqb}
 use lib.ListN.{length, take, drop}
 use lib.Seq.{take-append-seam}
-use Rattle.lists.specs.Lists.{any, Each}
-use Rattle.lists.proofs.Laws.Tests.{or-cases}
+use Rattle.lists.specs.Lists.{any}
+use Rattle.lists.proofs.Laws.Tests.{one-of}
 use Rattle.meaning.specs.Refusal.{Outcome, refused, accepted, RefusedBy}
 use Rattle.meaning.specs.Table.{Characters, Table}
 use Rattle.meaning.specs.Reader.{readTable}
@@ -49,11 +49,6 @@ record Why (text buffer : List ℕ) (n : ℕ) : Type 0 where
   table : n ≤ 7 → (ls : List Line) × Reckoned text ls × (readTable (records ls) ≡ refused n)
   no-room : n ≡ 15 → (ls : List Line) × (t : Table) × Reckoned text ls × (readTable (records ls) ≡ accepted t) × (length buffer < length (records ls))
   numbered : Characters text → T (any (eqb n) textRefusals)
-
--- what holds of each number of a list holds of one that is among them
-one-of : (P : ℕ → Type 0) (ks : List ℕ) → Each P ks → (n : ℕ) → T (any (eqb n) ks) → P n
-one-of P [] h n t = absurd t
-one-of P (k ∷ ks) h n t = or-cases (eqb n k) (any (eqb n) ks) t (λ u. subst P (sym (eqb→eq n k u)) (h .0)) (one-of P ks (h .1) n)
 
 -- the table check's numbers, but for 1 and 4
 text-refused : {text : List ℕ} {ls : List Line} {n : ℕ} → Reckoned text ls → readTable (records ls) ≡ refused n → Characters text → T (any (eqb n) textRefusals)

@@ -1,12 +1,12 @@
 -- `feeding::widen` meets its contract. The invariant: the first i bytes are copied.
 -- The measure is the bytes left. Assumes nothing.
 use mathlib.Core.Path.{_≡_, refl, _∙_}
-use Prim.Native.Nat.{_+_, _≤_, _<_, _-_}
+use Prim.Native.Nat.{_≤_, _<_, _-_}
 use native.Mathlib.Omega.{arith}
 use borrow.Author.Needs.{needs}
 use lib.ListN.{length, take}
 use lib.Seq.{take-length}
-use Rattle.convert.proofs.Laws.Text.{copy-next}
+use Rattle.lists.proofs.Laws.Parts.{copy-next}
 use Rattle.convert.proofs.feeding.widen.Statement.{statement}
 use Rattle.convert.proofs.feeding.widen.Tie as tie
 

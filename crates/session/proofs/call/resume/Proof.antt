@@ -25,11 +25,12 @@ uses s = s .args .uses .now
 abbrev piece : tie.Start → List ℕ
 piece s = s .args .piece .now
 
+-- the room that the call was admitted for
 abbrev room : tie.Start → ℕ
-room s = length (s .args .output .now)
+room s = s .pre .1 .0
 
 known : (s : tie.Start) → Admitted (words s) (sessionOf (together (kept s) (uses s))) (length (piece s)) (room s)
-known s = admitted (words s) (sessionOf (together (kept s) (uses s))) (length (piece s)) (room s) (s .pre .1)
+known s = admitted (words s) (sessionOf (together (kept s) (uses s))) (length (piece s)) (room s) (s .pre .1 .1)
 
 eight : (s : tie.Start) → length (kept s .held) ≡ 8
 eight s = search needs
@@ -54,7 +55,7 @@ slice-aggregate-run-words c =
 run-words-requires : tie.Need-run-words-requires
 run-words-requires c κs =
     let s = c .before .before .before .before .before .before .before .before .before in
-    run-asks (words s) (kept s) (uses s) (piece s) (s .args .ended) (room s) (known s) (eight s) (s .pre .0)
+    run-asks (words s) (kept s) (uses s) (piece s) (s .args .ended) (room s) (known s) (eight s) (length (s .args .output .now)) (s .pre .1 .2) (s .pre .0)
 
 array-share-prefix-held-2 : tie.Need-array-share-prefix-held-2
 array-share-prefix-held-2 c =

@@ -22,14 +22,14 @@ abbrev text : tie.Start → List ℕ
 text s = s .args .given .now ++ s .args .piece .now
 
 -- the output after the defaults are written
-abbrev written : tie.After-write-defaults → List ℕ
-written d = d .write-defaults .last .1 .1 .1 .1 .1 .0
+abbrev written : tie.After-emit-defaults → List ℕ
+written d = d .emit-defaults .last .1 .1 .1 .1 .1 .0
 
 has-default-requires : tie.Need-has-default-requires
 has-default-requires c κs = let s = c .before .before .before .before .before .before .before in sound-header (s .args .words .now) (s .pre .0 .0) .long
 
-write-defaults-requires : tie.Need-write-defaults-requires
-write-defaults-requires c κs =
+emit-defaults-requires : tie.Need-emit-defaults-requires
+emit-defaults-requires c κs =
     let t = c .before in
     let d = t .before in
     let b = d .before in
@@ -39,29 +39,29 @@ write-defaults-requires c κs =
     ((s .pre .0 .0, s .pre .0 .1, one), (s .pre .1 .0, b .if1 .taken))
 
 -- where the run began
-abbrev begin : tie.After-write-defaults → tie.Start
+abbrev begin : tie.After-emit-defaults → tie.Start
 begin d = d .before .before .before .before .before .before .before .before .before .before .before
 
 -- the counts of uses with the defaults that were written
-abbrev uses : tie.After-write-defaults → List ℕ
-uses d = let a = begin d .args in bumped (a .uses .now) defaultNumber (d .write-defaults .result .from - a .run .from)
+abbrev uses : tie.After-emit-defaults → List ℕ
+uses d = let a = begin d .args in bumped (a .uses .now) defaultNumber (d .emit-defaults .result .from - a .run .from)
 
-passes : (d : tie.After-write-defaults) →
+passes : (d : tie.After-emit-defaults) →
     let a = begin d .args in
-    Passes (a .words .now) (text (begin d)) (length (a .output .now)) (a .run) (lent (a .output .now) (a .uses .now)) (d .write-defaults .result) (lent (written d) (uses d))
-passes d = let s = begin d in d .write-defaults .ensures .0 .1 (s .args .uses .now) (s .pre .1 .1 .whole)
+    Passes (a .words .now) (text (begin d)) (length (a .output .now)) (a .run) (lent (a .output .now) (a .uses .now)) (d .emit-defaults .result) (lent (written d) (uses d))
+passes d = let s = begin d in d .emit-defaults .ensures .0 .1 (s .args .uses .now) (s .pre .1 .1 .whole)
 
 sub-count-uses : tie.Need-sub-count-uses
-sub-count-uses c = c .before .before .before .before .before .write-defaults .ensures .0 .0
+sub-count-uses c = c .before .before .before .before .before .emit-defaults .ensures .0 .0
 
 count-uses-requires : tie.Need-count-uses-requires
 count-uses-requires c κs =
     let d = c .before .before .before .before .before in
     let s = begin d in
     let a = s .args in
-    let next = d .write-defaults .result in
+    let next = d .emit-defaults .result in
     let P = passes d .0 in
-    let h = d .write-defaults .ensures .0 .0 in
+    let h = d .emit-defaults .ensures .0 .0 in
     let C = s .pre .1 .1 in
     (C .whole, omega arith, counted-room (a .uses .now) defaultNumber (next .from - a .run .from) (a .run .from) C (omega (arith, h, P .order, P .inside, P .short)))
 
@@ -72,9 +72,9 @@ turn-requires c κs =
     let d = output .before in
     let s = begin d in
     let a = s .args in
-    let next = d .write-defaults .result in
+    let next = d .emit-defaults .result in
     let z : length (written d) ≡ length (a .output .now) = output .output .given in
-    let h = d .write-defaults .ensures .0 .0 in
+    let h = d .emit-defaults .ensures .0 .0 in
     let more = counted-bumped (a .uses .now) defaultNumber (next .from - a .run .from) (a .run .from) (next .from) (s .pre .1 .1) (omega arith) in (
       s .pre .0,
       (
@@ -97,7 +97,7 @@ returns c =
     let w = a .words .now in
     let room = length (a .output .now) in
     let new = t .result in
-    let mid = d .write-defaults .result in
+    let mid = d .emit-defaults .result in
     let after = lent (t .last .1 .1 .1 .1 .1 .1 .1 .0) (t .last .1 .1 .1 .1 .1 .1 .0) in
     let z : length (written d) ≡ room = output .output .given in
     let found = lent (a .output .now) (a .uses .now) in
@@ -106,7 +106,7 @@ returns c =
     subst (λ l. Advances w (text s) (a .ended) room mid (lent (written d) l) (new .done) new after) e
     (subst (λ n. Advances w (text s) (a .ended) n mid (lent (written d) (counted .count-uses .last .0)) (new .done) new after) z (t .ensures .0)) in (
       advances-after w (text s) (a .ended) room (a .run) mid new found (lent (written d) (uses d)) after (new .done) (passes d) later,
-      beyond-join (a .run) mid new (a .output .now) (written d) (after .output) (d .write-defaults .ensures .1) (t .ensures .1),
+      beyond-join (a .run) mid new (a .output .now) (written d) (after .output) (d .emit-defaults .ensures .1) (t .ensures .1),
     )
 
 turn-requires-2 : tie.Need-turn-requires-2
@@ -123,7 +123,7 @@ advance-spec =
     tie.close
     (tie.spec
     has-default-requires
-    write-defaults-requires
+    emit-defaults-requires
     sub-count-uses
     count-uses-requires
     turn-requires

@@ -12,7 +12,7 @@ use Rattle.automaton.specs.Sound.{blockAt}
 use Rattle.automaton.proofs.Laws.Words.{sound-header}
 use Rattle.session.specs.bridge.Running.{lent, Between}
 use Rattle.session.proofs.Laws.Counting.{counted-room}
-use Rattle.session.proofs.Laws.Running.{turn-room, shallow}
+use Rattle.session.proofs.Laws.Running.{turn-room, turn-small, shallow}
 use Rattle.session.proofs.Laws.Turning.{emit-moves}
 use Rattle.session.proofs.run.emit_rule.Statement.{statement}
 use Rattle.session.proofs.run.emit_rule.Tie as tie
@@ -30,7 +30,13 @@ emit-requires c κs =
     let deep = shallow w (text s) true (s .pre .0 .0) (s .args .run) (lent (s .args .output .now) (s .args .uses .now)) P (s .args .run) in
     let some : s .args .run .from < length (text s) = omega (arith, k .2, P .depth, P .inside) in (
       (h .long, omega (arith, k .0), omega (arith, k .3, h .expansion)),
-      ((P .order, P .inside, deep, k .1 ∙ P .depth), turn-room w (text s) (length (s .args .output .now)) (s .args .run) P some (at (blockAt w (s .args .rule .0)) 2) (k .3)),
+      (
+        (P .order, P .inside, deep, k .1 ∙ P .depth),
+        (
+          turn-room w (text s) (length (s .args .output .now)) (s .args .run) P some (at (blockAt w (s .args .rule .0)) 2) (k .3),
+          turn-small w (text s) (length (s .args .output .now)) (s .args .run) (s .pre .0 .0) P,
+        ),
+      ),
     )
 
 count-uses-requires : tie.Need-count-uses-requires

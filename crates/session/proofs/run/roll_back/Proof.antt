@@ -11,9 +11,9 @@ use Rattle.meaning.specs.Table.{defaultNumber}
 use Rattle.meaning.specs.Block.{at, blockOutput}
 use Rattle.automaton.specs.Sound.{blockAt}
 use Rattle.automaton.proofs.Laws.Words.{sound-header}
-use Rattle.session.specs.bridge.Running.{lent, Between}
+use Rattle.session.specs.bridge.Running.{put, lent, Between}
 use Rattle.session.proofs.Laws.Counting.{counted-room}
-use Rattle.session.proofs.Laws.Running.{of-not-true, of-not-false, turn-room, default-words, default-block}
+use Rattle.session.proofs.Laws.Running.{of-not-true, of-not-false, turn-room, turn-small, default-words, default-block}
 use Rattle.session.proofs.Laws.Reading.{part-some, part-one}
 use Rattle.session.proofs.Laws.Turning.{stop-moves, default-moves}
 use Rattle.session.proofs.run.roll_back.Statement.{statement}
@@ -43,8 +43,8 @@ unread-requires c κs =
     let s = c .before .before .before .before .before .before in
     omega (arith, s .pre .1, length-append (s .args .given .now) (s .args .piece .now))
 
-write-default-requires : tie.Need-write-default-requires
-write-default-requires c κs =
+emit-default-requires : tie.Need-emit-default-requires
+emit-default-requires c κs =
     let e = c .before .before in
     let d = e .before .has-default in
     let s = e .before .before .before .before .before .before in
@@ -54,7 +54,13 @@ write-default-requires c κs =
     let h = sound-header w (s .pre .0 .0) in
     let some = part-some (a .given .now) (a .piece .now) (c .before .unread .result .now) (a .run .from) (c .before .unread .ensures) (s .pre .1) in (
       (h .long, some, b .0),
-      (omega (arith, b .1, h .expansion), turn-room w (text s) (length (a .output .now)) (a .run) (s .pre .0 .1) (s .pre .1) (at (blockAt w defaultNumber) 2) (b .1)),
+      (
+        omega (arith, b .1, h .expansion),
+        (
+          turn-room w (text s) (length (a .output .now)) (a .run) (s .pre .0 .1) (s .pre .1) (at (blockAt w defaultNumber) 2) (b .1),
+          turn-small w (text s) (length (a .output .now)) (a .run) (s .pre .0 .0) (s .pre .0 .1),
+        ),
+      ),
     )
 
 count-uses-requires : tie.Need-count-uses-requires
@@ -83,7 +89,7 @@ returns-2 : tie.Need-returns-2
 returns-2 c =
     let counted = c .before .before .before in
     let d = counted .before .before .before .before in
-    let wrote = d .write-default .ensures in
+    let wrote = d .emit-default .ensures in
     let part = d .before .before .unread in
     let e = d .before .before .before in
     let f = e .before .has-default in
@@ -98,7 +104,7 @@ returns-2 c =
     let one =
     part-one (a .given .now) (a .piece .now) (part .result .now) (a .run .from) (part .ensures) 0 some (omega (arith, s .pre .1)) ∙ ap (λ n. take 1 (drop n (text s))) z in
     default-moves w (text s) (s .pre .0 .0) (a .run) (lent (a .output .now) (a .uses .now)) (s .pre .0 .1) (s .pre .0 .2) (c .between .result) _ (s .pre .1) (default-words w (f .result) (f .ensures) ∙ yes) between
-    (wrote .1 ∙ ap (λ l. take (a .run .count) (a .output .now) ++ blockOutput b l ++ drop (a .run .count + at b 2) (a .output .now)) one)
+    (wrote .1 ∙ ap (λ l. put (a .output .now) (a .run .count) (blockOutput b l)) one)
     (counted .count-uses .ensures)
 
 pub roll-back-spec : {M : Type 1} → statement M
@@ -109,7 +115,7 @@ roll-back-spec =
     halted-requires
     returns
     unread-requires
-    write-default-requires
+    emit-default-requires
     count-uses-requires
     add-between
     add-between-2

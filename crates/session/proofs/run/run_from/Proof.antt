@@ -8,7 +8,7 @@ use lib.ListN.{length, drop}
 use Rattle.automaton.specs.Automaton.{fromWords}
 use Rattle.reckoning.specs.Machine.{Ended, start, run}
 use Rattle.session.specs.bridge.Running.{Lent, lent}
-use Rattle.session.proofs.Laws.Running.{of-not-true, of-not-false, Stage, toGo, stage-on, ends-over, beyond-on, begins}
+use Rattle.session.proofs.Laws.Running.{of-not-true, of-not-false, Stage, toGo, stage-on, ends-put, beyond-on, begins}
 use Rattle.session.proofs.run.run_from.Statement.{statement}
 use Rattle.session.proofs.run.run_from.Tie as tie
 
@@ -109,7 +109,7 @@ returns c =
     let has = lent (l .output) (l .uses) in
     let f : Stage (a .words .now) u (a .ended) (length (a .output .now)) r (a .uses .now) true (l .ran) has =
     subst (λ b. Stage (a .words .now) u (a .ended) (length (a .output .now)) r (a .uses .now) b (l .ran) has) (of-not-false (l .ran .done) (c .if1 .left)) (l .inv .0) in
-    (f, ends-over (a .words .now) u r (a .uses .now) (l .ran) has (a .output .now) f (l .inv .2))
+    (f, ends-put (a .words .now) u r (a .uses .now) (l .ran) has (a .output .now) f (l .inv .1) (l .inv .2))
 
 pub run-from-spec : {M : Type 1} → statement M
 run-from-spec =

@@ -1,18 +1,19 @@
--- `run::write_defaults` meets its contract. The invariant: any run with an empty store at the part's start writes defaults for the characters read.
+-- `run::emit_defaults` meets its contract. The invariant: any run with an empty store at the part's start emits defaults for the characters read.
 -- The measure is the characters of the part left. Assumes nothing.
-use mathlib.Core.Path.{_≡_, refl, ap, subst, _∙_}
+use mathlib.Core.Path.{_≡_, refl, sym, ap, subst, _∙_}
 use mathlib.Core.List.{List, _++_}
 use Prim.Native.Nat.{ℕ, _+_, _-_, _*_, _≤_, _<_}
 use native.Mathlib.Omega.{arith}
 use borrow.Author.Needs.{needs}
-use lib.ListN.{length, getD, take, drop, length-append}
+use lib.ListN.{length, getD, length-append}
 use Rattle.meaning.specs.Block.{at, blockOutput}
 use Rattle.automaton.specs.Sound.{targetWord, blockAt}
 use Rattle.words.specs.bridge.Readings.{Leads}
+use Rattle.session.specs.bridge.Running.{put}
 use Rattle.automaton.proofs.Laws.Words.{sound-header, sound-class, sound-default}
 use Rattle.session.proofs.Laws.Reading.{partOf, part-inside, part-at, part-one, classIn, Defaulted, defaulted-none, defaulted-next, defaulted-room, defaulted-end}
-use Rattle.session.proofs.run.write_defaults.Statement.{statement}
-use Rattle.session.proofs.run.write_defaults.Tie as tie
+use Rattle.session.proofs.run.emit_defaults.Statement.{statement}
+use Rattle.session.proofs.run.emit_defaults.Tie as tie
 
 abbrev Inv-loop : tie.InvT-loop
 Inv-loop words classes given piece output₀ part from steps count₀ read₀ output count read =
@@ -124,8 +125,8 @@ returns c =
     defaulted-end (a .words .now) (text s) (a .run .at) (a .run .count) (a .run .steps) (a .output .now) (s .pre .0 .0) (a .run) (s .pre .1 .1) refl refl refl (s .pre .1 .0)
     (a .run .at + l .read) (l .count) (a .run .steps + 3 * l .read) (l .output) (l .inv .2) (c .between .result) (c .between .ensures)
 
-write-default-requires : tie.Need-write-default-requires Inv-loop μ-loop
-write-default-requires c κs =
+emit-default-requires : tie.Need-emit-default-requires Inv-loop μ-loop
+emit-default-requires c κs =
     let s = c .before .before .before .before .before .before .before .before .before .before .before .before .before .before in
     let a = s .args in
     let w = a .words .now in
@@ -133,11 +134,13 @@ write-default-requires c κs =
     let h = sound-header w (s .pre .0 .0) in
     let d = sound-default w (s .pre .0 .0) (s .pre .0 .2) in
     let k = leads (c .before .before .before) in
-    let room : l .count + at (blockAt w 32) 2 ≤ length (a .output .now) =
+    let room =
     defaulted-room w (text s) (a .run .at) (a .run .count) (a .run .steps) (a .output .now) (a .run) (s .pre .1 .1) refl refl refl (s .pre .1 .0)
-    (a .run .at + l .read) (l .count) (a .run .steps + 3 * l .read) (l .output) (l .inv .2) (k .0) (at (blockAt w 32) 2) (d .outputs) in
-    let fits : l .count + at (blockAt w 32) 2 ≤ length (l .output) = omega (arith, room, l .inv .1) in
-    ((h .long, c .before .before .before .before .before .before .loop-test .taken, omega (arith, d .positive, d .size)), (omega (arith, d .outputs, h .expansion), fits))
+    (a .run .at + l .read) (l .count) (a .run .steps + 3 * l .read) (l .output) (l .inv .2) (k .0) (s .pre .0 .0) (at (blockAt w 32) 2) (d .outputs) in
+    let fits : 1 ≤ length (l .output) → l .count + at (blockAt w 32) 2 ≤ length (l .output) = subst (λ n. 1 ≤ n → l .count + at (blockAt w 32) 2 ≤ n) (sym (l .inv .1)) (room .0) in (
+      (h .long, c .before .before .before .before .before .before .loop-test .taken, omega (arith, d .positive, d .size)),
+      (omega (arith, d .outputs, h .expansion), (fits, room .1)),
+    )
 
 add-read : tie.Need-add-read Inv-loop μ-loop
 add-read c =
@@ -162,15 +165,15 @@ loop-again c =
     let lead = told .before .before in
     let k = leads lead in
     let none = subst (λ n. Leads n (word lead)) (told .enum-told .given .1) (k .1) in
-    let known = c .before .before .write-default .ensures in
+    let known = c .before .before .emit-default .ensures in
     let size = l .inv .1 in
     let one = part-one (a .given .now) (a .piece .now) (p .result .now) (a .run .at) (p .ensures) (l .read) t (s .pre .1 .0 .inside) in (
       omega (arith, t),
       search needs,
       defaulted-next w (text s) (a .run .at) (a .run .count) (a .run .steps) (a .output .now) (s .pre .0 .0) (s .pre .0 .2)
           (a .run .at + l .read) (l .count) (a .run .steps + 3 * l .read) (l .output) size (l .inv .2) (k .0) none
-          (a .run .at + (l .read + 1)) (c .before .before .write-default .result) (a .run .steps + 3 * (l .read + 1)) _ (omega arith) (known .0) (omega arith)
-          (known .1 ∙ ap (λ x. take (l .count) (l .output) ++ blockOutput b x ++ drop (l .count + at b 2) (l .output)) one),
+          (a .run .at + (l .read + 1)) (c .before .before .emit-default .result) (a .run .steps + 3 * (l .read + 1)) _ (omega arith) (known .0) (omega arith)
+          (known .1 ∙ ap (λ x. put (l .output) (l .count) (blockOutput b x)) one),
     )
 
 add-between-3 : tie.Need-add-between-3 Inv-loop μ-loop
@@ -208,8 +211,8 @@ returns-2 c =
     defaulted-end (a .words .now) (text s) (a .run .at) (a .run .count) (a .run .steps) (a .output .now) (s .pre .0 .0) (a .run) (s .pre .1 .1) refl refl refl (s .pre .1 .0)
     (a .run .at + l .read) (l .count) (a .run .steps + 3 * l .read) (l .output) (l .inv .2) (c .between2 .result) (c .between2 .ensures)
 
-pub write-defaults-spec : {M : Type 1} → statement M
-write-defaults-spec =
+pub emit-defaults-spec : {M : Type 1} → statement M
+emit-defaults-spec =
     tie.close
     (tie.spec
     Inv-loop
@@ -228,7 +231,7 @@ write-defaults-spec =
     between-requires
     same-length
     returns
-    write-default-requires
+    emit-default-requires
     add-read
     loop-less
     loop-again
