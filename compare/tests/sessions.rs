@@ -1,5 +1,6 @@
 //! Feed and finish against the independent version: after every call the same
-//! answer, session, count and output buffer, the whole of it.
+//! answer, session, count and output buffer, the whole of it; and a preview before
+//! each feed, which sees what the feed then gives.
 
 use std::collections::BTreeMap;
 

@@ -80,3 +80,8 @@ copy-next source copy i h k e =
     ∙ ap (λ l. l ++ x ∷ []) e
     ∙ sym (take-suc source i 0 h)
     ∙ ap (λ j. take j source) (sym one)
+
+-- a list of length 0
+pub no-elements : (xs : List ℕ) → length xs ≡ 0 → xs ≡ []
+no-elements [] e = refl
+no-elements (x ∷ xs) e = absurd (omega arith)

@@ -14,6 +14,7 @@ use lib.ListN.{length, take, drop, replicate, length-append, length-replicate, l
 use Rattle.lists.specs.Lists.{Each, atLast, lastD, isSome, optional}
 use Rattle.lists.proofs.Laws.Tests.{not-not, or-none, or-cases, of-cond, by-cases, eq→eqb, neqb→ne}
 use Rattle.lists.proofs.Laws.Each.{each-append, each-front, each-back, each-weaken, each-both}
+use Rattle.lists.proofs.Laws.Parts.{no-elements}
 use Rattle.meaning.specs.Refusal.{Outcome, refused, accepted}
 use Rattle.meaning.specs.Table.{Range, Output, sum, digit, Group, Table, everyCharacter, groups}
 use Rattle.meaning.specs.Record.{Record, rule, range, output, term, default, hexadecimal, decode}
@@ -281,13 +282,9 @@ one-described s c l y b w = go (decode c) refl
           ),
         )
 
-no-bytes : (c : List ℕ) → length c ≡ 0 → c ≡ []
-no-bytes [] e = refl
-no-bytes (x ∷ c) e = absurd (omega arith)
-
 records-described : (n : ℕ) (c : List ℕ) (s : Reading) (b : List ℕ) → length c ≡ 8 * n → Bytes c → Described s b → IfRead (b ++ c) (readRecords n c s)
 unfolding readRecords
-records-described zero c s b l y w = subst (Described s) (sym (ap (λ d. b ++ d) (no-bytes c l) ∙ append-nil b)) w
+records-described zero c s b l y w = subst (Described s) (sym (ap (λ d. b ++ d) (no-elements c l) ∙ append-nil b)) w
 records-described (suc n) c s b l y w =
     let here = take 8 c in
     let rest = drop 8 c in

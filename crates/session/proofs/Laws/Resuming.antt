@@ -159,10 +159,10 @@ module _ (w : List ℕ) (found : Kept) (uses piece : List ℕ) (ended : Bool) (r
 
 -- A call with room for all that it may write: the text goes over the buffer, and where that has no place, there is no text.
 
-over-none : (text buffer : List ℕ) → length text ≤ length buffer → put buffer 0 text ≡ over text buffer
-over-none [] [] h = refl
-over-none (x ∷ text) [] h = absurd (omega arith)
-over-none text (y ∷ buffer) h = let none-more : 0 + length text ≡ length text = omega arith in ap (λ k. text ++ drop k (y ∷ buffer)) none-more
+put-over : (text buffer : List ℕ) → length text ≤ length buffer → put buffer 0 text ≡ over text buffer
+put-over [] [] h = refl
+put-over (x ∷ text) [] h = absurd (omega arith)
+put-over text (y ∷ buffer) h = let none-more : 0 + length text ≡ length text = omega arith in ap (λ k. text ++ drop k (y ∷ buffer)) none-more
 
 pub went-whole : (w : List ℕ) (s : Session) (piece : List ℕ) (ended : Bool) (buffer : List ℕ) → admits w s (length piece) (length buffer) ≡ accepted tt →
     wentOn (fromWords w) s piece ended buffer ≡ callBy (accepted tt) (fromWords w) s piece ended buffer
@@ -170,7 +170,7 @@ went-whole w s piece ended buffer e =
     let a = admitted w s (length piece) (length buffer) e in
     let most = text-most w s piece ended (a .sound-words) (a .sound-session) (a .passed .0) in
     let o = callBy (accepted tt) (fromWords w) s piece ended buffer in
-    let fits = over-none (textOf (fromWords w .write) (resumed (fromWords w) s piece ended .final .log)) buffer (le-trans most (a .passed .2)) in
+    let fits = put-over (textOf (fromWords w .write) (resumed (fromWords w) s piece ended .final .log)) buffer (le-trans most (a .passed .2)) in
     λ i. record { answer = o .answer; session = o .session; output = fits i }
 
 -- What a call comes to by the answer of its tests.

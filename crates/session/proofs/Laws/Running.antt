@@ -11,6 +11,7 @@ use lib.Dec.{T, eqb, eqb→eq}
 use lib.ListN.{length, getD, set, take, drop, length-append, length-drop, take-append-drop, drop-of-length-le}
 use lib.Seq.{take-all, drop-nil, length-take-le, take-suc, drop-cons, append-snoc, getD-drop, set-at, take-append-seam, drop-append-seam, take-at, drop-at, take-add, drop-drop}
 use Rattle.lists.proofs.Laws.Tests.{to-T}
+use Rattle.lists.proofs.Laws.Parts.{no-elements}
 use Rattle.meaning.specs.Table.{defaultNumber}
 use Rattle.meaning.specs.Block.{at, blockOutput}
 use Rattle.meaning.specs.Meaning.{Emission, textOf, covered}
@@ -513,11 +514,7 @@ stage-on w u ended room r found old new before after false f G = ((f .0 .0, f .1
 pub ends-put : (w u : List ℕ) (r : Ended) (found : List ℕ) (now : Ran) (has : Lent) (buffer : List ℕ) → EndsAs w u r found now has →
     length (has .output) ≡ length buffer → drop (now .count) (has .output) ≡ drop (now .count) buffer →
     has .output ≡ put buffer 0 (textOf (fromWords w .write) (r .final .log))
-ends-put w u r found now has [] F l e = none (has .output) l
-  where
-    none : (output : List ℕ) → length output ≡ 0 → output ≡ []
-    none [] z = refl
-    none (x ∷ output) z = absurd (omega arith)
+ends-put w u r found now has [] F l e = no-elements (has .output) l
 ends-put w u r found now has (x ∷ buffer) F l e =
     let output = has .output in
     let text = textOf (fromWords w .write) (r .final .log) in
