@@ -22,6 +22,7 @@ use words::numbers::ClassNo;
 use words::numbers::StateNo;
 
 // The number of the state with this depth and set, or the count where it is not there yet. The states up to `after` have other depths.
+// The latest state is looked at first, since most classes lead there; no state is there twice, so one that is found is the first.
 fn find_state(
     words: &[u16],
     sets: &[u32],
@@ -32,19 +33,21 @@ fn find_state(
 ) -> StateNo
     requires { ⌜ (after .0 < count) × (count ≤ 256) × (wordCount ≤ length (now words)) × (length (now sets) ≡ 256) ⌝ }
     requires { ⌜ ((i : ℕ) → i < after .0 + 1 → at (now words) (statesFrom + 3 * i) ≡ depth → ⊥) ⌝ }
+    requires { ⌜ ((i j : ℕ) → i < j → j < count → at (now sets) i ≡ at (now sets) j → at (now words) (statesFrom + 3 * i) ≡ at (now words) (statesFrom + 3 * j) → ⊥) ⌝ }
     ensures { λ r. ⌜ r .0 ≤ count ⌝ }
     ensures { λ r.
         ⌜ ((n : ℕ) → ((i : ℕ) → i < count → at (now (sets .entry)) i < 2 ^ n) → set < 2 ^ n →
         r .0 ≡ numberIn (stateOf n depth set) (statesAt (now (words .entry)) (now (sets .entry)) n count)) ⌝ }
 {
-    let mut i = after.0 as usize + 1;
-    while i < count {
+    let first = after.0 as usize + 1;
+    let mut i = count;
+    while i > first {
+        i -= 1;
         if sets[i] == set {
             if words[STATES_FROM + 3 * i] as usize == depth {
                 return StateNo(i as u16);
             }
         }
-        i += 1;
     }
     StateNo(count as u16)
 }

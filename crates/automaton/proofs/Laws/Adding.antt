@@ -1,4 +1,4 @@
--- Adding states to a list, each where it is not there yet: what is added, and that a level's successors are the next level.
+-- Adding states to a list, each where it is not there yet: what is added, that none stands twice, and that a level's successors are the next level.
 -- States of different depth differ, so no successor of a level is in the levels up to it.
 use mathlib.Core.Bool.{Bool, true, false, _&&_, _||_, not, cond}
 use mathlib.Core.List.{List, [], _∷_, _++_, map, append-nil, append-assoc, List·Memᴰ, List·Memᴰ·head, List·Memᴰ·tail, List·Memᴰ·not-nil, List·Memᴰ·cases-cons}
@@ -6,15 +6,17 @@ use mathlib.Core.Logic.{⊎-elim}
 use mathlib.Core.Option.{Option, none, some}
 use mathlib.Core.Path.{_≡_, refl, sym, ap, subst, _∙_}
 use Prim.Native.Nat.{ℕ, zero, suc, _+_, _≤_, _<_}
+use native.Mathlib.Decide.{decLt}
 use native.Mathlib.Nat.{add-zero}
 use native.Mathlib.Omega.{arith}
 use lib.Dec.{T, T-not, not-T}
-use lib.ListN.{length, getD, drop, length-append}
-use lib.Seq.{append-snoc}
+use lib.ListN.{length, getD, drop, length-append, List·getD-append}
+use lib.Seq.{append-snoc, getD-append-seam}
 use Rattle.lists.specs.Lists.{foldLeft, any, Each, filter, findFrom, isSome, orElse}
 use Rattle.lists.proofs.Laws.Folds.{foldLeft-append, flatMap-append}
-use Rattle.lists.proofs.Laws.Tests.{either, test-eq, and-right, both, or-left, or-right, of-T}
+use Rattle.lists.proofs.Laws.Tests.{either, test-eq, and-right, both, or-left, or-right, of-cond, of-T}
 use Rattle.lists.proofs.Laws.Each.{each-append, each-weaken, each-filter, each-map}
+use Rattle.lists.proofs.Laws.Members.{mem-getD}
 use Rattle.lists.proofs.Laws.Sets.{filter-filter, filter-same, filter-none, filter-all}
 use Rattle.meaning.specs.Table.{Table, longest}
 use Rattle.automaton.specs.States.{State, successor, sameState, inhabited, distinct, nextLevel, levels}
@@ -136,6 +138,31 @@ mem-inside [] m = absurd (List·Memᴰ·not-nil m)
 mem-inside (p ∷ qs) {q} m =
     ⊎-elim (λ e. or-left (sameState q p) (inside qs q) (state-same q p e)) (λ r. or-right (sameState q p) (inside qs q) (mem-inside qs r))
     (List·Memᴰ·cases-cons m)
+
+-- no state stands twice
+
+abbrev pub Once : List State → Type 0
+Once qs = (i j : ℕ) (d : State) → i < j → j < length qs → getD qs i d ≡ getD qs j d → ⊥
+
+once-added : (x : State) (qs : List State) → Once qs → Once (added x qs)
+unfolding added
+once-added x qs o = of-cond Once (isSome (findFrom 0 (sameState x) qs)) qs (qs ++ x ∷ []) (λ _. o) (λ n i j d h l e.
+    let front : getD (qs ++ x ∷ []) i d ≡ getD qs i d = List·getD-append qs (x ∷ []) d i (omega (arith, length-append qs (x ∷ []))) in
+    elim (decLt j (length qs)) [
+      | yes p ↦ o i j d h p (sym front ∙ e ∙ List·getD-append qs (x ∷ []) d j p)
+      | no p ↦
+          let z : j ≡ length qs = omega (arith, length-append qs (x ∷ [])) in
+          let same : getD qs i d ≡ x = sym front ∙ e ∙ ap (λ k. getD (qs ++ x ∷ []) k d) z ∙ getD-append-seam qs x [] d in
+          T-not (inside qs x) (subst (λ b. T (not b)) (some-any (sameState x) 0 qs) n)
+          (mem-inside qs (subst (λ q. List·Memᴰ q qs) same (mem-getD qs i d (omega arith))))
+    ])
+
+pub once-from : (t : Table) (q : State) (cs : List ℕ) (qs : List State) → Once qs → Once (addedFrom t q cs qs)
+unfolding addedFrom
+once-from t q [] qs o = o
+once-from t q (c ∷ cs) qs o =
+    let x : State = successor t q c in
+    once-from t q cs (cond (inhabited x) (added x qs) qs) (of-cond Once (inhabited x) (added x qs) qs (λ _. once-added x qs o) (λ _. o))
 
 -- levels
 

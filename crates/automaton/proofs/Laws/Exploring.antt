@@ -22,7 +22,7 @@ use Rattle.automaton.specs.bridge.Build.{numberIn, added, addedFrom}
 use Rattle.automaton.specs.bridge.Noted.{doneAt, reachedAt}
 use Rattle.automaton.proofs.Laws.Good.{stateAt}
 use Rattle.automaton.proofs.Laws.Levels.{level-initial, onward, states-closed, states-deepen, successor-depth, numbered}
-use Rattle.automaton.proofs.Laws.Adding.{each-member, front-length, some-any, inside, addedAll, newOf, all-new, all-append, each-new, mem-inside, from-all, each-onward, levels-added, deepening-from, number-added}
+use Rattle.automaton.proofs.Laws.Adding.{each-member, front-length, some-any, inside, addedAll, newOf, all-new, all-append, each-new, mem-inside, Once, once-from, from-all, each-onward, levels-added, deepening-from, number-added}
 
 -- the state met next, by class start number k from state s
 abbrev pub metAt : Table → ℕ → ℕ → State
@@ -58,6 +58,17 @@ module _ (t : Table) where
 
   done-front : (s : ℕ) → s ≤ length (states t) → states t ≡ doneAt t s ++ newOf (ahead s) (doneAt t s)
   done-front s h = sym (done-rest s h) ∙ all-new (ahead s) (doneAt t s)
+
+  -- no state is there twice
+
+  done-once : (s : ℕ) → Once (doneAt t s)
+  unfolding doneAt
+  done-once zero = λ i j d h l e. omega arith
+  done-once (suc s) = once-from t (stateAt t s) (starts t) (doneAt t s) (done-once s)
+
+  pub reached-once : (s k : ℕ) → Once (reachedAt t s k)
+  unfolding reachedAt
+  reached-once s k = once-from t (stateAt t s) (take k (starts t)) (doneAt t s) (done-once s)
 
   -- what is still to be added is deeper than state s, so state s is there
   done-long : (s : ℕ) → s < length (states t) → s < length (doneAt t s)

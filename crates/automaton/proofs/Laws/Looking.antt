@@ -1,12 +1,12 @@
 -- A state looked for among those that the words and the sets hold: its number in their list, and what that says.
--- A loop's search from a state on is the search in what is left of the list; equal sets are equal numbers.
+-- The number is that of the first state that is like it, or the count where none is; equal sets are equal numbers.
 use mathlib.Core.Bool.{Bool, true, false, _&&_}
 use mathlib.Core.List.{List, [], _∷_}
 use mathlib.Core.Logic.{_≢_}
 use mathlib.Core.Option.{Option, none, some}
 use mathlib.Core.Path.{_≡_, refl, sym, ap, subst, _∙_}
 use Prim.Native.Nat.{ℕ, zero, suc, _+_, _-_, _^_, _≤_, _<_}
-use native.Mathlib.Decide.{ℕ-discrete}
+use native.Mathlib.Decide.{ℕ-discrete, decLt}
 use native.Mathlib.Numerals.{add-one}
 use native.Mathlib.Omega.{arith}
 use borrow.Author.Tests.{eq-eqb, ne-eqb}
@@ -21,57 +21,66 @@ use Rattle.automaton.specs.Sound.{depthWord}
 use Rattle.automaton.specs.bridge.Build.{stateOf, numberIn, statesAt}
 use Rattle.automaton.proofs.Laws.Sets.{same-set}
 
--- a state looked for among those that the words and the sets hold, from state 0 up
-module _ (w sets : List ℕ) (count depth x : ℕ) where
-  abbrev among : ℕ → ℕ → State
-  among n i = stateOf n (depthWord w i) (at sets i)
+-- state i is not the one looked for
+abbrev Unlike : List ℕ → List ℕ → ℕ → ℕ → ℕ → Type 0
+Unlike w sets depth x i = at sets i ≡ x → depthWord w i ≡ depth → ⊥
 
-  abbrev looking : ℕ → ℕ → ℕ
-  looking n i = orElse count (findFrom i (sameState (stateOf n depth x)) (tabFrom i (count - i) (among n)))
+-- none of those from i on is
+abbrev pub Passed : List ℕ → List ℕ → ℕ → ℕ → ℕ → ℕ → Type 0
+Passed w sets count depth x i = (j : ℕ) → i ≤ j → j < count → Unlike w sets depth x j
 
-  abbrev pub Looked : ℕ → Type 0
-  Looked i = (n : ℕ) → ((j : ℕ) → j < count → at sets j < 2 ^ n) → x < 2 ^ n → numberIn (stateOf n depth x) (statesAt w sets n count) ≡ looking n i
+pub passed-down : (w sets : List ℕ) (count depth x i : ℕ) → Passed w sets count depth x i → Unlike w sets depth x (i - 1) → Passed w sets count depth x (i - 1)
+passed-down w sets count depth x i g u j h l =
+    elim (decLt j i) [ yes p ↦ let e : i - 1 ≡ j = omega arith in subst (Unlike w sets depth x) e u | no p ↦ g j (omega arith) l ]
+
+-- a state looked for among those that the words and the sets hold
+module _ (w sets : List ℕ) (count depth x n : ℕ) (f : (j : ℕ) → j < count → at sets j < 2 ^ n) (h : x < 2 ^ n) where
+  abbrev among : ℕ → State
+  among i = stateOf n (depthWord w i) (at sets i)
+
+  abbrev number : ℕ
+  number = numberIn (stateOf n depth x) (statesAt w sets n count)
+
+  -- its number is that found from state i on
+  abbrev Looked : ℕ → Type 0
+  Looked i = number ≡ orElse count (findFrom i (sameState (stateOf n depth x)) (tabFrom i (count - i) among))
 
   looked-start : Looked 0
   unfolding numberIn statesAt
-  looked-start n f h =
-      ap (λ l. orElse l (findFrom 0 (sameState (stateOf n depth x)) (tabFrom 0 count (among n)))) (length-tab (among n) 0 count)
-      ∙ ap (λ qs. orElse count (findFrom 0 (sameState (stateOf n depth x)) qs)) (tab-start (among n) count)
+  looked-start =
+      ap (λ l. orElse l (findFrom 0 (sameState (stateOf n depth x)) (tabFrom 0 count among))) (length-tab among 0 count)
+      ∙ ap (λ qs. orElse count (findFrom 0 (sameState (stateOf n depth x)) qs)) (tab-start among count)
 
-  module _ (i : ℕ) (l : Looked i) (n : ℕ) (f : (j : ℕ) → j < count → at sets j < 2 ^ n) (h : x < 2 ^ n) where
-    pub looked-end : count ≤ i → numberIn (stateOf n depth x) (statesAt w sets n count) ≡ count
-    looked-end k = l n f h ∙ ap (λ qs. orElse count (findFrom i (sameState (stateOf n depth x)) qs)) (tab-end (among n) count i k)
+  -- the test of state i decides
+  looked-at : (i : ℕ) (b : Bool) → Looked i → i < count → (eqb depth (depthWord w i) && eqb x (at sets i)) ≡ b →
+      number ≡ orElse count (elim b [ true ↦ some i | false ↦ findFrom (suc i) (sameState (stateOf n depth x)) (tabFrom (i + 1) (count - (i + 1)) among) ])
+  looked-at i b l k e =
+      l
+      ∙ ap (λ qs. orElse count (findFrom i (sameState (stateOf n depth x)) qs)) (tab-next among count i k)
+      ∙ ap (λ c. orElse count (elim c [ true ↦ some i | false ↦ findFrom (suc i) (sameState (stateOf n depth x)) (tabFrom (i + 1) (count - (i + 1)) among) ]))
+      (same-set n depth (depthWord w i) x (at sets i) h (f i k) ∙ e)
 
-    -- the test of state i decides
-    looked-at : (b : Bool) → i < count → (eqb depth (depthWord w i) && eqb x (at sets i)) ≡ b →
-        numberIn (stateOf n depth x) (statesAt w sets n count)
-        ≡ orElse count (elim b [ true ↦ some i | false ↦ findFrom (suc i) (sameState (stateOf n depth x)) (tabFrom (i + 1) (count - (i + 1)) (among n)) ])
-    looked-at b k e =
-        l n f h
-        ∙ ap (λ qs. orElse count (findFrom i (sameState (stateOf n depth x)) qs)) (tab-next (among n) count i k)
-        ∙ ap (λ c. orElse count (elim c [ true ↦ some i | false ↦ findFrom (suc i) (sameState (stateOf n depth x)) (tabFrom (i + 1) (count - (i + 1)) (among n)) ]))
-        (same-set n depth (depthWord w i) x (at sets i) h (f i k) ∙ e)
-
-    pub looked-found : i < count → at sets i ≡ x → depthWord w i ≡ depth → numberIn (stateOf n depth x) (statesAt w sets n count) ≡ i
-    looked-found k p q = looked-at true k (rw (eq-eqb depth (depthWord w i) (sym q), eq-eqb x (at sets i) (sym p)))
-
-  pub looked-next : (i : ℕ) → Looked i → i < count → (at sets i ≡ x → depthWord w i ≡ depth → ⊥) → Looked (i + 1)
-  looked-next i l k g n f h =
-      looked-at i l n f h false k test
-      ∙ ap (λ j. orElse count (findFrom j (sameState (stateOf n depth x)) (tabFrom (i + 1) (count - (i + 1)) (among n)))) (sym (add-one i))
+  looked-from : (i : ℕ) → i ≤ count → ((j : ℕ) → j < i → Unlike w sets depth x j) → Looked i
+  looked-from zero k g = looked-start
+  looked-from (suc i) k g =
+      looked-at i false (looked-from i (omega arith) (λ j l. g j (omega arith))) k test
+      ∙ ap (λ j. orElse count (findFrom (suc i) (sameState (stateOf n depth x)) (tabFrom j (count - j) among))) (add-one i)
     where
       test : (eqb depth (depthWord w i) && eqb x (at sets i)) ≡ false
       test =
           elim (ℕ-discrete depth (depthWord w i)) [
-            | yes p ↦ rw (eq-eqb depth (depthWord w i) p) (ne-eqb x (at sets i) (λ q. g (sym q) (sym p)))
+            | yes p ↦ rw (eq-eqb depth (depthWord w i) p) (ne-eqb x (at sets i) (λ q. g i (omega arith) (sym q) (sym p)))
             | no p ↦ rw (ne-eqb depth (depthWord w i) p)
           ]
 
-  -- states of other depths need no look
-  pub looked-from : (i : ℕ) → i ≤ count → ((j : ℕ) → j < i → depthWord w j ≡ depth → ⊥) → Looked i
-  looked-from zero k g = looked-start
-  looked-from (suc i) k g =
-      subst Looked (add-one i) (looked-next i (looked-from i (omega arith) (λ j l. g j (omega arith))) k (λ _. g i (omega arith)))
+  pub looked-found : (i : ℕ) → i < count → ((j : ℕ) → j < i → Unlike w sets depth x j) → at sets i ≡ x → depthWord w i ≡ depth → number ≡ i
+  looked-found i k g p q =
+      looked-at i true (looked-from i (omega arith) g) k (rw (eq-eqb depth (depthWord w i) (sym q), eq-eqb x (at sets i) (sym p)))
+
+  pub looked-none : ((j : ℕ) → j < count → Unlike w sets depth x j) → number ≡ count
+  looked-none g =
+      looked-from count (omega arith) g
+      ∙ ap (λ qs. orElse count (findFrom count (sameState (stateOf n depth x)) qs)) (tab-end among count count (omega arith))
 
 -- a number found is that of an element
 

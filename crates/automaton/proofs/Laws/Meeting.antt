@@ -29,7 +29,7 @@ use Rattle.automaton.proofs.Laws.Good.{stateAt}
 use Rattle.automaton.proofs.Laws.Levels.{states-deepen}
 use Rattle.automaton.proofs.Laws.Adding.{deepening-from}
 use Rattle.automaton.proofs.Laws.Sets.{inhabited-set}
-use Rattle.automaton.proofs.Laws.Exploring.{metAt, targetAt, reached-long, reached-same, reached-state, reached-row, met-final, met-none, met-there, met-new, too-many}
+use Rattle.automaton.proofs.Laws.Exploring.{metAt, targetAt, reached-long, reached-same, reached-state, reached-row, reached-once, met-final, met-none, met-there, met-new, too-many}
 use Rattle.automaton.proofs.Laws.Looking.{found-some, found-none}
 use Rattle.automaton.proofs.Laws.Noting.{filled-skip, noted-end, noted-accept, noted-put, noted-list, noted-add, noted-blank}
 
@@ -86,6 +86,12 @@ module _ (t : Table) (n s : ℕ) (h : s < length (states t)) where
       where
         depth : (j : ℕ) → j < count → depthWord w j ≡ stateAt t j .depth
         depth j b = ap (λ (q : State). q .depth) (N .met j b ∙ reached-same t s h k j (initial t) (subst (λ c. j < c) (sym (N .counted)) b))
+
+    -- no state is there twice
+    pub noted-once : (i j : ℕ) → i < j → j < count → at sets i ≡ at sets j → depthWord w i ≡ depthWord w j → ⊥
+    noted-once i j l b e d =
+        reached-once t s k i j (initial t) l (subst (λ c. j < c) (sym (N .counted)) b)
+        (sym (N .met i (omega arith)) ∙ ap (λ y. stateOf n (depthWord w i) y) e ∙ ap (λ y. stateOf n y (at sets j)) d ∙ N .met j b)
 
     noted-place : 64 * s + k < targetsSize
     noted-place =

@@ -11,7 +11,7 @@ use Rattle.meaning.specs.bridge.Flat.{tableAt}
 use Rattle.automaton.specs.Sound.{depthWord}
 use Rattle.automaton.specs.bridge.Build.{stateOf, numberIn, statesAt}
 use Rattle.automaton.proofs.Laws.Noting.{kept-same, kept-set, kept-on, onward, too-large}
-use Rattle.automaton.proofs.Laws.Meeting.{noted-depths, Ways, ways-on}
+use Rattle.automaton.proofs.Laws.Meeting.{noted-depths, noted-once, Ways, ways-on}
 use Rattle.machine.proofs.states.note_class.Statement.{statement}
 use Rattle.machine.proofs.states.note_class.Tie as tie
 use Rattle.automaton.specs.Layout.{statesFrom, targetsFrom}
@@ -97,8 +97,13 @@ find-state-requires c κs =
     let s = c .before .before .before .before .before .before .before .before .before .before .before .before in
     let a = s .args in
     let g = s .pre .1 .0 in
-    let N = s .pre .1 .1 in
-    ((omega arith, N .few, N .room, N .places), noted-depths (table s) (a .rules) (a .state .0) (g .2) (a .class .0) (a .words .now) (a .sets .now) (a .count) (g .3) N)
+    let N = s .pre .1 .1 in (
+      (omega arith, N .few, N .room, N .places),
+      (
+        noted-depths (table s) (a .rules) (a .state .0) (g .2) (a .class .0) (a .words .now) (a .sets .now) (a .count) (g .3) N,
+        noted-once (table s) (a .rules) (a .state .0) (g .2) (a .class .0) (a .words .now) (a .sets .now) (a .count) (g .3) N,
+      ),
+    )
 
 mul-place : tie.Need-mul-place
 mul-place c = omega arith
