@@ -1,7 +1,8 @@
 /*
  * Cobbletwill: conversion of text under a table of rules, tables of rules that are
- * typed as text, compiling a table into machine words, and conversion by the words,
- * piece by piece, with a look ahead at what a piece would give.
+ * typed as text, compiling a table into machine words, inputs that show which rules
+ * can be chosen, and conversion by the words, piece by piece, with a look ahead at
+ * what a piece would give.
  *
  * Document 01 says what tables, characters, direct conversion, machine words and
  * sessions are, request [4] of document 02 what can be typed; docs/FORMAT.md has
@@ -11,20 +12,21 @@
  *
  * Buffers. A buffer is a pointer to its first element and then its number of
  * elements. With the number 0 the pointer is not used and may be null. No other
- * pointer may be null: `session`, `later`, `place`, `written` and `length` always
- * point to one object, `uses` and `later_uses` to 33. Pointers are aligned as their
- * type.
+ * pointer may be null: `session`, `later`, `place`, `written`, `length` and the
+ * `input` of witness always point to one object, `uses` and `later_uses` to 33.
+ * Pointers are aligned as their type.
  *
- * Overlaps. What a call may write (the table of from_text, the words of compile,
- * `output`, the `*session` and `uses` of feed and finish, `*later`, `later_uses`,
- * `*place`, `*written`, `*length`) must not overlap anything else that is passed to
- * it. Where counts of uses are passed too, a session is the 48 bytes before its
- * counts. What a call only reads (`text`, `table` but for that of from_text,
- * `input`, `piece`, the words of feed, finish and preview, the `*session` and
- * `uses` of preview) may overlap, and may lie in read-only memory.
+ * Overlaps. What a call may write (the table of from_text, the words of compile
+ * and witness, the `*input` of witness, `output`, the `*session` and `uses` of feed
+ * and finish, `*later`, `later_uses`, `*place`, `*written`, `*length`) must not
+ * overlap anything else that is passed to it. Where counts of uses are passed too, a
+ * session is the 48 bytes before its counts. What a call only reads (`text`, `table`
+ * but for that of from_text, the `input` of convert, `piece`, the words of feed,
+ * finish and preview, the `*session` and `uses` of preview) may overlap, and may lie
+ * in read-only memory.
  *
- * A refused call writes nothing, but for a compile refused by 1 to 9, which
- * leaves its words 0. So at any other refusal what could have been written may
+ * A refused call writes nothing, but for a compile or a witness refused by 1 to 9,
+ * which leaves its words 0. So at any other refusal what could have been written may
  * lie in read-only memory too.
  *
  * Nothing is kept after a call, no memory is taken from a heap, there is no static
@@ -39,12 +41,12 @@
 /* The version of this header and its library: record kinds, word and session
  * layout, answers, functions. Words of 0.2, which has no digits, are not for
  * later versions, nor are sessions of 0.3, which have no counts of uses. Tables,
- * words and sessions of 0.4, which has no from_text, and of 0.5, which has no
- * preview, stay valid. */
+ * words and sessions of 0.4, which has no from_text, of 0.5, which has no preview,
+ * and of 0.6, which has no witness, stay valid. */
 #define COBBLETWILL_VERSION_MAJOR 0
-#define COBBLETWILL_VERSION_MINOR 6
+#define COBBLETWILL_VERSION_MINOR 7
 #define COBBLETWILL_VERSION_PATCH 0
-#define COBBLETWILL_VERSION "0.6.0"
+#define COBBLETWILL_VERSION "0.7.0"
 
 #ifdef __cplusplus
 extern "C" {
@@ -55,6 +57,10 @@ enum { COBBLETWILL_TABLE = 27016 };
 
 /* The machine words of a table: 19,961 of 16 bits. */
 enum { COBBLETWILL_WORDS = 19961 };
+
+/* The most characters of an input that shows a rule: those of the longest pattern,
+ * and one more. */
+enum { COBBLETWILL_INPUT = 9 };
 
 /* The counts of uses in a session: a rule's at its number, 0 to 31, and the
  * default's. */
@@ -69,17 +75,18 @@ enum {
     COBBLETWILL_STACK_CONVERT = 12288,
     COBBLETWILL_STACK_FROM_TEXT = 32768,
     COBBLETWILL_STACK_COMPILE = 14336,
+    COBBLETWILL_STACK_WITNESS = 14336,
     COBBLETWILL_STACK_IS_SOUND = 256,
     COBBLETWILL_STACK_FEED = 1536,
     COBBLETWILL_STACK_FINISH = 1536,
     COBBLETWILL_STACK_PREVIEW = 1536
 };
 
-/* The answers of the check, of conversion, of from_text, of compiling, of feed, of
- * finish and of preview. A refusal answers its number. */
+/* The answers of the check, of conversion, of from_text, of compiling, of witness,
+ * of feed, of finish and of preview. A refusal answers its number. */
 enum {
     /* The table or the text is accepted; the conversion or the session closed at
-     * the input's end; the table is compiled. */
+     * the input's end; the table is compiled; the rule is live. */
     COBBLETWILL_OK = 0,
 
     /* 1: the table's length is no multiple of 8. */
@@ -98,11 +105,11 @@ enum {
     COBBLETWILL_TOO_MANY = 6,
     /* 7: an output value may leave 0 to 65535. */
     COBBLETWILL_VALUE = 7,
-    /* 8: a 65th class of characters (compiling only). */
+    /* 8: a 65th class of characters (compile and witness only). */
     COBBLETWILL_CLASSES = 8,
-    /* 9: a 257th state (compiling only). */
+    /* 9: a 257th state (compile and witness only). */
     COBBLETWILL_STATES = 9,
-    /* 10: under 19,961 words for compiling. */
+    /* 10: under 19,961 words for compile or witness. */
     COBBLETWILL_SHORT_WORDS = 10,
     /* 11: under 19,961 words for feed, finish or preview, or words that are not
      * sound. */
@@ -131,11 +138,14 @@ enum {
      * stopped. */
     COBBLETWILL_STOPPED = 64,
     /* The call is accepted, and the session waits for more. */
-    COBBLETWILL_OPEN = 65
+    COBBLETWILL_OPEN = 65,
+    /* The table is compiled, and the rule is dead: no input has it chosen
+     * anywhere. */
+    COBBLETWILL_DEAD = 66
 };
 
-/* Whether an answer is a refusal, which is none of 0, 64 and 65: a number from 1
- * to 63, of which 1 to 17 are in use. */
+/* Whether an answer is a refusal, which is none of 0, 64, 65 and 66: a number from
+ * 1 to 63, of which 1 to 17 are in use. */
 #define COBBLETWILL_REFUSED(answer) ((answer) - UINT32_C(1) < UINT32_C(63))
 
 /* A refusal in the words of documents 01 and 02; for any other answer, "no
@@ -277,13 +287,43 @@ uint32_t cobbletwill_from_text(const uint16_t *text, size_t text_length,
 uint32_t cobbletwill_compile(const uint8_t *table, size_t table_length,
                              uint16_t *words, size_t words_length);
 
+/* An input that shows a rule: 20 bytes aligned as a uint16_t, the fields in this
+ * order without gaps. */
+typedef struct cobbletwill_input {
+    /* How many characters it has, at most 9; 0 where no input shows the rule. */
+    uint16_t length;
+    /* The characters. Places from `length` on are 0. */
+    uint16_t characters[COBBLETWILL_INPUT];
+} cobbletwill_input;
+
+/*
+ * Witness: whether a rule can be chosen. The table is compiled first; `table` and
+ * `words` are as for cobbletwill_compile, and `words` are left as that leaves them.
+ * `rule` is any number; rules are numbered from 0. `input` points to an input of any
+ * content.
+ *
+ * Answers 0 for a live rule. Then `*input` has 1 to 9 characters on which the rule is
+ * the first choice: of the rules that fit at the start of this input, it is the
+ * shortest and of those the lowest. Which of such inputs it is, is free.
+ *
+ * Answers 66 for a dead rule: no input of any length has it chosen anywhere. A number
+ * that no rule has is dead too. Then `*input` is all 0.
+ *
+ * Else answers the first refusal of compiling, 10 or 1 to 9, in its order, and
+ * `*input` is as found. Refused by 1 to 9, the first 19,961 words are 0.
+ */
+uint32_t cobbletwill_witness(const uint8_t *table, size_t table_length,
+                             uint16_t *words, size_t words_length, uint32_t rule,
+                             cobbletwill_input *input);
+
 /*
  * The test of words. `words` has `words_length` words, which are only read; at
  * most the first 19,961 are looked at, and of these only the ones in use.
  *
  * Answers 1 for sound words, on which a machine may run, and 0 for words that
  * are not sound or fewer than 19,961. Words that cobbletwill_compile has
- * written with the answer 0 are sound.
+ * written with the answer 0 are sound, and so are those that cobbletwill_witness has
+ * written with the answer 0 or 66.
  */
 uint32_t cobbletwill_is_sound(const uint16_t *words, size_t words_length);
 
@@ -341,6 +381,9 @@ typedef struct cobbletwill_session {
 #ifdef COBBLETWILL_HOLDS
 COBBLETWILL_HOLDS(COBBLETWILL_TABLE == 8 * (32 * (1 + 8 * 4 + 8 * 9) + 1 + 8 * 2));
 COBBLETWILL_HOLDS(COBBLETWILL_WORDS == 6 + 64 + 3 * 256 + 64 * 256 + 33 * (3 + 8 * 10));
+COBBLETWILL_HOLDS(sizeof(cobbletwill_input) == 2 + 9 * 2);
+COBBLETWILL_HOLDS(offsetof(cobbletwill_input, length) == 0);
+COBBLETWILL_HOLDS(offsetof(cobbletwill_input, characters) == 2);
 COBBLETWILL_HOLDS(sizeof(cobbletwill_tally) == 16);
 COBBLETWILL_HOLDS(offsetof(cobbletwill_tally, produced) == 0);
 COBBLETWILL_HOLDS(offsetof(cobbletwill_tally, steps) == 8);

@@ -1,16 +1,17 @@
-//! Direct conversion, compiling, the test of words and the reading of typed texts
-//! by the library and by the independent version, compared.
+//! Direct conversion, compiling, live and dead rules, the test of words and the
+//! reading of typed texts by the library and by the independent version, compared.
 
 use reference::compile::compile as compile_by_reference;
 use reference::direct;
-use reference::meaning::Ending;
+use reference::meaning::{chosen_rule, Ending};
 use reference::refusal::Refusal;
-use reference::table::Table;
+use reference::table::{RuleNo, Table};
 use reference::typed::from_text as from_text_by_reference;
+use reference::witness::{input_of, witness as witness_by_reference};
 use reference::words::{Words, WORDS};
 
 use crate::cases::{pattern, Case};
-use crate::face::{self, OK, STOPPED};
+use crate::face::{self, Input, DEAD, INPUT, OK, STOPPED};
 
 /// What a direct conversion answers and leaves.
 #[derive(Debug, PartialEq, Eq)]
@@ -112,6 +113,101 @@ pub fn compile(table: &[u8], room: usize) -> (u32, Vec<u16>) {
     }
     assert_eq!(face::is_sound(&words), u32::from(code == OK), "{table:?}");
     (code, words)
+}
+
+/// What both say of a rule.
+#[derive(Debug, PartialEq, Eq)]
+pub struct Witnessed {
+    /// The answer.
+    pub code: u32,
+    /// The library's input for a live rule; else no characters.
+    pub input: Vec<u16>,
+    /// The independent version's, which is of no more characters than the rule has
+    /// wherever one of so many will do.
+    pub shortest: Vec<u16>,
+}
+
+/// What an input is before a call.
+const FOUND_INPUT: Input = Input {
+    length: 0x5a5a,
+    characters: [1, 2, 3, 4, 5, 6, 7, 8, 9],
+};
+
+/// Asks both about a rule, with a buffer of words of a length, filled before.
+///
+/// # Panics
+///
+/// If they differ, or if the library's input is none that the request asks for.
+pub fn witness(table: &[u8], room: usize, rule: u32) -> Witnessed {
+    let found = pattern(table.len() as u16, room);
+    let mut words = found.clone();
+    let answer = witness_by_reference(table, &mut words, rule);
+    compare_witness(table, rule, &found, &words, answer)
+}
+
+/// Asks both about rules, each as [`witness`], but that the independent version compiles
+/// the table once for all; answers what both say, and the words.
+///
+/// # Panics
+///
+/// As [`witness`].
+pub fn witnesses(table: &[u8], room: usize, rules: &[u32]) -> (Vec<Witnessed>, Vec<u16>) {
+    let found = pattern(table.len() as u16, room);
+    let mut words = found.clone();
+    let compiled = compile_by_reference(table, &mut words);
+    let read = Table::read(table).unwrap_or_default();
+    let said = rules.iter().map(|&rule| {
+        let answer = compiled.map(|()| input_of(&read, rule));
+        compare_witness(table, rule, &found, &words, answer)
+    });
+    (said.collect(), words)
+}
+
+/// Compares what the library says of a rule with the independent version's answer, and
+/// the words that it leaves; puts its input through Definition 7.
+fn compare_witness(
+    table: &[u8],
+    rule: u32,
+    found: &[u16],
+    expected: &[u16],
+    answer: Result<Option<Vec<u16>>, Refusal>,
+) -> Witnessed {
+    let (mut words, mut input) = (found.to_vec(), FOUND_INPUT);
+    let code = face::witness(table, &mut words, rule, &mut input);
+    let shown = || format!("rule {rule}, {input:?}, {table:?}");
+    let (answered, shortest) = match answer {
+        Ok(Some(shortest)) => (OK, shortest),
+        Ok(None) => (DEAD, Vec::new()),
+        Err(refusal) => (number(refusal), Vec::new()),
+    };
+    assert_eq!(code, answered, "{}", shown());
+    assert!(words == expected, "the words differ, {}", shown());
+    if !matches!(code, OK | DEAD) {
+        assert_eq!(input, FOUND_INPUT, "{}", shown());
+        return Witnessed {
+            code,
+            input: Vec::new(),
+            shortest,
+        };
+    }
+    let length = usize::from(input.length);
+    assert!(
+        length <= INPUT && (length > 0) == (code == OK),
+        "{}",
+        shown()
+    );
+    let (used, unused) = input.characters.split_at(length);
+    assert!(unused.iter().all(|&unit| unit == 0), "{}", shown());
+    if code == OK {
+        let read = Table::read(table).expect("a table that compiles");
+        let first = chosen_rule(&read, used);
+        assert_eq!(first, Some(RuleNo(rule as u16)), "{}", shown());
+    }
+    Witnessed {
+        code,
+        input: used.to_vec(),
+        shortest,
+    }
 }
 
 /// Tests words by both; answers whether they are sound.

@@ -2,8 +2,8 @@
 //! what direct conversion answers in the independent version's terms.
 
 pub use cobbletwill::raw::{
-    check, compile, convert, feed, finish, from_text, is_sound, preview, DEFAULT, OK, OPEN,
-    STOPPED, TABLE, USES,
+    check, compile, convert, feed, finish, from_text, is_sound, preview, witness, Input, DEAD,
+    DEFAULT, INPUT, OK, OPEN, STOPPED, TABLE, USES,
 };
 pub use cobbletwill::{Session, Tally};
 use reference::direct::Conversion;

@@ -5,8 +5,9 @@
 //! - [`cases`]: random tables, sound and damaged, with inputs and buffers
 //! - [`digits`]: tables with digits, and damage to their records and entries
 //! - [`typed`]: typed texts, of random tables and others, and damage to them
-//! - [`both`]: direct conversion, compiling, the test of words and the reading of
-//!   typed texts by both
+//! - [`rivals`]: tables whose rules stand in each other's way
+//! - [`both`]: direct conversion, compiling, live and dead rules, the test of words
+//!   and the reading of typed texts by both
 //! - [`calls`]: feeds and finishes by both, and random ones
 //! - [`lists`]: lists of calls by both, beside the reckoning
 //! - [`damage`]: damaged machine words and sessions
@@ -29,5 +30,6 @@ pub mod fast;
 #[cfg(feature = "flex")]
 pub mod flex;
 pub mod lists;
+pub mod rivals;
 pub mod typed;
 pub mod uses;

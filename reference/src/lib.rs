@@ -1,5 +1,5 @@
 //! An independent version of the rollback converter, written from document 01
-//! and requests \[1\] to \[5\] of document 02 alone, for comparison with the
+//! and requests \[1\] to \[6\] of document 02 alone, for comparison with the
 //! definitions and the code of the project.
 //!
 //! The modules in document 01's order:
@@ -14,6 +14,7 @@
 //! - [`session`]: sessions, feed, finish and preview
 //! - [`reckoning`]: what a list of calls must give, from the table and the calls alone
 //! - [`direct`], [`compile`]: direct conversion and compiling
+//! - [`witness`]: rules that can never be chosen, and inputs for the others
 //! - [`typed`]: the records of rules typed as text
 //! - [`refusal`], [`lengths`]: the refusals, and the two that look at lengths alone
 //!
@@ -40,4 +41,5 @@ pub mod states;
 pub mod table;
 pub mod typed;
 pub mod uses;
+pub mod witness;
 pub mod words;

@@ -1,6 +1,6 @@
 //! What a table means: exact values, and Definition 7.
 
-use crate::table::{Digit, Group, Output, Sum, Table};
+use crate::table::{Digit, Group, Output, RuleNo, Sum, Table};
 
 /// A character's digit: "its value v is the character divided by 2 to that
 /// shift, rounded down, modulo 16. The output is 48 + v when v is below 10, and
@@ -85,14 +85,20 @@ pub struct Meaning {
     pub ending: Ending,
 }
 
-/// "Of the rules that fit, the shortest is chosen, then the lowest number. With
-/// none, the default is chosen."
-pub fn choose<'t>(table: &'t Table, rest: &[u16]) -> Option<&'t Group> {
-    let fitting = table.rules.iter().filter(|rule| rule.fits(rest));
+/// "Of the rules that fit, the shortest is chosen, then the lowest number."
+pub fn chosen_rule(table: &Table, rest: &[u16]) -> Option<RuleNo> {
+    let rules = (0..).map(RuleNo).zip(&table.rules);
+    let fitting = rules.filter(|(_, rule)| rule.fits(rest));
     // Of several of the least length, `min_by_key` gives the first.
     fitting
-        .min_by_key(|rule| rule.length())
-        .or(table.default.as_ref())
+        .min_by_key(|(_, rule)| rule.length())
+        .map(|(number, _)| number)
+}
+
+/// "With none, the default is chosen."
+pub fn choose<'t>(table: &'t Table, rest: &[u16]) -> Option<&'t Group> {
+    let rule = chosen_rule(table, rest).map(|number| &table.rules[number.index()]);
+    rule.or(table.default.as_ref())
 }
 
 /// Definition 7, from place 0 to the input's end or to a stop.

@@ -1,7 +1,7 @@
 //! The proved rollback converter for Rust callers, over the C face of
 //! `include/cobbletwill.h`. Document 01 says what tables, machine words, sessions
 //! and refusals are, request \[4\] of document 02 what can be typed, request \[5\]
-//! what a preview is.
+//! what a preview is, request \[6\] which rules are live and which are dead.
 //!
 //! ```
 //! use cobbletwill::record::{output, range, rule, term, DEFAULT};
@@ -32,6 +32,7 @@
 //! - [`check`], [`convert`]: the table check and direct conversion
 //! - [`Table::from_text`]: tables of rules that are typed as text
 //! - [`Machine`]: compiled tables
+//! - [`witness`]: an input that has a rule chosen, or that the rule is dead
 //! - [`Session`]: feed, finish and preview, and how often each rule was used; [`run`]
 //!   makes all calls
 //! - [`Refusal`]: the numbered refusals
@@ -50,8 +51,8 @@ mod session;
 mod typed;
 
 pub use direct::{check, convert, Conversion, Ending};
-pub use machine::Machine;
-pub use raw::{Session, Tally, TABLE, WORDS};
+pub use machine::{witness, Machine};
+pub use raw::{Session, Tally, INPUT, TABLE, WORDS};
 pub use refusal::Refusal;
 pub use session::{run, Preview, Progress, Status};
 pub use typed::Table;

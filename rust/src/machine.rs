@@ -1,8 +1,8 @@
-//! Compiled tables.
+//! Compiled tables, and whether a rule can be chosen.
 
 use std::fmt;
 
-use crate::raw::{self, WORDS};
+use crate::raw::{self, Input, INPUT, WORDS};
 use crate::refusal::Refusal;
 
 /// A machine: sound words, compiled from a table or tested.
@@ -88,5 +88,38 @@ impl fmt::Debug for Machine {
             .field("rules", &self.rules())
             .field("has_default", &self.has_default())
             .finish_non_exhaustive()
+    }
+}
+
+/// Whether a rule of a table can be chosen: for a live rule an input of at most
+/// [`INPUT`] characters on which it is the first choice, for a dead one none. A rule is
+/// dead exactly when no input has Definition 7 choose it anywhere, and a number that no
+/// rule has is dead. Refused as [`Machine::compile`].
+///
+/// ```
+/// use cobbletwill::{witness, Table};
+///
+/// // What begins with `ab` never comes to the second rule.
+/// let typed: Vec<u16> = "\"ab\" ==> [49]; \"aba\" ==> [50];".encode_utf16().collect();
+/// let table = Table::from_text(&typed)?;
+/// let input = witness(&table, 0)?.expect("the first rule is live");
+/// assert!(input.starts_with(&[97, 98]));
+/// assert_eq!(witness(&table, 1)?, None);
+/// # Ok::<(), cobbletwill::Refusal>(())
+/// ```
+pub fn witness(table: &[u8], rule: u32) -> Result<Option<Vec<u16>>, Refusal> {
+    let mut words = vec![0; WORDS];
+    let mut input = Input {
+        length: 0,
+        characters: [0; INPUT],
+    };
+    match raw::witness(table, &mut words, rule, &mut input) {
+        raw::OK => {
+            // It is not above the number of places.
+            let length = usize::from(input.length);
+            Ok(Some(input.characters[..length].to_vec()))
+        }
+        raw::DEAD => Ok(None),
+        number => Err(Refusal::answered(number)),
     }
 }

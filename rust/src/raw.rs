@@ -1,7 +1,7 @@
 //! The functions of `include/cobbletwill.h` as they are, safe to call, and the
-//! session as C holds it: answers are numbers, and words and sessions may have any
-//! content. This module has the package's only unsafe code, and stands on none of
-//! the others.
+//! session and the input as C holds them: answers are numbers, and words and sessions
+//! may have any content. This module has the package's only unsafe code, and stands on
+//! none of the others.
 
 #![allow(unsafe_code)]
 
@@ -18,13 +18,19 @@ pub const USES: usize = 33;
 /// The place of the default's count.
 pub const DEFAULT: usize = 32;
 
+/// The most characters of an input that shows a rule: those of the longest pattern,
+/// and one more.
+pub const INPUT: usize = 9;
+
 /// The answer for a table or a typed text that is accepted, for a table that is
-/// compiled, and for a conversion or a session that closed.
+/// compiled, for a rule that is live, and for a conversion or a session that closed.
 pub const OK: u32 = 0;
 /// The answer for a conversion or a session that stopped.
 pub const STOPPED: u32 = 64;
 /// The answer for a session that waits for more.
 pub const OPEN: u32 = 65;
+/// The answer for a rule that is dead.
+pub const DEAD: u32 = 66;
 
 /// What a session has counted, as the header's `cobbletwill_tally`.
 #[repr(C)]
@@ -74,8 +80,21 @@ impl Session {
     };
 }
 
+/// An input that shows a rule, as the header's `cobbletwill_input`.
+#[repr(C)]
+#[derive(Clone, Copy, Debug, PartialEq, Eq)]
+pub struct Input {
+    /// How many characters it has; 0 where no input shows the rule.
+    pub length: u16,
+    /// The characters; places from `length` on are 0.
+    pub characters: [u16; INPUT],
+}
+
 // The header's layout, which has no padding.
 const _: () = {
+    assert!(size_of::<Input>() == 20 && align_of::<Input>() == 2);
+    assert!(offset_of!(Input, length) == 0);
+    assert!(offset_of!(Input, characters) == 2);
     assert!(size_of::<Tally>() == 16 && align_of::<Tally>() == 8);
     assert!(size_of::<Session>() == 312 && align_of::<Session>() == 8);
     assert!(offset_of!(Tally, produced) == 0);
@@ -91,7 +110,7 @@ const _: () = {
 
 /// The declarations, as C has them.
 mod c {
-    use super::{Session, USES};
+    use super::{Input, Session, USES};
 
     extern "C" {
         pub fn cobbletwill_check(table: *const u8, table_length: usize) -> u32;
@@ -120,6 +139,15 @@ mod c {
             table_length: usize,
             words: *mut u16,
             words_length: usize,
+        ) -> u32;
+
+        pub fn cobbletwill_witness(
+            table: *const u8,
+            table_length: usize,
+            words: *mut u16,
+            words_length: usize,
+            rule: u32,
+            input: *mut Input,
         ) -> u32;
 
         pub fn cobbletwill_is_sound(words: *const u16, words_length: usize) -> u32;
@@ -215,6 +243,25 @@ pub fn compile(table: &[u8], words: &mut [u16]) -> u32 {
     unsafe { c::cobbletwill_compile(table.as_ptr(), table.len(), words.as_mut_ptr(), words.len()) }
 }
 
+/// Whether a rule can be chosen: 0 for a live rule, with an input set on which it is the
+/// first choice, or 66 for a dead one, a number that no rule has included, with the
+/// input of no characters set; else the number of a refusal of [`compile`], which leaves
+/// the input as found. The words are those that [`compile`] leaves.
+pub fn witness(table: &[u8], words: &mut [u16], rule: u32, input: &mut Input) -> u32 {
+    // SAFETY: each pointer and length are those of a slice, the input has the layout of
+    // the header's, and what is written is borrowed for this call alone.
+    unsafe {
+        c::cobbletwill_witness(
+            table.as_ptr(),
+            table.len(),
+            words.as_mut_ptr(),
+            words.len(),
+            rule,
+            input,
+        )
+    }
+}
+
 /// The test of words: 1 for sound words, else 0.
 pub fn is_sound(words: &[u16]) -> u32 {
     // SAFETY: the pointer and the length are those of a slice, which the
@@ -308,19 +355,30 @@ fn parts(session: &mut Session) -> (*mut Session, *mut [u64; USES]) {
 mod tests {
     use std::ptr::{null, null_mut};
 
-    use super::{c, parts, Session, WORDS};
+    use super::{c, parts, Input, Session, WORDS};
 
     /// One rule without output, which takes `a`.
     const TABLE: [u8; 16] = [1, 1, 0, 0, 0, 0, 0, 0, 2, 0, 0, 0, 97, 0, 97, 0];
 
     #[test]
     fn an_empty_table_or_no_words() {
-        // SAFETY: with the length 0 a pointer is not used.
+        let found = Input {
+            length: 17,
+            characters: [19; 9],
+        };
+        let (mut words, mut input) = (vec![7; WORDS], found);
+        let (room, to) = (words.as_mut_ptr(), &mut input);
+        // SAFETY: with the length 0 a pointer is not used; the others are those of the
+        // words and of an input borrowed for this call alone.
         unsafe {
             assert_eq!(c::cobbletwill_check(null(), 0), 5);
             assert_eq!(c::cobbletwill_compile(null(), 0, null_mut(), 0), 10);
+            assert_eq!(c::cobbletwill_witness(null(), 0, null_mut(), 0, 0, to), 10);
+            assert_eq!(c::cobbletwill_witness(null(), 0, room, WORDS, 0, to), 5);
             assert_eq!(c::cobbletwill_is_sound(null(), 0), 0);
         }
+        assert_eq!(input, found);
+        assert!(words.iter().all(|&word| word == 0));
     }
 
     #[test]

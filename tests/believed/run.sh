@@ -24,6 +24,7 @@ entry_points() {
     echo crates/rules/src/convert.rt check
     echo crates/typed/src/text.rt from_text
     echo crates/machine/src/compile.rt compile
+    echo crates/witness/src/check.rt witness
     echo crates/words/src/sound_words.rt is_sound
     echo crates/session/src/kept.rt fresh
     echo crates/station/src/two.rt convert_in_two
@@ -42,7 +43,7 @@ while read -r file name; do
     done
     checked=$((checked + 1))
 done < <(entry_points)
-[ "$checked" -ge 24 ] || fail "only $checked entry points are found"
+[ "$checked" -ge 26 ] || fail "only $checked entry points are found"
 
 total=0
 for file in crates/*/specs/[A-Z]*.antt; do

@@ -1,8 +1,8 @@
 /*
  * The library without a C library: linked with `-nostdlib -ffreestanding`, and
  * with memcpy and memset alone beside it. Ends with 0 if T2 (anchored `a` writes
- * X, `a` writes Y) makes YX of `aa`, in 5 steps and with one use of each rule, and
- * if a preview of `aa` saw what the feed wrote and left.
+ * X, `a` writes Y) makes YX of `aa`, in 5 steps and with one use of each rule, if a
+ * preview of `aa` saw what the feed wrote and left, and if `a` shows the first rule.
  */
 #include "cobbletwill.h"
 
@@ -34,6 +34,13 @@ static int run(void) {
     uint16_t output[4];
     uint64_t seen = 0, first = 0, rest = 0;
     cobbletwill_session session = COBBLETWILL_FRESH, later;
+    cobbletwill_input shown;
+    if (cobbletwill_witness(table, sizeof table, words, COBBLETWILL_WORDS, 0, &shown) != COBBLETWILL_OK) {
+        return 9;
+    }
+    if (shown.length != 1 || shown.characters[0] != 'a') {
+        return 10;
+    }
     if (cobbletwill_compile(table, sizeof table, words, COBBLETWILL_WORDS) != COBBLETWILL_OK) {
         return 1;
     }

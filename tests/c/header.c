@@ -1,6 +1,6 @@
 /*
  * The header by itself, in C99 and later and in C++98 and later: a fresh session,
- * the test for refusals, the version, and the texts, which it prints.
+ * an input, the test for refusals, the version, and the texts, which it prints.
  */
 #include <string.h>
 
@@ -17,11 +17,18 @@ static void test_fresh(void) {
     EXPECT(memcmp(&fresh, zero, sizeof zero) == 0);
 }
 
+static void test_input(void) {
+    cobbletwill_input input = {0, {0}};
+    EXPECT(sizeof input == 20);
+    EXPECT((char *)&input.characters[COBBLETWILL_INPUT - 1] - (char *)&input.length == 18);
+}
+
 static void test_refused(void) {
     uint32_t answer = COBBLETWILL_OK;
     EXPECT(!COBBLETWILL_REFUSED(COBBLETWILL_OK));
     EXPECT(!COBBLETWILL_REFUSED(COBBLETWILL_STOPPED));
     EXPECT(!COBBLETWILL_REFUSED(COBBLETWILL_OPEN));
+    EXPECT(!COBBLETWILL_REFUSED(COBBLETWILL_DEAD));
     EXPECT(!COBBLETWILL_REFUSED(answer++));
     EXPECT(answer == 1);
     for (; answer <= COBBLETWILL_EXPRESSION; answer++) {
@@ -40,6 +47,7 @@ static void test_version(void) {
 
 int main(void) {
     test_fresh();
+    test_input();
     test_refused();
     test_version();
     return 0;

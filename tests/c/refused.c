@@ -16,10 +16,11 @@
 
 enum { ROOM = 32, BEYOND = 3 };
 
-/* All that a call may write, and the words, which compile writes. */
+/* All that a call may write, and the words, which compile and witness write. */
 struct lent {
     uint8_t before[8];
     cobbletwill_session session, later;
+    cobbletwill_input shown;
     uint64_t place, written, length;
     uint8_t records[COBBLETWILL_TABLE];
     uint16_t output[ROOM];
@@ -39,7 +40,7 @@ static const uint8_t table[] = {
 
 /* The call that is tried, with its arguments beside those lent. */
 struct call {
-    enum { CHECK, CONVERT, FROM_TEXT, COMPILE, FEED, FINISH, PREVIEW } of;
+    enum { CHECK, CONVERT, FROM_TEXT, COMPILE, WITNESS, FEED, FINISH, PREVIEW } of;
     const uint8_t *table;
     size_t table_length;
     const uint16_t *input;
@@ -59,6 +60,8 @@ static uint32_t make(const struct call *call) {
                                      &lent->length);
     case COMPILE:
         return cobbletwill_compile(call->table, call->table_length, lent->words, call->words_length);
+    case WITNESS:
+        return cobbletwill_witness(call->table, call->table_length, lent->words, call->words_length, 0, &lent->shown);
     case FEED:
         return cobbletwill_feed(lent->words, call->words_length, &lent->session, call->input,
                                 call->input_length, lent->output, call->output_length, &lent->written);
@@ -236,24 +239,30 @@ static void test_sessions(void) {
     refused(&short_output, COBBLETWILL_SHORT_OUTPUT);
 }
 
-/* A table that check and convert refuse by a number, and compile too, leaving its words 0. */
+/* A table that check and convert refuse by a number, and compile and witness too, leaving their words 0. */
 static void table_refused(const uint8_t *bytes, size_t length, uint32_t number) {
     lend(fresh);
     const struct call check = {CHECK, bytes, length, NULL, 0, 0, 0};
     const struct call convert = {CONVERT, bytes, length, text, 3, ROOM, 0};
-    struct call compile = {COMPILE, bytes, length, NULL, 0, 0, COBBLETWILL_WORDS - 1};
+    struct call compiles[] = {
+        {COMPILE, bytes, length, NULL, 0, 0, COBBLETWILL_WORDS - 1},
+        {WITNESS, bytes, length, NULL, 0, 0, COBBLETWILL_WORDS - 1},
+    };
     if (number < COBBLETWILL_CLASSES) {
         refused(&check, number);
         refused(&convert, number);
     }
-    refused(&compile, COBBLETWILL_SHORT_WORDS);
+    for (size_t i = 0; i < sizeof compiles / sizeof compiles[0]; i++) {
+        lend(fresh);
+        refused(&compiles[i], COBBLETWILL_SHORT_WORDS);
 
-    static struct lent found;
-    memcpy(&found, lent, sizeof found);
-    memset(found.words, 0, COBBLETWILL_WORDS * sizeof found.words[0]);
-    compile.words_length = COBBLETWILL_WORDS + BEYOND;
-    EXPECT(make(&compile) == number);
-    EXPECT(memcmp(&found, lent, sizeof found) == 0);
+        static struct lent found;
+        memcpy(&found, lent, sizeof found);
+        memset(found.words, 0, COBBLETWILL_WORDS * sizeof found.words[0]);
+        compiles[i].words_length = COBBLETWILL_WORDS + BEYOND;
+        EXPECT(make(&compiles[i]) == number);
+        EXPECT(memcmp(&found, lent, sizeof found) == 0);
+    }
 }
 
 static void test_tables(void) {

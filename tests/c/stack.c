@@ -31,6 +31,8 @@ static uint16_t text[PIECE];
 static uint16_t output[ROOM];
 static uint64_t place, written, length;
 static cobbletwill_session session, later;
+static uint32_t rule;
+static cobbletwill_input input;
 static uint32_t answer;
 
 /* The bytes of stack that work takes. */
@@ -75,6 +77,8 @@ SUBJECT(from_text, (const uint16_t *t, size_t tl, uint8_t *r, size_t rl, uint64_
         (rules, rules_length, records, COBBLETWILL_TABLE, &length))
 SUBJECT(compile, (const uint8_t *t, size_t tl, uint16_t *w, size_t wl),
         (table, table_length, words, COBBLETWILL_WORDS))
+SUBJECT(witness, (const uint8_t *t, size_t tl, uint16_t *w, size_t wl, uint32_t r, cobbletwill_input *i),
+        (table, table_length, words, COBBLETWILL_WORDS, rule, &input))
 SUBJECT(is_sound, (const uint16_t *w, size_t wl), (words, COBBLETWILL_WORDS))
 SUBJECT(feed_parts,
         (const uint16_t *w, size_t wl, cobbletwill_session *s, uint64_t *u, const uint16_t *p, size_t pl, uint16_t *o,
@@ -98,6 +102,7 @@ static struct subject {
     {"cobbletwill_convert", COBBLETWILL_STACK_CONVERT, 0},
     {"cobbletwill_from_text", COBBLETWILL_STACK_FROM_TEXT, 0},
     {"cobbletwill_compile", COBBLETWILL_STACK_COMPILE, 0},
+    {"cobbletwill_witness", COBBLETWILL_STACK_WITNESS, 0},
     {"cobbletwill_is_sound", COBBLETWILL_STACK_IS_SOUND, 0},
     {"cobbletwill_feed_parts", COBBLETWILL_STACK_FEED, 0},
     {"cobbletwill_finish_parts", COBBLETWILL_STACK_FINISH, 0},
@@ -120,12 +125,12 @@ static void measure(void) {
     note(0, depth_check(), COBBLETWILL_OK);
     note(1, depth_convert(), COBBLETWILL_OK);
     note(3, depth_compile(), COBBLETWILL_OK);
-    note(4, depth_is_sound(), 1);
-    note(7, depth_preview_parts(), COBBLETWILL_OPEN);
+    note(5, depth_is_sound(), 1);
+    note(8, depth_preview_parts(), COBBLETWILL_OPEN);
     EXPECT(session.received == 0 && later.held_count > 0);
-    note(5, depth_feed_parts(), COBBLETWILL_OPEN);
+    note(6, depth_feed_parts(), COBBLETWILL_OPEN);
     EXPECT(session.held_count > 0);
-    note(6, depth_finish_parts(), COBBLETWILL_OK);
+    note(7, depth_finish_parts(), COBBLETWILL_OK);
 }
 
 /* 64 classes and 256 states, and a default that writes eight characters, four of them digits. */
@@ -151,6 +156,13 @@ static void measure_typed(void) {
     }
 }
 
+/* Every rule of the table, which all are live, and a number that none has. */
+static void measure_rules(void) {
+    for (rule = 0; rule <= LARGE_RULES; rule++) {
+        note(4, depth_witness(), rule < LARGE_RULES ? COBBLETWILL_OK : COBBLETWILL_DEAD);
+    }
+}
+
 /* The subject of a name. */
 static struct subject *find(const char *name) {
     for (int i = 0; i < SUBJECTS; i++) {
@@ -171,6 +183,7 @@ int main(int argc, char **argv) {
     }
     measure();
     measure_typed();
+    measure_rules();
 
     bool held = true;
     for (int i = 0; i < SUBJECTS; i++) {

@@ -17,6 +17,15 @@
 #define DEFAULT 5, 0, 0, 0, 0, 0, 0, 0
 #define DIGIT(position, shift) 6, (position), (shift), 0, 0, 0, 0, 0
 
+/* The records of T1 of document 01. */
+#define T1                                                                                                            \
+    RULE(5, 0), RANGE(0, '&', '&'), RANGE(1, '#', '#'), RANGE(2, '0', '0'), RANGE(3, '0', '0'), RANGE(4, ';', ';'),       \
+        OUTPUT('&'), OUTPUT('#'), OUTPUT('0'), OUTPUT('0'), OUTPUT(';'),                                                \
+        RULE(5, 0), RANGE(0, '&', '&'), RANGE(1, '#', '#'), RANGE(2, '0', '9'), RANGE(3, '0', '9'), RANGE(4, ';', ';'),   \
+        OUTPUT(-528), TERM(2, 10), TERM(3, 1),                                                                          \
+        RULE(2, 1), RANGE(0, '&', '&'), RANGE(1, '#', '#'), OUTPUT('&'), OUTPUT('#'),                                   \
+        DEFAULT, OUTPUT(0), TERM(0, 1)
+
 enum { RECORD = 8, LARGE_RULES = 32, LARGE_MOST = RECORD * LARGE_RULES * (1 + 8) };
 
 /*

@@ -37,14 +37,7 @@ static void expect_records(const uint8_t *records, size_t records_length) {
 
 /* T1 of document 01, which makes `A&` of `A&#38;`. */
 static void test_t1(void) {
-    static const uint8_t records[] = {
-        RULE(5, 0),  RANGE(0, '&', '&'), RANGE(1, '#', '#'), RANGE(2, '0', '0'), RANGE(3, '0', '0'), RANGE(4, ';', ';'),
-        OUTPUT('&'), OUTPUT('#'),        OUTPUT('0'),        OUTPUT('0'),        OUTPUT(';'),
-        RULE(5, 0),  RANGE(0, '&', '&'), RANGE(1, '#', '#'), RANGE(2, '0', '9'), RANGE(3, '0', '9'), RANGE(4, ';', ';'),
-        OUTPUT(-528), TERM(2, 10),       TERM(3, 1),
-        RULE(2, 1),  RANGE(0, '&', '&'), RANGE(1, '#', '#'), OUTPUT('&'),        OUTPUT('#'),
-        DEFAULT,     OUTPUT(0),          TERM(0, 1),
-    };
+    static const uint8_t records[] = {T1};
     text_length = put_text(text, "\"&#00;\" ==> [38, 35, 48, 48, 59];\n"
                                  "\"&#[0-9][0-9];\" ==> [10 * x2 + x3 - 528];\r\n"
                                  "\"&#$\"==>[38,35];else==>[(x0)];");

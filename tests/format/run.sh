@@ -3,6 +3,7 @@
 # them on a line being a comment, and then any number of
 #   input TEXT, prints, lines        the program prints these lines
 #   words, lines PLACE WORD          these words of the compiled table are not 0, and no others
+#   rules, lines NUMBER live|dead    so is each rule of the table, and the number behind the last
 #   feeds TEXT, answers N, bytes     a feed to a fresh session, and a preview of it, answers so and leaves these bytes, eight a line; then each
 #                                    count of uses that is not 0, behind the place of its bytes and a colon
 # or, without a table, any number of
@@ -38,7 +39,7 @@ awk -v out="$out" '
     part == "text" && $1 == "refused" { open_file(block "/" count ".lines") }
     part == "text" { print > file; next }
     $1 == "table" { part = "table"; open_file(block "/hex"); next }
-    $1 == "input" || $1 == "feeds" || $1 == "words" {
+    $1 == "input" || $1 == "feeds" || $1 == "words" || $1 == "rules" {
         command = block "/" ++count ".command"
         text = $0
         sub(/^[a-z]+ ?/, "", text)
@@ -51,7 +52,7 @@ awk -v out="$out" '
     $1 == "prints" { next }
     $1 == "answers" { print $2 > file; next }
     part == "input" { print > file; next }
-    part == "words" { print $1, $2 > file; next }
+    part == "words" || part == "rules" { print $1, $2 > file; next }
     {
         line = $1
         last = $1 ~ /:$/ ? 9 : 8
@@ -74,7 +75,7 @@ for block in "$out"/[0-9]*/; do
                 printf %s "$text" > "$block/input"
                 (cd "$block" && "$program" < input) > "$found"
                 ;;
-            words) "$out/show" words "$block/rules.tab" > "$found" ;;
+            words | rules) "$out/show" "$kind" "$block/rules.tab" > "$found" ;;
             session) "$out/show" session "$block/rules.tab" "$text" > "$found" ;;
             text) "$out/show" text "${command%.command}.text" > "$found" ;;
         esac

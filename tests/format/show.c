@@ -3,6 +3,9 @@
  * docs/FORMAT.md's examples.
  *
  * `show words TABLE` prints each machine word that is not 0, with its place.
+ * `show rules TABLE` prints for each rule, and for the number behind the last,
+ * whether it is live or dead. Where the input of a live rule doesn't have it used, it
+ * says so.
  * `show session TABLE PIECE` feeds a piece to a fresh session and prints the
  * answer and the session's bytes, eight a line; of its counts of uses those that
  * are not 0, each behind its place. Where a preview saw anything else, it says so.
@@ -22,6 +25,31 @@ static void show_words(void) {
     for (int place = 0; place < COBBLETWILL_WORDS; place++) {
         if (words[place] != 0) {
             printf("%d %u\n", place, (unsigned)words[place]);
+        }
+    }
+}
+
+/* How often a rule is used on an input. */
+static uint64_t uses_on(const cobbletwill_input *input, uint32_t rule) {
+    cobbletwill_session session = COBBLETWILL_FRESH;
+    uint16_t output[8 * COBBLETWILL_INPUT];
+    uint64_t written;
+    if (cobbletwill_feed(words, COBBLETWILL_WORDS, &session, input->characters, input->length, output,
+                         8 * COBBLETWILL_INPUT, &written) == COBBLETWILL_OPEN) {
+        cobbletwill_finish(words, COBBLETWILL_WORDS, &session, output, 8 * COBBLETWILL_INPUT, &written);
+    }
+    return session.uses[rule];
+}
+
+static void show_rules(size_t length) {
+    const uint32_t rules = words[4];
+    cobbletwill_input input;
+    for (uint32_t rule = 0; rule <= rules; rule++) {
+        uint32_t answer = cobbletwill_witness(bytes, length, words, COBBLETWILL_WORDS, rule, &input);
+        if (answer == COBBLETWILL_OK) {
+            printf("%" PRIu32 " %s\n", rule, uses_on(&input, rule) > 0 ? "live" : "not used on its input");
+        } else {
+            printf("%" PRIu32 " %s\n", rule, answer == COBBLETWILL_DEAD ? "dead" : "refused");
         }
     }
 }
@@ -81,7 +109,7 @@ static void show_records(size_t text_length) {
 int main(int argc, char **argv) {
     FILE *file = argc > 2 ? fopen(argv[2], "rb") : NULL;
     if (file == NULL) {
-        fputs("usage: show words TABLE | show session TABLE PIECE | show text RULES\n", stderr);
+        fputs("usage: show words TABLE | show rules TABLE | show session TABLE PIECE | show text RULES\n", stderr);
         return 2;
     }
     size_t length = fread(bytes, 1, sizeof bytes, file);
@@ -97,6 +125,8 @@ int main(int argc, char **argv) {
     }
     if (argc == 4) {
         show_session(argv[3]);
+    } else if (strcmp(argv[1], "rules") == 0) {
+        show_rules(length);
     } else {
         show_words();
     }

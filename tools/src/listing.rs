@@ -1,13 +1,14 @@
 //! A table's records in words, and the verdict of the proved library.
 
 use cobbletwill::record::Record;
-use cobbletwill::{Machine, Refusal};
+use cobbletwill::{witness, Machine, Refusal};
 
 use crate::place::{opens_group, opens_rule, place, Place};
-use crate::typed::source;
+use crate::typed::{quoted, source};
 
 /// The table's records, one a line, group by group, and the verdict. A group of a
-/// table that the check accepts is shown as in a source, too.
+/// table that the check accepts is shown as in a source, too, and of each rule of one
+/// that compiles is said whether it is dead.
 pub fn listing(table: &[u8]) -> String {
     let refused = Machine::compile(table).err();
     let marked = refused.map(|refusal| (place(table, refusal), refusal));
@@ -21,6 +22,9 @@ pub fn listing(table: &[u8]) -> String {
                 .next()
                 .map_or(String::new(), |line| format!(": {line}"));
             text += &format!("{}{line}\n", heading(record, &mut rules));
+            if opens_rule(record) {
+                text += &choice(table, rules - 1);
+            }
         }
         text += &line(number, record);
         if let Some((Place::Record(at), refusal)) = marked {
@@ -37,12 +41,28 @@ pub fn listing(table: &[u8]) -> String {
 }
 
 /// The name of a group, of which a rule's number is that of the rules before it.
-fn heading(record: &Record, rules: &mut usize) -> String {
+fn heading(record: &Record, rules: &mut u32) -> String {
     if record[0] == 5 {
         return "default".to_owned();
     }
     *rules += 1;
     format!("rule {}", *rules - 1)
+}
+
+/// Of a rule of a table that compiles, an input on which it is the first choice, or that
+/// it is dead: a line, its characters in quotes as in a source or, where one doesn't
+/// show, as numbers.
+fn choice(table: &[u8], rule: u32) -> String {
+    match witness(table, rule) {
+        Ok(Some(input)) => {
+            let numbers = input.iter().map(|&unit| shown(i32::from(unit)));
+            let numbers: Vec<String> = numbers.collect();
+            let input = quoted(&input).unwrap_or_else(|| numbers.join(", "));
+            format!("      chosen first on {input}\n")
+        }
+        Ok(None) => "      dead: no input makes the definition choose it\n".to_owned(),
+        Err(_) => String::new(),
+    }
 }
 
 /// A record's number, its bytes and what it says.

@@ -9,6 +9,9 @@ use crate::units::{is_among, picture_of, pictured, units};
 /// "A decimal number up to 65535."
 const MOST: u32 = 65_535;
 
+/// The characters that "need it in quotes", a backslash.
+const MARKS: &str = "\"\\[]$";
+
 /// A table's rules as text, a line each; refused as by the table check. The library
 /// reads the text back to the same records, unless one is a digit: that can't be
 /// typed, and is written as in a source.
@@ -23,11 +26,25 @@ pub fn text(table: &[u8]) -> Result<Vec<u16>, Refusal> {
 /// show; refused as by the table check. The halves of pairs, which no source has,
 /// are replaced where they stand alone.
 pub fn source(table: &[u8]) -> Result<Vec<String>, Refusal> {
-    let shown = |line: Vec<u16>| {
-        let units = { line.into_iter() }.map(|unit| picture_of(unit).unwrap_or(unit));
-        String::from_utf16_lossy(&units.collect::<Vec<_>>())
+    Ok({ lines(table)?.iter() }.map(|line| shown(line)).collect())
+}
+
+/// Characters in quotes as in a source, if they show or have pictures.
+pub fn quoted(input: &[u16]) -> Option<String> {
+    let shows = |&unit: &u16| {
+        let visible = |character: char| character.escape_debug().count() == 1;
+        unit < 0x80 || char::from_u32(unit.into()).is_some_and(visible)
     };
-    Ok(lines(table)?.into_iter().map(shown).collect())
+    input.iter().all(shows).then(|| {
+        let characters = input.iter().flat_map(|&unit| character(unit, MARKS));
+        format!("\"{}\"", shown(&characters.collect::<Vec<_>>()))
+    })
+}
+
+/// Characters as a source has them, with pictures of those that don't show.
+fn shown(units: &[u16]) -> String {
+    let units = units.iter().map(|&unit| picture_of(unit).unwrap_or(unit));
+    String::from_utf16_lossy(&units.collect::<Vec<_>>())
 }
 
 /// The lines of an accepted table, one for each group.
@@ -71,7 +88,7 @@ fn item(ranges: &[Record]) -> Vec<u16> {
     let bounds: Vec<(u16, u16)> = bounds.collect();
     if let [(lowest, highest)] = bounds[..] {
         if lowest == highest {
-            return character(lowest, "\"\\[]$");
+            return character(lowest, MARKS);
         }
     }
     let in_brackets = |unit| character(unit, "\"\\[]$-");

@@ -1,12 +1,29 @@
-//! Listings, written by hand: of an accepted table and of one for each refusal.
+//! Listings, written by hand: of accepted tables and of one for each refusal. Which
+//! input shows a rule is free: `…` stands for any text there.
 
 use cobbletwill::record::{digit, output, range, rule, term, Record, DEFAULT};
+use cobbletwill::witness;
 use tools::listing::{listing, verdict};
+use tools::source;
 
 /// The records of a table are listed so.
 fn lists(records: &[Record], expected: &[&str]) {
-    let found = listing(&records.concat());
-    assert_eq!(found.lines().collect::<Vec<_>>(), expected);
+    let listing = listing(&records.concat());
+    let found: Vec<&str> = listing.lines().collect();
+    let mut lines = found.iter().zip(expected);
+    let alike = found.len() == expected.len() && lines.all(|(line, expected)| is(line, expected));
+    assert!(alike, "{found:#?} and not {expected:#?}");
+}
+
+/// Whether a line is the expected one.
+fn is(line: &str, expected: &str) -> bool {
+    match expected.split_once('…') {
+        Some((start, end)) => {
+            let rest = line.strip_prefix(start);
+            rest.is_some_and(|rest| rest.ends_with(end))
+        }
+        None => line == expected,
+    }
 }
 
 /// The records of a table have this verdict.
@@ -41,6 +58,7 @@ fn an_accepted_table() {
         ],
         &[
             "rule 0: \"a[0-9Ā-✏]\" ==> [300 * x0 - x1 - 48];",
+            "      chosen first on \"a…\"",
             "   0  01 02 00 00 00 00 00 00  rule of length 2",
             "   1  02 00 00 00 61 00 61 00  position 0 takes 97 'a'",
             "   2  02 01 00 00 30 00 39 00  position 1 takes 48 '0' to 57 '9'",
@@ -49,6 +67,7 @@ fn an_accepted_table() {
             "   5  04 00 00 00 2c 01 00 00  plus 300 times x0",
             "   6  04 01 00 00 ff ff 00 00  plus -1 times x1",
             "rule 1: \"␊$\" ==> [];",
+            "      chosen first on \"␊\"",
             "   7  01 01 01 00 00 00 00 00  rule of length 1, anchored",
             "   8  02 00 00 00 0a 00 0a 00  position 0 takes 10",
             "default: else ==> [63];",
@@ -77,6 +96,7 @@ fn digits() {
         ],
         &[
             "rule 0: \"[␀-ÿ][0-9][␀-\u{ffff}]\" ==> [hex(x0, 4), hex(x1, 0), 2 * x1 + 1];",
+            "      chosen first on …",
             "   0  01 03 00 00 00 00 00 00  rule of length 3",
             "   1  02 00 00 00 00 00 ff 00  position 0 takes 0 to 255",
             "   2  02 01 00 00 30 00 39 00  position 1 takes 48 '0' to 57 '9'",
@@ -170,16 +190,115 @@ fn t2() {
         ],
         &[
             "rule 0: \"a$\" ==> [88];",
+            "      chosen first on \"a\"",
             "   0  01 01 01 00 00 00 00 00  rule of length 1, anchored",
             "   1  02 00 00 00 61 00 61 00  position 0 takes 97 'a'",
             "   2  03 00 00 00 58 00 00 00  writes 88 'X'",
             "rule 1: \"a\" ==> [89];",
+            "      chosen first on \"a…\"",
             "   3  01 01 00 00 00 00 00 00  rule of length 1",
             "   4  02 00 00 00 61 00 61 00  position 0 takes 97 'a'",
             "   5  03 00 00 00 59 00 00 00  writes 89 'Y'",
             "accepted: rules 2, no default, classes 3, states 2, L 1, E 1",
         ],
     );
+}
+
+/// Document 01's T3, of which request [6] says that the second rule is dead.
+fn t3_records() -> Vec<Record> {
+    let first = [
+        rule(2, false),
+        range(0, 97, 97),
+        range(1, 98, 98),
+        output(49),
+    ];
+    let second = [
+        rule(3, false),
+        range(0, 97, 97),
+        range(1, 98, 98),
+        range(2, 97, 97),
+        output(50),
+    ];
+    let default = [DEFAULT, output(0), term(0, 1)];
+    [&first[..], &second, &default].concat()
+}
+
+#[test]
+fn t3() {
+    lists(
+        &t3_records(),
+        &[
+            "rule 0: \"ab\" ==> [49];",
+            "      chosen first on \"ab…\"",
+            "   0  01 02 00 00 00 00 00 00  rule of length 2",
+            "   1  02 00 00 00 61 00 61 00  position 0 takes 97 'a'",
+            "   2  02 01 00 00 62 00 62 00  position 1 takes 98 'b'",
+            "   3  03 00 00 00 31 00 00 00  writes 49 '1'",
+            "rule 1: \"aba\" ==> [50];",
+            "      dead: no input makes the definition choose it",
+            "   4  01 03 00 00 00 00 00 00  rule of length 3",
+            "   5  02 00 00 00 61 00 61 00  position 0 takes 97 'a'",
+            "   6  02 01 00 00 62 00 62 00  position 1 takes 98 'b'",
+            "   7  02 02 00 00 61 00 61 00  position 2 takes 97 'a'",
+            "   8  03 00 00 00 32 00 00 00  writes 50 '2'",
+            "default: else ==> [x0];",
+            "   9  05 00 00 00 00 00 00 00  default",
+            "  10  03 00 00 00 00 00 00 00  writes 0",
+            "  11  04 00 00 00 01 00 00 00  plus 1 times x0",
+            "accepted: rules 2, a default, classes 4, states 3, L 3, E 1",
+        ],
+    );
+}
+
+/// The one input of a rule that takes these characters at the input's end.
+fn shown_on(units: &[u16], expected: &str) {
+    let ranges = (0..)
+        .zip(units)
+        .map(|(place, &unit)| range(place, unit, unit));
+    let head = [rule(units.len() as u8, true)];
+    let records: Vec<Record> = head.into_iter().chain(ranges).collect();
+    let listing = listing(&records.concat());
+    let line = listing.lines().nth(1).expect("a line");
+    assert_eq!(line, format!("      chosen first on {expected}"));
+}
+
+/// In quotes as in a source; the halves of pairs, and what else doesn't show, as
+/// numbers.
+#[test]
+fn inputs_in_quotes_and_as_numbers() {
+    shown_on(&[32, 34, 92, 91, 93, 36, 45], "\" \\\"\\\\\\[\\]\\$-\"");
+    shown_on(&[0, 9, 31, 127, 0xe9, 0x2713], "\"␀␉␟␡é✓\"");
+    shown_on(&[0x2400], "\"\\␀\"");
+    shown_on(&[0xd83d, 0xde00], "55357, 56832");
+    shown_on(&[97, 0xdc00], "97 'a', 56320");
+    shown_on(&[65535, 97], "65535, 97 'a'");
+    shown_on(&[0x85, 10], "133, 10");
+}
+
+/// The inputs in quotes, read as the patterns of a source, are the library's.
+#[test]
+fn inputs_read_back() {
+    let stored = ["html-decimal", "sdi12", "nmea", "shef", "centimetres"];
+    let folder = concat!(env!("CARGO_MANIFEST_DIR"), "/../tables");
+    let tables = stored.map(|name| std::fs::read(format!("{folder}/{name}/rules.tab")).unwrap());
+    let mut read = 0;
+    for table in tables.into_iter().chain([t3_records().concat()]) {
+        let listing = listing(&table);
+        let mut rules = 0..;
+        for line in listing.lines().filter(|line| line.starts_with("      ")) {
+            let input = witness(&table, rules.next().unwrap()).expect("compiles");
+            let Some(quoted) = line.strip_prefix("      chosen first on ") else {
+                assert!(line.starts_with("      dead: ") && input.is_none());
+                continue;
+            };
+            let pattern = source::table(&format!("{quoted} ==> [];")).expect("a source");
+            let ranges = pattern.as_chunks::<8>().0[1..].iter();
+            let units: Vec<u16> = ranges.map(|r| u16::from_le_bytes([r[4], r[5]])).collect();
+            assert_eq!(Some(units), input, "{line}");
+            read += 1;
+        }
+    }
+    assert!(read >= 20, "{read}");
 }
 
 #[test]
@@ -327,6 +446,9 @@ fn refusals_8_and_9() {
     assert_eq!(found, format!("refused 8: a 65th class\n{place}\n"));
     let found = verdict(&rules(0, 8));
     assert_eq!(found, format!("refused 9: a 257th state\n{place}\n"));
+    // Nothing is said of the rules.
+    let listing = listing(&rules(0, 8));
+    assert!(!listing.contains("chosen") && !listing.contains("dead"));
     let found = verdict(&rules(0, 7));
     let measures = "rules 32, no default, classes 64, states 225, L 7, E 0";
     assert_eq!(found, format!("accepted: {measures}\n"));

@@ -8,6 +8,9 @@ pub mod Adding
 pub mod Exploring
 pub mod States
 pub mod Reached
+pub mod Fitting
+pub mod Parents
+pub mod Witness
 pub mod Places
 pub mod Blocks
 pub mod Alike
@@ -18,6 +21,9 @@ pub mod Words
 pub mod Sound
 pub mod Digits
 pub mod Compile
+pub mod Searching
+pub mod Judging
+pub mod SecondOfT3
 pub mod Sets
 pub mod Gathering
 pub mod Placing

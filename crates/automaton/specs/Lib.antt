@@ -5,6 +5,7 @@ pub mod Compile
 pub mod Sound
 pub mod Automaton
 pub mod Claims
+pub mod Witness
 pub mod Digits
 pub mod Starts
 pub mod bridge

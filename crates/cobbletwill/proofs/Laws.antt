@@ -1,4 +1,5 @@
 pub mod Sessions
+pub mod Witness
 pub mod Claims
 pub mod Demand3
 pub mod Lent

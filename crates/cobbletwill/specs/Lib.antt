@@ -1,4 +1,5 @@
 pub mod Face
+pub mod Witness
 pub mod Sessions
 pub mod Claims
 pub mod Demand3

@@ -1,12 +1,16 @@
-// The C face: each answer as a number, the place and the number of characters written through pointers. include/cobbletwill.h declares these functions.
+// The C face: each answer as a number; the place, the number of characters written, a length and an input that shows a rule through pointers. include/cobbletwill.h
+// declares these functions.
 pub mod sessions;
 
+ghost use mathlib.Core.List.{_∷_};
 ghost use mathlib.Core.Path.{_≡_};
+ghost use lib.ListN.{length};
 ghost use Rattle.meaning.specs.Direct.{checked, direct};
 ghost use Rattle.automaton.specs.Compile as Spec;
 ghost use Rattle.automaton.specs.Sound.{sound};
 ghost use Rattle.typed.specs.Typed.{fromText};
 ghost use Rattle.cobbletwill.specs.Face.{checkCode, codeOf, placeOf, writtenOf, typedCode, lengthOf, soundCode};
+ghost use Rattle.cobbletwill.specs.Witness.{Witnessed};
 use machine::compile::Compiled;
 use machine::compile::compile;
 use rules::convert::Conversion;
@@ -15,6 +19,9 @@ use rules::convert::check;
 use rules::convert::convert;
 use typed::text::Typed;
 use typed::text::from_text;
+use witness::check::Input;
+use witness::check::Judgement;
+use witness::check::witness;
 use words::sound_words::is_sound;
 
 // 0 for a table that keeps the rules, else the number of its refusal, 1 to 7.
@@ -75,6 +82,48 @@ pub extern "C" fn cobbletwill_compile(table: &[u8], words: &mut [u16]) -> u32
     match compiled {
         Compiled::Accepted => 0,
         Compiled::Refused(number) => number as u32,
+    }
+}
+
+// The input goes to the ten numbers: its length, then its nine places.
+fn put_input(input: Input, numbers: &mut [u16; 10])
+    requires { ⌜ length (input .characters) ≡ 9 ⌝ }
+    ensures { λ _. ⌜ now (numbers .exit) ≡ input .length ∷ input .characters ⌝ }
+{
+    let characters = input.characters;
+    let to = &mut numbers[..];
+    to[0] = input.length;
+    let mut i: usize = 0;
+    while i < 9 {
+        to[i + 1] = characters[i];
+        i += 1;
+    }
+}
+
+// 0 for a live rule with an input set on which it is the first choice, 66 for a dead rule with the input of no character set; else the number of the
+// refusal of compiling, and the input as found. The words are those that compiling leaves.
+#[no_mangle]
+pub extern "C" fn cobbletwill_witness(
+    table: &[u8],
+    words: &mut [u16],
+    rule: u32,
+    input: &mut [u16; 10],
+) -> u32
+    ensures { λ r.
+        ⌜ Witnessed (now (table .entry)) (now (words .entry)) rule (now (input .entry)) r (now (words .exit)) (now (input .exit)) ⌝ }
+{
+    let judged = witness(table, words, rule);
+    let judgement = judged.judgement;
+    match judgement {
+        Judgement::Live => {
+            put_input(judged.input, input);
+            0
+        }
+        Judgement::Dead => {
+            put_input(judged.input, input);
+            66
+        }
+        Judgement::Refused(number) => number as u32,
     }
 }
 

@@ -44,7 +44,7 @@ fn stands_at(words: &[u16], place: usize, end: usize, start: u16) -> bool
 }
 
 // The words from `place` to before `end` move up by one, and `start` is put at `place`.
-fn put_in(words: &mut [u16], place: usize, end: usize, start: u16)
+pub fn put_in(words: &mut [u16], place: usize, end: usize, start: u16)
     requires { ⌜ (place ≤ end) × (end < length (now words)) ⌝ }
     ensures { λ _. ⌜ now (words .exit)
         ≡ take place (now (words .entry)) ++ (start ∷ take (end - place) (drop place (now (words .entry)))) ++ drop (end + 1) (now (words .entry)) ⌝ }

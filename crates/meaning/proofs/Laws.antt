@@ -7,6 +7,7 @@ pub mod Seven
 pub mod Reading
 pub mod Length
 pub mod Choice
+pub mod Choices
 pub mod Exact
 pub mod Direct
 pub mod Narrow

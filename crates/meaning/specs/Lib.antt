@@ -6,6 +6,7 @@ pub mod Record
 pub mod Value
 pub mod Reader
 pub mod Meaning
+pub mod Choices
 pub mod Block
 pub mod Direct
 pub mod Claims

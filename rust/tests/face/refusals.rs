@@ -2,7 +2,7 @@
 
 use crate::tables::{default, mixed, plain, t1, t2};
 use cobbletwill::record::{digit, output, range, rule, term, Record, DEFAULT};
-use cobbletwill::{check, convert, raw, Machine, Refusal, Session, Status, WORDS};
+use cobbletwill::{check, convert, raw, witness, Machine, Refusal, Session, Status, WORDS};
 
 /// A rule that takes any characters, of a first character and a length.
 fn long(first: u16, length: u8) -> Vec<Record> {
@@ -44,6 +44,7 @@ fn tables_by_1_to_7() {
         assert_eq!(check(table), Err(refusal));
         assert_eq!(Machine::compile(table), Err(refusal));
         assert_eq!(convert(table, &[97], &mut [7; 8]), Err(refusal));
+        assert_eq!(witness(table, 0), Err(refusal));
     }
 }
 
@@ -134,6 +135,8 @@ fn compiling_by_8_and_9_at_one_beyond_the_limits() {
     assert_eq!((machine.classes(), machine.states()), (64, 256));
     assert_eq!(Machine::compile(&large(1, 7)), Err(Refusal::Classes));
     assert_eq!(Machine::compile(&large(0, 8)), Err(Refusal::States));
+    assert_eq!(witness(&large(1, 7), 0), Err(Refusal::Classes));
+    assert_eq!(witness(&large(0, 8), 31), Err(Refusal::States));
     assert_eq!(check(&large(1, 8)), Ok(()));
 }
 

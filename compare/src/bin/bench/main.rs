@@ -1,8 +1,8 @@
 //! Times the proved library against other versions, in one run, and prints
-//! tables for docs/PERFORMANCE.md: direct conversion and compiling against the
-//! independent version, feeds against a machine written for speed and a scanner
-//! that flex generates, previews against feeds, single calls, and typed texts against
-//! the independent version.
+//! tables for docs/PERFORMANCE.md: direct conversion, compiling and live and dead
+//! rules against the independent version, feeds against a machine written for speed
+//! and a scanner that flex generates, previews against feeds, single calls, and typed
+//! texts against the independent version.
 
 mod calls;
 mod compiling;
@@ -12,11 +12,13 @@ mod inputs;
 mod previewing;
 mod timing;
 mod typing;
+mod witnessing;
 
 /// What is timed.
-const SUBJECTS: [(&str, fn()); 6] = [
+const SUBJECTS: [(&str, fn()); 7] = [
     ("converting", converting::print),
     ("compiling", compiling::print),
+    ("witnessing", witnessing::print),
     ("feeding", feeding::print),
     ("previewing", previewing::print),
     ("calls", calls::print),

@@ -166,6 +166,14 @@ module _ (t : Table) where
   pub class-member : (x : ℕ) → List·Memᴰ (startOf x) (starts t)
   class-member x = mem-getD (starts t) (classOf (starts t) x) 0 (class-below (starts t) x (law x .1))
 
+  -- a class start is the start of its own class
+  pub start-own : (k : ℕ) → k < length (starts t) → startOf (getD (starts t) k 0) ≡ getD (starts t) k 0
+  start-own k h =
+      let x : ℕ = getD (starts t) k 0 in
+      let a : startOf x ≤ x = law x .2 .low in
+      let b : x ≤ startOf x = law x .2 .most x (mem-getD (starts t) k 0 h) (omega arith) in
+      omega arith
+
   -- a range whose edges are starts cannot tell a character from its class start
   same-within : (x : ℕ) → x < 65536 → (g : Range) → Each Start (edges g) → within (startOf x) g ≡ within x g
   same-within x h g a = ap₂ _&&_

@@ -110,7 +110,7 @@ compilable-says b room =
           )),
     )
 
-keeping-compilable : (b : List ℕ) (room : ℕ) (t : Table) → KeepsCompiling b t → wordCount ≤ room → compilable b room ≡ accepted t
+pub keeping-compilable : (b : List ℕ) (room : ℕ) (t : Table) → KeepsCompiling b t → wordCount ≤ room → compilable b room ≡ accepted t
 unfolding compilable small andThen
 keeping-compilable b room t k h =
     rw (keeps-read b t (k .keeps))

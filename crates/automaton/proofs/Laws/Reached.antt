@@ -64,7 +64,7 @@ each-joined : {A B : Type 0} (P : B → Type 0) (f : A → List B) (xs : List A)
 each-joined P f [] a = tt
 each-joined P f (x ∷ xs) a = each-append P (f x) (flatMap f xs) (a .0) (each-joined P f xs (a .1))
 
-abbrev Small : ℕ → Type 0
+abbrev pub Small : ℕ → Type 0
 Small c = c < 65536
 
 edges-small : (r : Range) → WellFormedRange r → Each Small (edges r)
@@ -75,7 +75,7 @@ edges-small r w =
       of-cond (Each Small) (ltb (r .highest) 65535) (suc (r .highest) ∷ []) [] (λ u. let k = ltb→lt (r .highest) 65535 u in (omega arith, tt)) (λ _. tt),
     )
 
-starts-small : (t : Table) → WellFormed t → Each Small (starts t)
+pub starts-small : (t : Table) → WellFormed t → Each Small (starts t)
 unfolding starts
 starts-small t w =
     inserted (allEdges t)

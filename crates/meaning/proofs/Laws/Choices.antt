@@ -1,0 +1,113 @@
+-- What Definition 7 chooses at a place: at first what the rules that fit say; and a rule that is chosen anywhere is the choice for some rest.
+-- By recursion on the input, as the conversion goes.
+use mathlib.Core.Bool.{Bool, true, false, cond}
+use mathlib.Core.List.{List, [], _∷_}
+use mathlib.Core.Option.{Option, none, some}
+use mathlib.Core.Path.{_≡_, refl, sym, ap, subst, _∙_}
+use Prim.Native.Nat.{ℕ, zero, suc, pred, _-_, min, _≤_, _<_}
+use native.Mathlib.Omega.{arith}
+use lib.Dec.{T, not-T, eqb, ltb, eqb→eq, lt→ltb}
+use lib.ListN.{length, take, length-take}
+use Rattle.lists.specs.Lists.{isSome}
+use Rattle.lists.proofs.Laws.Tests.{of-T, of-not, of-cond}
+use Rattle.meaning.specs.Table.{Characters, Table, group, defaultNumber}
+use Rattle.meaning.specs.Meaning.{Conversion, best, orDefault, choose, convertBy, convertFrom, convert}
+use Rattle.meaning.specs.Choices.{Choice, theRule, theDefault, theStop, choiceOf, atStart, chosenIn, chosenAt, Live, Dead}
+use Rattle.meaning.proofs.Laws.Shape.{Shaped}
+use Rattle.meaning.proofs.Laws.Groups.{rule-shaped, group-rule, default-size}
+use Rattle.meaning.proofs.Laws.Choice.{Chosen, best-chosen, choose-is}
+
+-- the choice among the rules that fit, or what stands in for it
+abbrev pub choiceBy : Table → Option ℕ → Choice
+choiceBy t none = cond (isSome (t .default)) theDefault theStop
+choiceBy t (some r) = theRule r
+
+-- at the first place
+module _ (t : Table) (s : Shaped t) (x : ℕ) (u : List ℕ) where
+  first-some : (n : ℕ) → choose t (x ∷ u) ≡ some n → 1 ≤ group t n .size → chosenAt t (x ∷ u) 0 ≡ some (cond (eqb n defaultNumber) theDefault (theRule n))
+  unfolding chosenAt chosenIn convert convertFrom choiceOf
+  first-some n p h =
+      let k = group t n .size in
+      let m : length (take k (x ∷ u)) ≡ min k (suc (length u)) = length-take k (x ∷ u) in
+      let i : 0 < length (take k (x ∷ u)) = omega arith in
+      rw (p, of-T (ltb 0 (length (take k (x ∷ u)))) (lt→ltb 0 (length (take k (x ∷ u))) i))
+
+  first-none : choose t (x ∷ u) ≡ none → chosenAt t (x ∷ u) 0 ≡ some theStop
+  unfolding chosenAt chosenIn convert convertFrom
+  first-none p = rw p
+
+  by-default : (b : Bool) → isSome (t .default) ≡ b → choose t (x ∷ u) ≡ cond b (some defaultNumber) none → chosenAt t (x ∷ u) 0 ≡ some (cond b theDefault theStop)
+  by-default true d p = first-some defaultNumber p (rw (default-size t s d) (omega arith))
+  by-default false d p = first-none p
+
+  pub first-choice : (b : Option ℕ) → Chosen t (length (t .rules)) (x ∷ u) b → chosenAt t (x ∷ u) 0 ≡ some (choiceBy t b)
+  first-choice none c = by-default (isSome (t .default)) refl (choose-is t (x ∷ u) none c)
+  first-choice (some r) c =
+      let h : r < length (t .rules) = c .0 in
+      let few : length (t .rules) ≤ 32 = s .few-rules in
+      let size : 1 ≤ group t r .size = rw (group-rule t r s h) (rule-shaped t s r h .positive) in
+      let other : eqb r defaultNumber ≡ false = of-not (eqb r 32) (not-T (eqb r 32) (λ e. let z : r ≡ 32 = eqb→eq r 32 e in omega arith)) in
+      first-some r (choose-is t (x ∷ u) (some r) c) size ∙ ap (λ b. some (cond b theDefault (theRule r))) other
+
+-- a rule that is chosen anywhere is the choice for some rest of an input
+
+record Picked (t : Table) (r : ℕ) : Type 0 where
+  rest : List ℕ
+  characters : Characters rest
+  number : choose t rest ≡ some r
+  other : T (eqb r defaultNumber) → ⊥
+
+not-stop : (p r : ℕ) → atStart p theStop ≡ some (theRule r) → ⊥
+not-stop zero r e = let z : _≡_ {A = ℕ} 0 1 = cc in omega arith
+not-stop (suc p) r e = let z : _≡_ {A = ℕ} 0 1 = cc in omega arith
+
+at-rule : (n p r : ℕ) (b : Bool) → atStart p (cond b theDefault (theRule n)) ≡ some (theRule r) → (b ≡ false) × (n ≡ r)
+at-rule n zero r true e = let z : _≡_ {A = ℕ} 0 1 = cc in absurd (omega arith)
+at-rule n zero r false e = (refl, cc)
+at-rule n (suc p) r b e = let z : _≡_ {A = ℕ} 0 1 = cc in absurd (omega arith)
+
+module _ (t : Table) (r : ℕ) where
+  abbrev Says : Conversion → Type 0
+  Says c = (p : ℕ) → chosenIn (c .log) (c .closed) p ≡ some (theRule r) → Picked t r
+
+  picked-by : (z : List ℕ) → Characters z → (f : ℕ → Conversion) → ((k : ℕ) → Says (f k)) → (o : Option ℕ) → choose t z ≡ o → Says (convertBy t o z f)
+  unfolding chosenIn choiceOf
+  picked-by z c f h none q p = λ e. absurd (not-stop p r e)
+  picked-by z c f h (some n) q p =
+      let k = group t n .size in
+      let m = length (take k z) in
+      of-cond (λ o. o ≡ some (theRule r) → Picked t r) (ltb p m) (atStart p (cond (eqb n defaultNumber) theDefault (theRule n))) (chosenIn (f (pred k) .log) (f (pred k) .closed) (p - m))
+      (λ _ e. let g = at-rule n p r (eqb n defaultNumber) e in record {
+        rest = z;
+        characters = c;
+        number = q ∙ ap some (g .1);
+        other = λ v. subst T (ap (λ i. eqb i defaultNumber) (sym (g .1)) ∙ g .0) v;
+      })
+      (λ _. h (pred k) (p - m))
+
+  picked-from : (k : ℕ) (u : List ℕ) → Characters u → Says (convertFrom t k u)
+  unfolding convertFrom chosenIn
+  picked-from k [] c = λ p e. let z : _≡_ {A = ℕ} 0 1 = cc in absurd (omega arith)
+  picked-from (suc k) (x ∷ u) c = picked-from k u (c .1)
+  picked-from zero (x ∷ u) c = picked-by (x ∷ u) c (λ k. convertFrom t k u) (λ k. picked-from k u (c .1)) (choose t (x ∷ u)) refl
+
+  or-rule : (o : Option ℕ) → orDefault t o ≡ some r → (T (eqb r defaultNumber) → ⊥) → o ≡ some r
+  or-rule (some b) e n = e
+  or-rule none e n = absurd (go (isSome (t .default)) e)
+    where
+      go : (b : Bool) → cond b (some defaultNumber) none ≡ some r → ⊥
+      go true e = let z : 32 ≡ r = cc in n (rw (sym z) tt)
+      go false e = let z : _≡_ {A = ℕ} 0 1 = cc in omega arith
+
+  -- a live rule is the choice among the rules that fit some characters
+  pub live-chosen : Live t r → (z : List ℕ) × Characters z × Chosen t (length (t .rules)) z (some r)
+  unfolding chosenAt convert choose
+  live-chosen l =
+      let p = picked-from 0 (l .input) (l .characters) (l .place) (l .chosen) in
+      let z = p .rest in
+      let n = length (t .rules) in
+      (z, p .characters, subst (Chosen t n z) (or-rule (best t n z) (p .number) (p .other)) (best-chosen t n z))
+
+  -- "A number that no rule has is dead."
+  pub number-dead : length (t .rules) ≤ r → Dead t r
+  number-dead h l = let i : r < length (t .rules) = live-chosen l .2 .0 in omega arith
