@@ -109,15 +109,21 @@ module _ (t : Table) (s : Shaped t) (w : List ℕ) (x : ℕ) (u : List ℕ) wher
       fitsPrefix-front ps v (take m u)
       (rw (← take-append-add v u m, ← p, ← e) (fitsWord-prefix ps (take (ruleAt t k .size) (w ++ x ∷ u)) (f .match)))
 
+-- What the state after a word tells of the rules, whatever follows the word.
+
+pub characters-front : (w v : List ℕ) → Characters (w ++ v) → Characters w
+characters-front w v c = each-front (λ x. x < 65536) w v c
+
+module _ (A : Automaton) (t : Table) (R : Reads A t) (w v : List ℕ) (c : Characters (w ++ v)) (l : Leads A 0 w) where
+  pub accept-least : {g : ℕ} → A .accept (after A 0 w) ≡ g → Least (Free t w) g
+  accept-least p = subst (Least (Free t w)) p (R .accept-is w (characters-front w v c) l)
+
+  pub end-least : {g : ℕ} → A .acceptAtEnd (after A 0 w) ≡ g → Least (Done t w) g
+  end-least p = subst (Least (Done t w)) p (R .end-is w (characters-front w v c) l)
+
 -- Along a word that the automaton reads.
 
 module _ (A : Automaton) (L n : ℕ) (G : Good A L n) (t : Table) (s : Shaped t) (R : Reads A t) where
-  free-least : (w v : List ℕ) → Characters (w ++ v) → Leads A 0 w → {g : ℕ} → A .accept (after A 0 w) ≡ g → Least (Free t w) g
-  free-least w v c l p = subst (Least (Free t w)) p (R .accept-is w (each-front (λ x. x < 65536) w v c) l)
-
-  done-least : (w : List ℕ) → Characters (w ++ []) → Leads A 0 w → {g : ℕ} → A .acceptAtEnd (after A 0 w) ≡ g → Least (Done t w) g
-  done-least w c l p = subst (Least (Done t w)) p (R .end-is w (each-front (λ x. x < 65536) w [] c) l)
-
   short-on : (w v u : List ℕ) → Characters (w ++ (v ++ u)) → Leads A 0 w → Leads A (after A 0 w) v → NoShorter t (w ++ (v ++ u)) w → NoShorter t (w ++ (v ++ u)) (w ++ v)
   short-on w [] u c l k m = rw (append-nil w) m
   short-on w (x ∷ v) u c l k m =
@@ -126,7 +132,7 @@ module _ (A : Automaton) (L n : ℕ) (G : Good A L n) (t : Table) (s : Shaped t)
       let f : z ++ v ≡ w ++ x ∷ v = append-assoc w (x ∷ []) v in
       let q = after A 0 w in
       let no-go : A .accept q ≡ 0 = go-none A L n G q x (after-inside A L n G 0 w (G .some-state)) (k .0) in
-      let further : NoShorter t (w ++ x ∷ (v ++ u)) z = longer t s w x (v ++ u) (free-least w (x ∷ (v ++ u)) c l no-go) m in
+      let further : NoShorter t (w ++ x ∷ (v ++ u)) z = longer t s w x (v ++ u) (accept-least A t R w (x ∷ (v ++ u)) c l no-go) m in
       rw (e, f) at (short-on z v u (rw e c) (leads-snoc A 0 w x l (k .0)) (rw (after-snoc A 0 w x) (k .1)) (rw e further))
 
   -- no rule that fits is shorter than a word that leads on
@@ -145,9 +151,9 @@ module _ (A : Automaton) (L n : ℕ) (G : Good A L n) (t : Table) (s : Shaped t)
       short = short-along w [] c l
 
       by-end : (g : ℕ) → A .acceptAtEnd (after A 0 w) ≡ g → Told r
-      by-end zero p = absurd (end-none t s w (done-least w c l p) short r (k .0) (k .1))
+      by-end zero p = absurd (end-none t s w (end-least A t R w [] c l p) short r (k .0) (k .1))
       by-end (suc e) p =
-          let z : some e ≡ some r = chosen-unique t (length (t .rules)) (w ++ []) (some e) (some r) (end-chosen t s w e (done-least w c l p) short) k in
+          let z : some e ≡ some r = chosen-unique t (length (t .rules)) (w ++ []) (some e) (some r) (end-chosen t s w e (end-least A t R w [] c l p) short) k in
           let y : e ≡ r = cc in
           (after A 0 w, after-inside A L n G 0 w (G .some-state), inl (p ∙ ap suc y))
   told-on r w (x ∷ u) c l k =
@@ -165,12 +171,12 @@ module _ (A : Automaton) (L n : ℕ) (G : Good A L n) (t : Table) (s : Shaped t)
 
       by-go : (A .target (after A 0 w) x ≢ 0 → Told r) → (g : ℕ) → A .accept (after A 0 w) ≡ g → Dec (A .target (after A 0 w) x ≡ 0) → Told r
       by-go on (suc g) p d =
-          let y : some g ≡ some r = chosen-unique t (length (t .rules)) (w ++ x ∷ u) (some g) (some r) (free-chosen t s w x u g (free-least w (x ∷ u) c l p) short) k in
+          let y : some g ≡ some r = chosen-unique t (length (t .rules)) (w ++ x ∷ u) (some g) (some r) (free-chosen t s w x u g (accept-least A t R w (x ∷ u) c l p) short) k in
           let y′ : g ≡ r = cc in
           (after A 0 w, after-inside A L n G 0 w (G .some-state), inr (p ∙ ap suc y′))
       by-go on zero p (yes d) =
-          let i = longer t s w x u (free-least w (x ∷ u) c l p) short r (k .0) (k .1) in
-          absurd (R .dead w x (each-front (λ x. x < 65536) z u (rw e c)) l p d r (k .0) (longer-takes t s w x u r i (k .1)))
+          let i = longer t s w x u (accept-least A t R w (x ∷ u) c l p) short r (k .0) (k .1) in
+          absurd (R .dead w x (characters-front z u (rw e c)) l p d r (k .0) (longer-takes t s w x u r i (k .1)))
       by-go on zero p (no d) = on d
 
   pub told-by : (r : ℕ) (z : List ℕ) → Characters z → Chosen t (length (t .rules)) z (some r) → Told r

@@ -15,9 +15,9 @@ use Rattle.meaning.proofs.Laws.Groups.{group-rule, default-size}
 use Rattle.meaning.proofs.Laws.Choice.{Chosen, choose-is}
 use Rattle.automaton.specs.Automaton.{Automaton}
 use Rattle.automaton.proofs.Laws.Good.{after, Least, Done, Reads}
-use Rattle.automaton.proofs.Laws.Fitting.{NoShorter, end-chosen, end-none, free-chosen, longer, longer-takes}
+use Rattle.automaton.proofs.Laws.Fitting.{NoShorter, end-chosen, end-none, free-chosen, longer, longer-takes, characters-front, accept-least, end-least}
 use Rattle.reckoning.specs.Machine.{Status, Closed, Stopped}
-use Rattle.reckoning.proofs.Laws.Walk.{Along, walk-along, characters-front, accept-least}
+use Rattle.reckoning.proofs.Laws.Walk.{Along, walk-along}
 use Rattle.reckoning.proofs.Laws.Trace.{Round, waits, closes, stops, accepts, defaults, back, onEnd, walk, Trace, accepting, handle, trace, logOf, statusOf}
 
 -- what a round has to do with the choice; the flag tells if there is a default
@@ -52,7 +52,7 @@ Tells r c = (logOf r ≡ c .log) × (statusOf r ≡ ending (c .closed))
 module _ (A : Automaton) (t : Table) (s : Shaped t) (R : Reads A t) where
   picks-along : Along A true (λ z w. Characters z × NoShorter t z w) (Picks t (A .default))
   picks-along = record {
-    at-end = λ w l n. end-picks t s (A .default) w (A .acceptAtEnd (after A 0 w)) (R .end-is w (characters-front w [] (n .0)) l) (n .1);
+    at-end = λ w l n. end-picks t s (A .default) w (A .acceptAtEnd (after A 0 w)) (end-least A t R w [] (n .0) l refl) (n .1);
     accepted = λ w x u l n r p.
         let free = accept-least A t R w (x ∷ u) (n .0) l p in (free-chosen t s w x u r free (n .1), free .0 .done .size);
     onward = λ w x u l n p. (n .0, longer t s w x u (accept-least A t R w (x ∷ u) (n .0) l p) (n .1));

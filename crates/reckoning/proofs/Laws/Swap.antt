@@ -13,10 +13,11 @@ use Rattle.meaning.specs.Table.{Table, Characters}
 use Rattle.meaning.specs.Meaning.{textOf}
 use Rattle.automaton.specs.Automaton.{Automaton}
 use Rattle.automaton.proofs.Laws.Good.{after, Leads, Least, Done, Free, Reads, Alike, Bisimulation, Writes}
+use Rattle.automaton.proofs.Laws.Fitting.{accept-least, end-least}
 use Rattle.automaton.proofs.Laws.Alike.{Reached, alike-bisimulation}
 use Rattle.reckoning.specs.Session.{settled}
 use Rattle.reckoning.proofs.Laws.Trace.{Round, waits, closes, stops, accepts, defaults, back, onCharacter, onWait, onEnd, onNothing, walk, Trace, waiting, closing, stopping, accepting, defaulting, handle, trace, logOf}
-use Rattle.reckoning.proofs.Laws.Walk.{settled-both, Along, walk-along, characters-front, accept-least}
+use Rattle.reckoning.proofs.Laws.Walk.{settled-both, Along, walk-along}
 
 -- the accept is the same, and the targets are both 0 or neither
 on-character-alike : (g p q : ℕ) (b : Bool) (d : ℕ) (f f′ : ℕ → Round) → (p ≢ 0) ↔ (q ≢ 0) → (p ≢ 0 → f p ≡ f′ q) →
@@ -87,7 +88,7 @@ module _ (A : Automaton) (t : Table) (R : Reads A t) where
   fires-nothing : (e : Bool) (w : List ℕ) → Leads A 0 w → Characters (w ++ []) → Fires A t (w ++ []) (onNothing A e (length w) (after A 0 w))
   fires-nothing false w l c =
       let q = after A 0 w in fires-wait A t w [] (settled A q) (A .accept q) q (accept-least A t R w [] c l refl) (settled-both A q)
-  fires-nothing true w l c = fires-end A t w [] (A .acceptAtEnd (after A 0 w)) (length w) refl (R .end-is w (characters-front w [] c) l)
+  fires-nothing true w l c = fires-end A t w [] (A .acceptAtEnd (after A 0 w)) (length w) refl (end-least A t R w [] c l refl)
 
   fires-along : (e : Bool) → Along A e (λ z w. Characters z) (Fires A t)
   fires-along e = record {

@@ -3,16 +3,14 @@
 use mathlib.Core.Bool.{Bool, true, false}
 use mathlib.Core.List.{List, [], _∷_, _++_, append-assoc}
 use mathlib.Core.Logic.{_≢_}
-use mathlib.Core.Path.{_≡_, refl, sym, ap, subst, _∙_}
+use mathlib.Core.Path.{_≡_, refl, sym, ap, _∙_}
 use Prim.Native.Nat.{ℕ, zero, suc, _+_, _≤_, _<_}
 use native.Mathlib.Nat.{add-zero}
 use native.Mathlib.Omega.{arith}
 use lib.Dec.{T, eqb, eqb→eq, eqb·suc-zero}
 use lib.ListN.{length, length-append}
-use Rattle.lists.proofs.Laws.Each.{each-front}
-use Rattle.meaning.specs.Table.{Characters, Table}
 use Rattle.automaton.specs.Automaton.{Automaton}
-use Rattle.automaton.proofs.Laws.Good.{after, after-snoc, Leads, leads-snoc, Good, go-none, Least, Free, Reads}
+use Rattle.automaton.proofs.Laws.Good.{after, after-snoc, Leads, leads-snoc, Good, go-none}
 use Rattle.reckoning.specs.Session.{settled}
 use Rattle.reckoning.proofs.Laws.Trace.{Round, waits, closes, stops, accepts, defaults, back, onCharacter, onWait, onEnd, onNothing, walk}
 
@@ -257,11 +255,3 @@ module _ (A : Automaton) (e : Bool) (S : List ℕ → List ℕ → Type 0) (P : 
   pub walk-along : (z : List ℕ) → S z [] → P z (walk A e 0 0 z)
   unfolding after
   walk-along z s = walk-on [] z tt s
-
-pub characters-front : (w v : List ℕ) → Characters (w ++ v) → Characters w
-characters-front w v c = each-front (λ x. x < 65536) w v c
-
--- what the accept of the state after w tells, where v follows
-pub accept-least : (A : Automaton) (t : Table) → Reads A t → (w v : List ℕ) → Characters (w ++ v) → Leads A 0 w →
-    {g : ℕ} → A .accept (after A 0 w) ≡ g → Least (Free t w) g
-accept-least A t R w v c l p = subst (Least (Free t w)) p (R .accept-is w (characters-front w v c) l)
