@@ -42,11 +42,12 @@
  * layout, answers, functions. Words of 0.2, which has no digits, are not for
  * later versions, nor are sessions of 0.3, which have no counts of uses. Tables,
  * words and sessions of 0.4, which has no from_text, of 0.5, which has no preview,
- * and of 0.6, which has no witness, stay valid. */
+ * of 0.6, which has no witness, and of 0.7, which takes terms by rising position
+ * alone, stay valid. */
 #define COBBLETWILL_VERSION_MAJOR 0
-#define COBBLETWILL_VERSION_MINOR 7
+#define COBBLETWILL_VERSION_MINOR 8
 #define COBBLETWILL_VERSION_PATCH 0
-#define COBBLETWILL_VERSION "0.7.0"
+#define COBBLETWILL_VERSION "0.8.0"
 
 #ifdef __cplusplus
 extern "C" {
@@ -94,8 +95,8 @@ enum {
     /* 2: unknown kind, a field outside its own range, a byte that must be zero
      * and isn't, lowest above highest. */
     COBBLETWILL_FIELD = 2,
-    /* 3: a record where its kind can't come, a position not below K, ranges or
-     * terms out of order. */
+    /* 3: a record where its kind can't come, a position not below K, ranges out
+     * of order, a term's position repeated. */
     COBBLETWILL_PLACE = 3,
     /* 4: a position skipped, or unfilled when the ranges end. */
     COBBLETWILL_UNFILLED = 4,
@@ -159,7 +160,7 @@ static inline const char *cobbletwill_refusal_text(uint32_t answer) {
                "a byte that must be zero and isn't, lowest above highest";
     case COBBLETWILL_PLACE:
         return "a record where its kind can't come, a position not below K, "
-               "ranges or terms out of order";
+               "ranges out of order, a term's position repeated";
     case COBBLETWILL_UNFILLED:
         return "a position skipped, or unfilled when the ranges end";
     case COBBLETWILL_NO_RULE:
@@ -271,8 +272,8 @@ uint32_t cobbletwill_from_text(const uint16_t *text, size_t text_length,
  *   then record by record, from the first, the first of
  *    2  unknown kind, a field outside its own range, a byte that must be zero
  *       and isn't, lowest above highest
- *    3  a record where its kind can't come, a position not below K, ranges or
- *       terms out of order
+ *    3  a record where its kind can't come, a position not below K, ranges out
+ *       of order, a term's position repeated
  *    4  a position skipped, or unfilled when the ranges end
  *    6  a 33rd rule, fifth range of a position, ninth output character
  *   then for the whole table

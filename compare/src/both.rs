@@ -101,8 +101,10 @@ pub fn compile(table: &[u8], room: usize) -> (u32, Vec<u16>) {
     let answer = compile_by_reference(table, &mut expected);
     let code = answer.map_or_else(number, |()| OK);
     assert_eq!(face::compile(table, &mut words), code, "{table:?}");
-    let differs = (0..room).find(|&place| words[place] != expected[place]);
-    assert_eq!(differs, None, "the place of a word, {table:?}");
+    if words != expected {
+        let differs = (0..room).find(|&place| words[place] != expected[place]);
+        panic!("they differ at the word {differs:?}, {table:?}");
+    }
     if code == 10 {
         assert!(words == found);
     } else {

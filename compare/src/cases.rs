@@ -2,13 +2,14 @@
 //! buffers for direct conversion; tables at the limits of compiling.
 
 use reference::builder::{encode, encode_records, TableBuilder};
+use reference::meaning::choose;
 use reference::random::Random;
 use reference::samples::{
     digits_and_sums, four_digits, lookahead, random_input, random_table, t1, t2, t3, two_digits,
 };
 use reference::table::{
-    Digit, Group, Output, Range, Record, Table, Term, MAX_LENGTH, MAX_OUTPUTS, MAX_RANGES,
-    MAX_RULES, RECORD_BYTES,
+    Digit, Group, Range, Record, Table, Term, MAX_LENGTH, MAX_OUTPUTS, MAX_RANGES, MAX_RULES,
+    RECORD_BYTES,
 };
 
 /// What direct conversion takes.
@@ -46,6 +47,19 @@ impl Case {
             table,
             input,
             output: pattern(first, room),
+        }
+    }
+
+    /// A direct conversion under a table's bytes, of an input made of the words of a
+    /// table.
+    pub fn under(random: &mut Random, bytes: Vec<u8>, table: &Table) -> Case {
+        let length = random.below(30);
+        let input = random_input(random, table, length);
+        let room = room(random, table.most_outputs() * input.len());
+        Case {
+            table: bytes,
+            input,
+            output: pattern(random.character(), room),
         }
     }
 }
@@ -205,12 +219,22 @@ pub fn room(random: &mut Random, needed: usize) -> usize {
     }
 }
 
+/// Whether Definition 7 chooses a group of a sort on an input.
+pub fn chooses(table: &Table, input: &[u16], sort: impl Fn(&Group) -> bool) -> bool {
+    let mut place = 0;
+    while let Some(group) = choose(table, &input[place..]).filter(|_| place < input.len()) {
+        if sort(group) {
+            return true;
+        }
+        place += group.length();
+    }
+    false
+}
+
 /// Numbers to fill a buffer with, each unlike those beside it.
 pub fn pattern(first: u16, length: usize) -> Vec<u16> {
-    let next = |&last: &u16| Some(last.wrapping_mul(25173).wrapping_add(13849));
-    std::iter::successors(Some(first), next)
-        .take(length)
-        .collect()
+    let number = |place: usize| first.wrapping_add((place as u16).wrapping_mul(25173));
+    (0..length).map(number).collect()
 }
 
 /// Damages a table in one way.
@@ -471,14 +495,7 @@ fn touch_border(random: &mut Random, table: &mut Vec<u8>) {
 
 /// The constants of a group's sums, each with the sum's least and greatest value.
 fn extremes_of_sums(group: &mut Group) -> Vec<(&mut i32, (i64, i64))> {
-    let extremes = group.outputs.iter().filter_map(|output| match output {
-        Output::Sum(sum) => Some(group.extremes(sum)),
-        Output::Digit(_) => None,
-    });
-    let extremes: Vec<(i64, i64)> = extremes.collect();
-    let constants = group.outputs.iter_mut().filter_map(|output| match output {
-        Output::Sum(sum) => Some(&mut sum.constant),
-        Output::Digit(_) => None,
-    });
+    let extremes: Vec<(i64, i64)> = group.sums().map(|sum| group.extremes(sum)).collect();
+    let constants = group.sums_mut().map(|sum| &mut sum.constant);
     constants.zip(extremes).collect()
 }

@@ -4,6 +4,7 @@
 //! - [`face`]: the functions of `include/cobbletwill.h`, safe to call
 //! - [`cases`]: random tables, sound and damaged, with inputs and buffers
 //! - [`digits`]: tables with digits, and damage to their records and entries
+//! - [`terms`]: terms in any order and by position, and damage to their records
 //! - [`typed`]: typed texts, of random tables and others, and damage to them
 //! - [`rivals`]: tables whose rules stand in each other's way
 //! - [`both`]: direct conversion, compiling, live and dead rules, the test of words
@@ -31,5 +32,6 @@ pub mod fast;
 pub mod flex;
 pub mod lists;
 pub mod rivals;
+pub mod terms;
 pub mod typed;
 pub mod uses;

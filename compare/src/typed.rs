@@ -124,15 +124,11 @@ fn lines(table: &Table) -> Vec<Line> {
             items: rule.positions.clone(),
             anchored: rule.anchored,
         };
-        (Some(pattern), &rule.outputs)
+        (Some(pattern), rule)
     });
-    let default = table.default.iter().map(|group| (None, &group.outputs));
-    let lines = rules.chain(default).map(|(pattern, outputs)| {
-        let sums = outputs.iter().filter_map(|output| match output {
-            Output::Sum(sum) => Some(Typed::Sum(sum.clone())),
-            Output::Digit(_) => None,
-        });
-        let outputs = sums.collect();
+    let default = table.default.iter().map(|group| (None, group));
+    let lines = rules.chain(default).map(|(pattern, group)| {
+        let outputs = group.sums().cloned().map(Typed::Sum).collect();
         Line { pattern, outputs }
     });
     lines.collect()

@@ -5,14 +5,12 @@ use std::collections::BTreeMap;
 
 use compare::both::{compile, convert, is_sound};
 use compare::calls::{compare, fed, roomy_feed, Left, ROOMY_FINISH};
-use compare::cases::{pattern, room, Case};
+use compare::cases::{chooses, pattern, Case};
 use compare::digits::{damaged_record, tables, Damage, Entries};
 use compare::face::{Session, OK, STOPPED};
 use compare::lists::{Called, Compiled};
 use reference::builder::{encode, hexadecimal, TableBuilder};
-use reference::meaning::choose;
 use reference::random::Random;
-use reference::samples::random_input;
 use reference::table::{Digit, Group, Output, Table, SHIFTS};
 use reference::words::WORDS;
 
@@ -95,12 +93,16 @@ fn digits(group: &Group) -> impl Iterator<Item = Digit> + '_ {
     })
 }
 
+/// Whether a group has a digit.
+fn has(group: &Group) -> bool {
+    digits(group).next().is_some()
+}
+
 impl Had {
     /// Notes a table by its bytes, which are accepted.
     fn note(&mut self, bytes: &[u8]) {
         let table = Table::read(bytes).expect("a sound table");
-        let has = |group: &Group| digits(group).next().is_some();
-        let mixed = |group: &Group| has(group) && digits(group).count() < group.outputs.len();
+        let mixed = |group: &Group| has(group) && group.sums().next().is_some();
         let digits: Vec<Digit> = table.groups().flat_map(digits).collect();
         self.tables += usize::from(!digits.is_empty());
         for (position, times) in self.positions.iter_mut().enumerate() {
@@ -116,30 +118,6 @@ impl Had {
     }
 }
 
-/// Whether Definition 7 chooses a group with digits on an input.
-fn writes_digits(table: &Table, input: &[u16]) -> bool {
-    let mut place = 0;
-    while let Some(group) = choose(table, &input[place..]).filter(|_| place < input.len()) {
-        if digits(group).next().is_some() {
-            return true;
-        }
-        place += group.length();
-    }
-    false
-}
-
-/// A direct conversion under a table whose bytes are given.
-fn case(random: &mut Random, table: &Table, bytes: Vec<u8>) -> Case {
-    let length = random.below(30);
-    let input = random_input(random, table, length);
-    let room = room(random, table.most_outputs() * input.len());
-    Case {
-        table: bytes,
-        input,
-        output: pattern(random.character(), room),
-    }
-}
-
 /// One rule in fourteen is of length 8, the only one with positions 6 and 7. The
 /// other guards are a third or less of what the odds give.
 #[test]
@@ -152,10 +130,10 @@ fn tables_by_compiling_direct_conversion_and_lists_of_calls() {
         let (code, words) = compile(&bytes, WORDS + random.below(9));
         assert_eq!((code, &words[..WORDS]), (OK, &machine.words[..]));
 
-        let case = case(&mut random, table, bytes);
+        let case = Case::under(&mut random, bytes, table);
         let left = convert(&case);
         let converted = matches!(left.code, OK | STOPPED);
-        written += usize::from(converted && writes_digits(table, &case.input));
+        written += usize::from(converted && chooses(table, &case.input, has));
 
         let calls = random.between(2, 12);
         let mut text = 0;
@@ -191,7 +169,7 @@ fn each_byte_of_a_record_of_kind_6_changed() {
         for (byte, seen) in seen.iter_mut().enumerate() {
             let damaged = damaged_record(&mut random, &bytes, byte);
             let (code, _) = compile(&damaged, WORDS + 1);
-            convert(&case(&mut random, &table, damaged));
+            convert(&Case::under(&mut random, damaged, &table));
             *seen.entry(code).or_default() += 1;
         }
     }

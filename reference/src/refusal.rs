@@ -10,7 +10,7 @@ pub enum Refusal {
     /// zero and isn't, lowest above highest.
     Field = 2,
     /// 3: a record where its kind can't come, a position not below K, ranges
-    /// or terms out of order.
+    /// out of order, a term's position repeated.
     Place = 3,
     /// 4: a position skipped, or unfilled when the ranges end.
     Unfilled = 4,

@@ -324,7 +324,7 @@ fn constants(group: &Group, sum: &Sum) -> Option<(i32, i32)> {
     (lowest <= highest).then_some((lowest, highest))
 }
 
-/// Random terms, rising strictly by position.
+/// Random terms, each of a position of its own, half the times in any order.
 fn random_terms(random: &mut Random, length: usize) -> Vec<Term> {
     let mut terms = Vec::new();
     for position in 0..length {
@@ -337,6 +337,9 @@ fn random_terms(random: &mut Random, length: usize) -> Vec<Term> {
                 coefficient,
             });
         }
+    }
+    if random.one_in(2) {
+        random.shuffle(&mut terms);
     }
     terms
 }

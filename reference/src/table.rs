@@ -70,7 +70,7 @@ pub struct Term {
 pub struct Sum {
     /// The signed constant.
     pub constant: i32,
-    /// The terms, rising strictly by position.
+    /// The terms as their records stand, each of a position of its own.
     pub terms: Vec<Term>,
 }
 
@@ -154,6 +154,22 @@ impl Group {
         Ok(())
     }
 
+    /// The output characters that are sums.
+    pub fn sums(&self) -> impl Iterator<Item = &Sum> {
+        self.outputs.iter().filter_map(|output| match output {
+            Output::Sum(sum) => Some(sum),
+            Output::Digit(_) => None,
+        })
+    }
+
+    /// The same, to change them.
+    pub fn sums_mut(&mut self) -> impl Iterator<Item = &mut Sum> {
+        self.outputs.iter_mut().filter_map(|output| match output {
+            Output::Sum(sum) => Some(sum),
+            Output::Digit(_) => None,
+        })
+    }
+
     /// The least and the greatest value of a sum over the words that fit the
     /// group, other rules disregarded. Each position's character is free of the
     /// others', so each term has its extremes at its position's lowest and
@@ -181,12 +197,9 @@ impl Group {
 
     /// Whether an output value may leave 0 to 65535. A digit's is 48 to 70.
     fn may_leave_characters(&self) -> bool {
-        self.outputs.iter().any(|output| match output {
-            Output::Sum(sum) => {
-                let (least, greatest) = self.extremes(sum);
-                least < 0 || greatest > i64::from(u16::MAX)
-            }
-            Output::Digit(_) => false,
+        self.sums().any(|sum| {
+            let (least, greatest) = self.extremes(sum);
+            least < 0 || greatest > i64::from(u16::MAX)
         })
     }
 }
@@ -296,17 +309,17 @@ impl Table {
         }))
     }
 
-    /// Kind 4: terms follow a sum and rise strictly by position. A digit "takes
-    /// no terms (one is refused by 3)".
+    /// Kind 4: terms follow a sum "in any order of position, though a position
+    /// still occurs once". A digit "takes no terms (one is refused by 3)".
     fn add_term(&mut self, term: Term) -> Result<(), Refusal> {
         let group = self.current().ok_or(Refusal::Place)?;
         let length = group.length();
         let Some(Output::Sum(sum)) = group.outputs.last_mut() else {
             return Err(Refusal::Place);
         };
-        let last = sum.terms.last();
-        let rising = last.is_none_or(|last| last.position < term.position);
-        if term.position >= length || !rising {
+        let mut before = sum.terms.iter();
+        let repeated = before.any(|other| other.position == term.position);
+        if term.position >= length || repeated {
             return Err(Refusal::Place);
         }
         sum.terms.push(term);

@@ -1,6 +1,6 @@
 //! The reader on random and damaged bytes.
 
-use std::collections::BTreeMap;
+use std::collections::{BTreeMap, BTreeSet};
 
 use reference::builder::{encode, encode_records, records};
 use reference::compile::compiled;
@@ -55,15 +55,18 @@ fn rule_keeps_the_rules(rule: &Group) -> bool {
         && outputs_keep_the_rules(rule)
 }
 
-/// At most 8 output characters: sums, whose terms rise strictly by position below
-/// K, and digits of a position below K by one of four shifts.
+/// At most 8 output characters: sums, whose terms are each of a position of its own
+/// below K, and digits of a position below K by one of four shifts.
 fn outputs_keep_the_rules(group: &Group) -> bool {
     let length = group.positions.len();
     let is_sound = |term: &Term| term.coefficient != 0 && term.position < length;
-    let rises = |pair: &[Term]| pair[0].position < pair[1].position;
+    let once = |terms: &[Term]| {
+        let positions: BTreeSet<usize> = terms.iter().map(|term| term.position).collect();
+        positions.len() == terms.len()
+    };
     group.outputs.len() <= 8
         && group.outputs.iter().all(|output| match output {
-            Output::Sum(sum) => sum.terms.iter().all(is_sound) && sum.terms.windows(2).all(rises),
+            Output::Sum(sum) => sum.terms.iter().all(is_sound) && once(&sum.terms),
             Output::Digit(Digit { position, shift }) => {
                 *position < length && *shift <= 12 && shift % 4 == 0
             }

@@ -202,12 +202,16 @@ fn refusal_3_ranges_out_of_order() {
 }
 
 #[test]
-fn refusal_3_terms_out_of_order() {
-    let output = || new().rule(2).spelled(0, "ab").output(0);
-    assert_eq!(refused_table(output().term(1, 1).term(0, 1)), 3);
+fn refusal_3_a_terms_position_repeated() {
+    let output = || new().rule(3).spelled(0, "abc").output(0);
     assert_eq!(refused_table(output().term(1, 1).term(1, 1)), 3);
-    // A new output character begins anew.
-    let again = output().term(1, 1).output(0).term(0, 1);
+    // With other terms between, the coefficient being another.
+    let falling = || output().term(1, 1).term(0, 2);
+    assert_eq!(refused_table(falling().term(1, 3)), 3);
+    assert_eq!(refused_table(falling().term(2, 1).term(1, 1)), 3);
+    // Falling positions are no fault, and a new output character begins anew.
+    assert!(compiled(&falling().bytes()).is_ok());
+    let again = falling().output(0).term(1, 1).term(0, 2);
     assert!(compiled(&again.bytes()).is_ok());
 }
 

@@ -105,7 +105,7 @@ fn random_ranges(random: &mut Random) -> Vec<Range> {
         .collect()
 }
 
-/// Terms with coefficients of all sizes, the greatest among them.
+/// Terms in any order, with coefficients of all sizes, the greatest among them.
 fn random_terms(random: &mut Random, length: usize) -> Vec<Term> {
     let mut terms = Vec::new();
     for position in 0..length {
@@ -124,6 +124,7 @@ fn random_terms(random: &mut Random, length: usize) -> Vec<Term> {
             });
         }
     }
+    random.shuffle(&mut terms);
     terms
 }
 

@@ -23,7 +23,8 @@ pub const fn output(constant: i32) -> Record {
     [3, 0, 0, 0, c0, c1, c2, c3]
 }
 
-/// Kind 4: a term, a coefficient for the character at a position.
+/// Kind 4: a term, a coefficient for the character at a position. Those of an output
+/// character stand in any order, each of another position.
 pub const fn term(position: u8, coefficient: i16) -> Record {
     let [c0, c1] = coefficient.to_le_bytes();
     [4, position, 0, 0, c0, c1, 0, 0]

@@ -12,8 +12,8 @@ pub enum Refusal {
     /// 2: an unknown kind, a field outside its own range, a byte that must be
     /// zero and isn't, lowest above highest.
     Field = 2,
-    /// 3: a record where its kind can't come, a position not below K, ranges or
-    /// terms out of order.
+    /// 3: a record where its kind can't come, a position not below K, ranges out
+    /// of order, a term's position repeated.
     Place = 3,
     /// 4: a position skipped, or unfilled when the ranges end.
     Unfilled = 4,
@@ -92,7 +92,7 @@ impl Refusal {
             }
             Refusal::Place => {
                 "a record where its kind can't come, a position not below K, \
-                 ranges or terms out of order"
+                 ranges out of order, a term's position repeated"
             }
             Refusal::Unfilled => "a position skipped, or unfilled when the ranges end",
             Refusal::NoRule => "no rule",

@@ -301,6 +301,26 @@ static void test_tables(void) {
     table_refused(large, put_large(large, 0, 8), COBBLETWILL_STATES);
 }
 
+/* Terms in any order are not refused, and the words are the same. A position that is repeated is, whatever stands
+ * between: the sum's own terms, and all five positions of its rule, first to last and last to first. */
+static void test_terms(void) {
+    static const uint8_t rising[] = {T1}, falling[] = {T1_WITH(TERM(3, 1), TERM(2, 10))};
+    static const uint8_t beside[] = {T1_WITH(TERM(2, 10), TERM(3, 1), TERM(3, 1))};
+    static const uint8_t apart[] = {T1_WITH(TERM(2, 10), TERM(3, 1), TERM(2, 10))};
+    static const uint8_t first[] = {T1_WITH(TERM(0, 1), TERM(1, 1), TERM(2, 1), TERM(3, 1), TERM(4, 1), TERM(0, 1))};
+    static const uint8_t last[] = {T1_WITH(TERM(4, 1), TERM(3, 1), TERM(2, 1), TERM(1, 1), TERM(0, 1), TERM(4, 1))};
+    static uint16_t words[COBBLETWILL_WORDS];
+    EXPECT(cobbletwill_check(falling, sizeof falling) == COBBLETWILL_OK);
+    EXPECT(cobbletwill_compile(rising, sizeof rising, words, COBBLETWILL_WORDS) == COBBLETWILL_OK);
+    lend(fresh);
+    EXPECT(cobbletwill_compile(falling, sizeof falling, lent->words, COBBLETWILL_WORDS) == COBBLETWILL_OK);
+    EXPECT(memcmp(words, lent->words, sizeof words) == 0);
+    table_refused(beside, sizeof beside, COBBLETWILL_PLACE);
+    table_refused(apart, sizeof apart, COBBLETWILL_PLACE);
+    table_refused(first, sizeof first, COBBLETWILL_PLACE);
+    table_refused(last, sizeof last, COBBLETWILL_PLACE);
+}
+
 /* Refusal 14 takes an input of 2 TiB: addresses without memory, which are not read. */
 static void test_inputs(void) {
     const struct call short_output = {CONVERT, table, sizeof table, text, 3, 2 * 3 - 1, 0};
@@ -366,6 +386,7 @@ int main(void) {
     lent = mmap(NULL, sizeof *lent, PROT_READ | PROT_WRITE, MAP_PRIVATE | MAP_ANONYMOUS, -1, 0);
     EXPECT(lent != MAP_FAILED);
     test_tables();
+    test_terms();
     test_inputs();
     test_sessions();
     test_unsound_sessions();

@@ -17,12 +17,13 @@
 #define DEFAULT 5, 0, 0, 0, 0, 0, 0, 0
 #define DIGIT(position, shift) 6, (position), (shift), 0, 0, 0, 0, 0
 
-/* The records of T1 of document 01. */
-#define T1                                                                                                            \
+/* The records of T1 of document 01, and these with other terms of its sum. */
+#define T1 T1_WITH(TERM(2, 10), TERM(3, 1))
+#define T1_WITH(...)                                                                                                  \
     RULE(5, 0), RANGE(0, '&', '&'), RANGE(1, '#', '#'), RANGE(2, '0', '0'), RANGE(3, '0', '0'), RANGE(4, ';', ';'),       \
         OUTPUT('&'), OUTPUT('#'), OUTPUT('0'), OUTPUT('0'), OUTPUT(';'),                                                \
         RULE(5, 0), RANGE(0, '&', '&'), RANGE(1, '#', '#'), RANGE(2, '0', '9'), RANGE(3, '0', '9'), RANGE(4, ';', ';'),   \
-        OUTPUT(-528), TERM(2, 10), TERM(3, 1),                                                                          \
+        OUTPUT(-528), __VA_ARGS__,                                                                                      \
         RULE(2, 1), RANGE(0, '&', '&'), RANGE(1, '#', '#'), OUTPUT('&'), OUTPUT('#'),                                   \
         DEFAULT, OUTPUT(0), TERM(0, 1)
 

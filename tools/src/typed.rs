@@ -13,8 +13,8 @@ const MOST: u32 = 65_535;
 const MARKS: &str = "\"\\[]$";
 
 /// A table's rules as text, a line each; refused as by the table check. The library
-/// reads the text back to the same records, unless one is a digit: that can't be
-/// typed, and is written as in a source.
+/// reads the text back to the same records, the terms of each sum by position, unless
+/// one is a digit: that can't be typed, and is written as in a source.
 pub fn text(table: &[u8]) -> Result<Vec<u16>, Refusal> {
     let lines = lines(table)?.into_iter();
     Ok(lines

@@ -30,7 +30,7 @@ fn no_source() {
 #[test]
 fn ranges_and_positions() {
     let place = "refused 3: a record where its kind can't come, a position not below K, \
-                 ranges or terms out of order";
+                 ranges out of order, a term's position repeated";
     refused(
         "# letters\n\"x[ba]\" ==> [];",
         &format!("line 2, column 5: {place}"),

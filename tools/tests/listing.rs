@@ -2,7 +2,7 @@
 //! input shows a rule is free: `…` stands for any text there.
 
 use cobbletwill::record::{digit, output, range, rule, term, Record, DEFAULT};
-use cobbletwill::witness;
+use cobbletwill::{witness, Machine};
 use tools::listing::{listing, verdict};
 use tools::source;
 
@@ -35,7 +35,7 @@ fn says(records: &[Record], expected: &[&str]) {
 const FIELD: &str = "refused 2: unknown kind, a field outside its own range, \
                      a byte that must be zero and isn't, lowest above highest";
 const PLACE: &str = "refused 3: a record where its kind can't come, a position not below K, \
-                     ranges or terms out of order";
+                     ranges out of order, a term's position repeated";
 const UNFILLED: &str = "refused 4: a position skipped, or unfilled when the ranges end";
 const TOO_MANY: &str = "refused 6: a 33rd rule, fifth range of a position, ninth output character";
 const VALUE: &str = "refused 7: an output value may leave 0 to 65535";
@@ -76,6 +76,43 @@ fn an_accepted_table() {
             "accepted: rules 2, a default, classes 9, states 4, L 2, E 1",
         ],
     );
+}
+
+/// The records are listed as they stand, their terms falling; the line of the group, read
+/// as a source, has the terms by position and the same machine words.
+#[test]
+fn terms_that_fall() {
+    let head = [
+        rule(2, false),
+        range(0, 48, 57),
+        range(1, 48, 57),
+        output(-528),
+    ];
+    let falling = [&head[..], &[term(1, 1), term(0, 10)]].concat();
+    let line = "\"[0-9][0-9]\" ==> [x1 + 10 * x0 - 528];";
+    lists(
+        &falling,
+        &[
+            &format!("rule 0: {line}"),
+            "      chosen first on …",
+            "   0  01 02 00 00 00 00 00 00  rule of length 2",
+            "   1  02 00 00 00 30 00 39 00  position 0 takes 48 '0' to 57 '9'",
+            "   2  02 01 00 00 30 00 39 00  position 1 takes 48 '0' to 57 '9'",
+            "   3  03 00 00 00 f0 fd ff ff  writes -528",
+            "   4  04 01 00 00 01 00 00 00  plus 1 times x1",
+            "   5  04 00 00 00 0a 00 00 00  plus 10 times x0",
+            "accepted: rules 1, no default, classes 3, states 3, L 2, E 1",
+        ],
+    );
+    let rising = [&head[..], &[term(0, 10), term(1, 1)]].concat().concat();
+    assert_eq!(source::table(line), Ok(rising.clone()));
+    assert_eq!(
+        Machine::compile(&rising),
+        Machine::compile(&falling.concat())
+    );
+    // A position for a second time is refused where it stands.
+    let again = [&falling[..], &[term(1, 2), output(0)]].concat();
+    says(&again, &[PLACE, "at record 6, in rule 0"]);
 }
 
 #[test]

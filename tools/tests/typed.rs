@@ -1,7 +1,7 @@
 //! Tables as rules that can be typed: by hand, and read back by the library.
 
 use cobbletwill::record::{digit, output, range, rule, term, Record, DEFAULT};
-use cobbletwill::{check, Refusal, Table};
+use cobbletwill::{check, Machine, Refusal, Table};
 use tools::source::table;
 use tools::typed::{source, text};
 
@@ -96,6 +96,31 @@ fn expressions() {
         &[output(i32::MAX), term(0, -32768)],
         "32768 * 65535 + 32767 - 32768 * x0",
     );
+}
+
+/// Terms in the order of their records, but for those that are taken away; what is read
+/// back has them by position, and the same machine words.
+#[test]
+fn terms_in_any_order() {
+    let sum = |terms: &[Record]| {
+        let outputs = [&[output(300)], terms].concat();
+        spelled(&[97, 98, 99], &outputs).concat()
+    };
+    let falling = sum(&[term(2, 1), term(0, -2), term(1, 10)]);
+    let rising = sum(&[term(0, -2), term(1, 10), term(2, 1)]);
+    for (records, expected) in [
+        (&falling, "\"abc\" ==> [x2 + 10 * x1 + 300 - 2 * x0];"),
+        (&rising, "\"abc\" ==> [10 * x1 + x2 + 300 - 2 * x0];"),
+    ] {
+        let lines = source(records).expect("accepted");
+        assert_eq!(lines, [expected]);
+        let typed = text(records).expect("accepted");
+        assert_eq!(String::from_utf16_lossy(&typed), format!("{expected}\n"));
+        assert_eq!(read_back(&typed), Ok(rising.clone()));
+        assert_eq!(table(expected), Ok(rising.clone()));
+    }
+    let machine = Machine::compile(&falling).expect("compiles");
+    assert_eq!(Machine::compile(&rising), Ok(machine));
 }
 
 #[test]

@@ -21,6 +21,7 @@ pub mod Words
 pub mod Sound
 pub mod Digits
 pub mod Compile
+pub mod AnyOrder
 pub mod Searching
 pub mod Judging
 pub mod SecondOfT3

@@ -8,4 +8,5 @@ pub mod Claims
 pub mod Witness
 pub mod Digits
 pub mod Starts
+pub mod AnyOrder
 pub mod bridge

@@ -1,2 +1,3 @@
 pub mod Lists
 pub mod Decide
+pub mod Reordered

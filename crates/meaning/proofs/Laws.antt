@@ -4,6 +4,7 @@ pub mod Shape
 pub mod Groups
 pub mod Prefix
 pub mod Seven
+pub mod Terms
 pub mod Reading
 pub mod Length
 pub mod Choice
@@ -18,6 +19,9 @@ pub mod Described
 pub mod Readable
 pub mod Numbered
 pub mod Digits
+pub mod Swapped
+pub mod Repeated
+pub mod AnyOrder
 pub mod Choosing
 pub mod Sums
 pub mod Writing

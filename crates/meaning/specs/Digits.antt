@@ -7,18 +7,14 @@ use lib.Dec.{T}
 use lib.IntN.{ℤ, pos}
 use lib.ListN.{length, getD}
 use Rattle.lists.specs.Lists.{Each}
-use Rattle.meaning.specs.Refusal.{refused, accepted}
+use Rattle.meaning.specs.Refusal.{refused}
 use Rattle.meaning.specs.Table.{Range, sum, digit, Group, isShift}
 use Rattle.meaning.specs.Value.{SafeOutput}
 use Rattle.meaning.specs.WellFormed.{Signed}
 use Rattle.meaning.specs.Record.{decode}
 use Rattle.meaning.specs.Records.{Bytes, outputRecord, Term, termRecord, digitRecord, Known}
-use Rattle.meaning.specs.Reader.{Reading, unread, latest, readOne, readRecords, readTable}
+use Rattle.meaning.specs.Reader.{Reading, latest, readOne, LeadTo, readTable}
 use Rattle.meaning.specs.Meaning.{written}
-
--- the bytes are whole records, which are taken in one after another and lead to the reading s
-abbrev pub LeadTo : List ℕ → Reading → Type 0
-LeadTo b s = (length b % 8 ≡ 0) × (readRecords (length b / 8) b unread ≡ accepted s)
 
 -- output character j of the group is a digit of the character at position p
 abbrev pub DigitAt : Group → ℕ → ℕ → ℕ → Type 0

@@ -12,4 +12,5 @@ pub mod Direct
 pub mod Claims
 pub mod Digits
 pub mod Samples
+pub mod AnyOrder
 pub mod bridge

@@ -2,10 +2,11 @@
 use mathlib.Core.Bool.{Bool, false, _&&_, _||_, not, cond}
 use mathlib.Core.List.{List, [], _∷_, _++_}
 use mathlib.Core.Option.{Option, none, some}
+use mathlib.Core.Path.{_≡_}
 use Prim.Native.Nat.{ℕ, zero, suc, _-_, _%_, _/_, _^_}
 use lib.Dec.{eqb, leb, ltb}
-use lib.IntN.{ℤ, pos, subℕ}
-use lib.ListN.{length, take, drop, replicate}
+use lib.IntN.{ℤ, pos, natAbs, subℕ}
+use lib.ListN.{length, getD, take, drop}
 use Rattle.lists.specs.Lists.{atLast, lastD, isSome, orElse}
 use Rattle.lists.specs.Decide.{select}
 use Rattle.meaning.specs.Refusal.{Outcome, refused, accepted, andThen}
@@ -25,13 +26,14 @@ unread = record { table = record { rules = []; default = none }; kind = 0 }
 unfoldable pub latest : Reading → Group
 latest s = orElse (lastD (everyCharacter []) (s .table .rules)) (s .table .default)
 
--- how many positions the last output character's coefficients reach
-abbrev pub reach : Output → ℕ
-reach (sum c ks) = length ks
-reach (digit p shift) = 0
+-- the coefficient of a position, 0 where no term has named it
+abbrev pub coefficientAt : Output → ℕ → ℤ
+coefficientAt (sum c ks) p = getD ks p (pos 0)
+coefficientAt (digit q shift) p = pos 0
 
-unfoldable pub latestReach : Reading → ℕ
-latestReach s = reach (lastD (sum (pos 0) []) (latest s .outputs))
+-- "a position still occurs once": a term of the last output character has named it, since its coefficient, which is "not 0", stands there
+unfoldable pub repeated : Reading → ℕ → Bool
+repeated s p = not (eqb (natAbs (coefficientAt (lastD (sum (pos 0) []) (latest s .outputs)) p)) 0)
 
 -- a range may come: after its rule or another range
 abbrev pub ranging : Reading → Bool
@@ -41,7 +43,8 @@ ranging s = eqb (s .kind) 1 || eqb (s .kind) 2
 unfoldable pub unfilled : Reading → Bool
 unfilled s = ranging s && ltb (length (latest s .ranges)) (latest s .size)
 
--- refusal 3: "a record where its kind can't come, a position not below K, ranges or terms out of order"
+-- refusal 3: "a record where its kind can't come, a position not below K, ranges .. out of order", and of terms "no longer .. falling
+-- positions .., only repeated ones"
 unfoldable pub misplaced : Reading → Record → Bool
 misplaced s (rule k a) = isSome (s .table .default)
 misplaced s default = isSome (s .table .default)
@@ -51,7 +54,7 @@ misplaced s (range p r) =
     || (eqb (suc p) (length ps) && leb (r .lowest) (lastD r (lastD [] ps) .highest))
 misplaced s (output c) = eqb (s .kind) 0
 misplaced s (hexadecimal p shift) = eqb (s .kind) 0 || leb (latest s .size) p
-misplaced s (term p a) = not (eqb (s .kind) 3 || eqb (s .kind) 4) || leb (latest s .size) p || ltb p (latestReach s)
+misplaced s (term p a) = not (eqb (s .kind) 3 || eqb (s .kind) 4) || leb (latest s .size) p || repeated s p
 
 -- refusal 4: "a position skipped, or unfilled when the ranges end (at a record of kind 1, 3 or 5 ..)", and of kind 6
 unfoldable pub skipping : Reading → Record → Bool
@@ -86,9 +89,16 @@ addRange p r ps = cond (eqb p (length ps)) (ps ++ ((r ∷ []) ∷ [])) (atLast (
 unfoldable pub signed : ℕ → ℕ → ℤ
 signed n x = cond (ltb x (2 ^ (n - 1))) (pos x) (subℕ x (2 ^ n))
 
+-- a coefficient at its position, whatever came before, with 0 at the positions before it that have none
+abbrev pub putAt : ℕ → ℤ → List ℤ → List ℤ
+putAt zero a [] = a ∷ []
+putAt zero a (k ∷ ks) = a ∷ ks
+putAt (suc p) a [] = pos 0 ∷ putAt p a []
+putAt (suc p) a (k ∷ ks) = k ∷ putAt p a ks
+
 -- a digit "takes no terms"
 abbrev pub addTerm : ℕ → ℤ → Output → Output
-addTerm p a (sum c ks) = sum c (ks ++ replicate (p - length ks) (pos 0) ++ (a ∷ []))
+addTerm p a (sum c ks) = sum c (putAt p a ks)
 addTerm p a (digit q shift) = digit q shift
 
 abbrev pub changeRanges : (List (List Range) → List (List Range)) → Group → Group
@@ -121,6 +131,10 @@ readOne s (some r) =
 unfoldable pub readRecords : ℕ → List ℕ → Reading → Outcome Reading
 readRecords zero b s = accepted s
 readRecords (suc n) b s = andThen (readOne s (decode (take 8 b))) (λ s′. readRecords n (drop 8 b) s′)
+
+-- the bytes are whole records, which are taken in one after another and lead to the reading s
+abbrev pub LeadTo : List ℕ → Reading → Type 0
+LeadTo b s = (length b % 8 ≡ 0) × (readRecords (length b / 8) b unread ≡ accepted s)
 
 -- "at the table's end 4, 5"
 unfoldable pub readEnd : Reading → Outcome Table

@@ -8,6 +8,7 @@ use lib.Dec.{T}
 use lib.IntN.{ℤ, pos, negsuc}
 use lib.ListN.{take, drop}
 use Rattle.lists.specs.Lists.{Each, flatMap, optional}
+use Rattle.lists.specs.Reordered.{InAnyOrder}
 use Rattle.meaning.specs.Table.{Range, Output, sum, digit, Group, Table, isShift}
 use Rattle.meaning.specs.WellFormed.{WellFormedRange, Signed}
 
@@ -73,9 +74,9 @@ terms p (pos zero ∷ ks) = terms (suc p) ks
 terms p (pos (suc a) ∷ ks) = record { position = p; coefficient = pos (suc a) } ∷ terms (suc p) ks
 terms p (negsuc a ∷ ks) = record { position = p; coefficient = negsuc a } ∷ terms (suc p) ks
 
--- "Terms rise strictly by position": the order in which an output character's terms may be listed
+-- "Terms of one output character may now come in any order of position, though a position still occurs once"
 abbrev pub Listed : List ℤ → List Term → Type 0
-Listed ks xs = xs ≡ terms 0 ks
+Listed ks xs = InAnyOrder xs (terms 0 ks)
 
 -- "its output characters, each followed by its terms"; a digit "stands wherever kind 3 may and takes no terms"
 abbrev pub OutputRecords : Output → List ℕ → Type 0

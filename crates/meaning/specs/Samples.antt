@@ -45,18 +45,29 @@ digit p shift = entry 6 p shift 0 0
 unfoldable pub defaultOf : ℕ → ℕ → List ℕ
 defaultOf c a = entry 5 0 0 0 0 ++ out c ++ term 0 a
 
--- T1, with -m for its -528
-unfoldable pub t1With : ℕ → List ℕ
-t1With m =
+-- T1, with the constant -m and the terms of its only sum
+abbrev t1Sum : ℕ → List ℕ → List ℕ
+t1Sum m terms =
     rule 5 0 ++ only 0 "&" ++ only 1 "#" ++ only 2 "0" ++ only 3 "0" ++ only 4 ";"
     ++ says "&" ++ says "#" ++ says "0" ++ says "0" ++ says ";"
     ++ rule 5 0 ++ only 0 "&" ++ only 1 "#" ++ range 2 "0" "9" ++ range 3 "0" "9" ++ only 4 ";"
-    ++ out (2 ^ 32 - m) ++ term 2 10 ++ term 3 1
+    ++ out (2 ^ 32 - m) ++ terms
     ++ rule 2 1 ++ only 0 "&" ++ only 1 "#" ++ says "&" ++ says "#"
     ++ defaultOf 0 1
 
+-- with -m for its -528
+unfoldable pub t1With : ℕ → List ℕ
+t1With m = t1Sum m (term 2 10 ++ term 3 1)
+
 unfoldable pub t1 : List ℕ
 t1 = t1With 528
+
+-- request [7]: T1 with its terms turned round, and with a position twice
+unfoldable pub t1Turned : List ℕ
+t1Turned = t1Sum 528 (term 3 1 ++ term 2 10)
+
+unfoldable pub t1Twice : List ℕ
+t1Twice = t1Sum 528 (term 2 10 ++ term 3 1 ++ term 2 10)
 
 unfoldable pub t2 : List ℕ
 t2 = rule 1 1 ++ only 0 "a" ++ says "X" ++ rule 1 0 ++ only 0 "a" ++ says "Y"

@@ -32,8 +32,8 @@ abbrev pub Signed : ℕ → ℤ → Type 0
 Signed n (pos x) = x < 2 ^ (n - 1)
 Signed n (negsuc x) = x < 2 ^ (n - 1)
 
--- "bytes 4-7 a signed constant", "bytes 4-5 a signed coefficient, not 0", "Positions are below K": coefficients by position, as far as the
--- last term reaches
+-- "bytes 4-7 a signed constant", "bytes 4-5 a signed coefficient, not 0", "Positions are below K": coefficients by position, up to the highest
+-- that a term names
 pub record WellFormedSum (k : ℕ) (c : ℤ) (ks : List ℤ) : Type 0 where
   pub constant : Signed 32 c
   pub coefficients : Each (Signed 16) ks

@@ -1,3 +1,4 @@
+pub mod Positions
 pub mod Stepping
 pub mod Represents
 pub mod Taken

@@ -9,7 +9,7 @@ ghost use Rattle.meaning.specs.Record.{rule, range, output, term, default, hexa
 ghost use Rattle.meaning.specs.Block.{bit, blockSize, entrySize};
 ghost use Rattle.meaning.specs.bridge.Flat.{loadedSize};
 ghost use Rattle.rules.specs.bridge.Readings.{recordOf, stepOf};
-ghost use Rattle.rules.specs.bridge.Summary.{Fitting, everyLast, started, rangesRead, gap, groupNumber, slotNumber, rangedTo, summedTo, rangePut, outputPut, digitPut, admit, admitted, ifAdmitted, ifTaken};
+ghost use Rattle.rules.specs.bridge.Summary.{Fitting, everyLast, started, rangesRead, gap, isNamed, groupNumber, slotNumber, rangedTo, summedTo, rangePut, outputPut, digitPut, admit, admitted, ifAdmitted, ifTaken};
 use crate::layout::BLOCK;
 use crate::layout::DEFAULT_BLOCK;
 use crate::layout::DEFAULT_HIGHEST;
@@ -21,14 +21,14 @@ use crate::layout::SLOTS_FROM;
 use crate::record::Record;
 
 // What is kept of the group read last: its length, the positions that have a range, the last position's ranges and the highest character of the
-// last of them, the output characters, and how many positions the coefficients of the last one reach.
+// last of them, the output characters, and the positions that the terms of the last one have named, position p by bit p.
 pub struct Last {
     pub size: usize,
     pub positions: usize,
     pub slots: usize,
     pub highest: u16,
     pub outputs: usize,
-    pub reach: usize,
+    pub named: usize,
 }
 
 // A summary of the table read so far: its last record's kind (0 for none), its rules, whether it has a default, and its last group.
@@ -54,7 +54,7 @@ fn every_character() -> Last
         slots: 1,
         highest: 65535,
         outputs: 0,
-        reach: 0,
+        named: 0,
     }
 }
 
@@ -133,14 +133,14 @@ fn ranged(reader: Reader, positions: usize, slots: usize, highest: u16) -> Reade
             slots,
             highest,
             outputs: reader.last.outputs,
-            reach: reader.last.reach,
+            named: reader.last.named,
         },
     }
 }
 
 // A record that changes the output characters of the last group, likewise.
-fn summed(reader: Reader, kind: u8, outputs: usize, reach: usize) -> Reader
-    ensures { λ r. ⌜ r ≡ summedTo reader kind outputs reach ⌝ }
+fn summed(reader: Reader, kind: u8, outputs: usize, named: usize) -> Reader
+    ensures { λ r. ⌜ r ≡ summedTo reader kind outputs named ⌝ }
 {
     Reader {
         kind,
@@ -152,7 +152,7 @@ fn summed(reader: Reader, kind: u8, outputs: usize, reach: usize) -> Reader
             slots: reader.last.slots,
             highest: reader.last.highest,
             outputs,
-            reach,
+            named,
         },
     }
 }
@@ -187,7 +187,7 @@ fn on_rule(reader: Reader, size: u8, anchored: bool, loaded: &mut [u16]) -> Step
             slots: 0,
             highest: 0,
             outputs: 0,
-            reach: 0,
+            named: 0,
         },
     })
 }
@@ -351,9 +351,10 @@ fn on_hexadecimal(reader: Reader, position: u8, shift: u8, loaded: &mut [u16]) -
     Step::Next(summed(reader, 6, outputs + 1, 0))
 }
 
-// Refusal 3 of a term: it may not come, its position is not below K, or it is out of order.
+// Refusal 3 of a term: it may not come, its position is not below K, or a term has named it.
 fn term_misplaced(reader: Reader, position: usize) -> bool
-    ensures { λ r. ⌜ r ≡ (not (eqb (reader .kind) 3 || eqb (reader .kind) 4) || leb (reader .last .size) position || ltb position (reader .last .reach)) ⌝ }
+    requires { ⌜ reader .last .size ≤ 8 ⌝ }
+    ensures { λ r. ⌜ r ≡ (not (eqb (reader .kind) 3 || eqb (reader .kind) 4) || leb (reader .last .size) position || isNamed (reader .last .named) position) ⌝ }
 {
     if !either(reader.kind, 3, 4) {
         return true;
@@ -361,7 +362,7 @@ fn term_misplaced(reader: Reader, position: usize) -> bool
     if reader.last.size <= position {
         return true;
     }
-    position < reader.last.reach
+    (reader.last.named >> position) % 2 == 1
 }
 
 // A coefficient of output character `number` of a group.
@@ -392,7 +393,8 @@ fn on_term(reader: Reader, position: u8, coefficient: u16, loaded: &mut [u16]) -
         coefficient,
         loaded,
     );
-    Step::Next(summed(reader, 4, outputs, place + 1))
+    let bit: usize = 1 << place;
+    Step::Next(summed(reader, 4, outputs, reader.last.named + bit))
 }
 
 // The default: a group of length 1 whose position takes every character.

@@ -23,7 +23,7 @@ pub struct Streamed {
 
 // A record's bytes at a place of the buffer, if they fit.
 fn put(buffer: &mut [u8], place: usize, bytes: &[u8])
-    requires { ⌜ (length (now bytes) ≡ 8) × (place ≤ 100000) ⌝ }
+    requires { ⌜ (length (now bytes) ≡ 8) × (place ≤ 1000000) ⌝ }
     ensures { λ _. ⌜ now (buffer .exit) ≡ putAt place (now (bytes .entry)) (now (buffer .entry)) ⌝ }
 {
     if buffer.len() < place + 8 {

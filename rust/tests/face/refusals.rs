@@ -83,6 +83,40 @@ fn digits_by_2_to_6() {
     }
 }
 
+/// "Terms of one output character may now come in any order of position, though a
+/// position still occurs once."
+#[test]
+fn terms_in_any_order_and_a_position_repeated() {
+    let sum = |terms: &[Record]| {
+        let head = [plain("abc", false, ""), vec![output(200)]].concat();
+        [&head[..], terms].concat().concat()
+    };
+    let [x0, x1, x2] = [term(0, 10), term(1, -1), term(2, 3)];
+    let rising = Machine::compile(&sum(&[x0, x1, x2])).expect("compiles");
+    for order in [
+        [x0, x2, x1],
+        [x1, x0, x2],
+        [x1, x2, x0],
+        [x2, x0, x1],
+        [x2, x1, x0],
+    ] {
+        assert_eq!(check(&sum(&order)), Ok(()));
+        assert_eq!(Machine::compile(&sum(&order)).as_ref(), Ok(&rising));
+        // 200 + 10 * 97 - 98 + 3 * 99.
+        let mut text = [0; 3];
+        convert(&sum(&order), &[97, 98, 99], &mut text).expect("closes");
+        assert_eq!(text, [1369, 0, 0]);
+        for again in order {
+            let terms = [&order[..], &[again]].concat();
+            assert_eq!(check(&sum(&terms)), Err(Refusal::Place));
+            assert_eq!(Machine::compile(&sum(&terms)), Err(Refusal::Place));
+        }
+        // Another output character names them anew.
+        let twice = [&order[..], &[output(200)], &order].concat();
+        assert_eq!(check(&sum(&twice)), Ok(()));
+    }
+}
+
 /// The machine words of [`mixed`] with one word changed.
 fn damaged(at: usize, word: u16) -> Result<Machine, Refusal> {
     let machine = Machine::compile(&mixed()).expect("compiles");

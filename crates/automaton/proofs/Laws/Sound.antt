@@ -1,6 +1,6 @@
 -- The words of a table that was read, with at most 64 classes and 256 states, are sound, whatever follows them.
 -- Each clause of the test is a law of the words' layout, of the numbering, of the class starts or of the table's shape.
-use mathlib.Core.Bool.{Bool, true, false, not, cond}
+use mathlib.Core.Bool.{not, cond}
 use mathlib.Core.List.{List, [], _∷_, _++_}
 use mathlib.Core.Logic.{_≢_}
 use mathlib.Core.Option.{Option, none, some}
@@ -18,6 +18,7 @@ use Rattle.meaning.specs.Table.{sum, Group, Table, ruleAt, defaultNumber, longe
 use Rattle.meaning.specs.Block.{at, bit, block, blockSize}
 use Rattle.meaning.proofs.Laws.Shape.{Within, ShapedDefault, Shaped}
 use Rattle.meaning.proofs.Laws.Groups.{rule-shaped, default-each, group-rule, group-default, longest-le, longest-small, longest-positive, group-short, expansion-small}
+use Rattle.meaning.proofs.Laws.Numbers.{bit-small}
 use Rattle.meaning.proofs.Laws.Exact.{block-size, block-anchored, block-count}
 use Rattle.automaton.specs.Classes.{starts}
 use Rattle.automaton.specs.States.{State, initial, acceptAtEndOf, acceptOf, states, targetOf}
@@ -30,10 +31,6 @@ use Rattle.automaton.proofs.Laws.Levels.{numbered}
 use Rattle.automaton.proofs.Laws.Entries.{known-entry, known-of, group-entry}
 use Rattle.automaton.proofs.Laws.Blocks.{block-word, default-word}
 use Rattle.automaton.proofs.Laws.Places.{length-words, layout-states, layout-classes, layout-longest, layout-expansion, layout-rules, layout-default, layout-start, layout-depth, layout-acceptAtEnd, layout-accept, layout-target}
-
-bit-small : (b : Bool) → bit b ≤ 1
-bit-small true = omega arith
-bit-small false = omega arith
 
 module _ (t : Table) (rest : List ℕ) (shaped : Shaped t) (narrow : length (starts t) ≤ 64) (few : length (states t) ≤ 256) where
   abbrev w : List ℕ

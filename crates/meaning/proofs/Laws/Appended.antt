@@ -4,18 +4,22 @@ use mathlib.Core.List.{List, [], _∷_, _++_, append-nil, append-assoc}
 use mathlib.Core.Option.{Option, none, some}
 use mathlib.Core.Logic.{_≢_}
 use mathlib.Core.Path.{_≡_, refl, sym, ap, subst, _∙_}
-use Prim.Native.Nat.{ℕ, zero, suc, pred, _+_, _-_, _≤_}
+use Prim.Native.Nat.{ℕ, suc, pred, _+_, _-_, _≤_}
 use native.Mathlib.Nat.{add-zero, add-suc, suc-add}
 use native.Mathlib.Omega.{arith}
 use lib.Dec.{T, eqb, eqb→eq}
-use lib.IntN.{ℤ, pos, negsuc}
-use lib.ListN.{length, replicate, length-append, length-replicate}
+use lib.IntN.{ℤ, pos}
+use lib.ListN.{length, length-append}
 use Rattle.lists.specs.Lists.{flatMap, atLast, lastD, isSome, optional}
+use Rattle.lists.specs.Reordered.{kept, joined}
 use Rattle.lists.proofs.Laws.Tests.{of-cond, neqb→ne}
+use Rattle.lists.proofs.Laws.Reordered.{last-first}
+use Rattle.lists.proofs.Laws.Last.{last-atLast}
 use Rattle.meaning.specs.Table.{Range, Output, sum, digit, Group, everyCharacter}
-use Rattle.meaning.specs.Reader.{reach, changeLatest, addRange, addTerm, changeRanges, changeOutputs}
-use Rattle.meaning.specs.Records.{ruleRecord, rangeRecord, outputRecord, Term, termRecord, defaultRecord, Joined, rangeRecords, terms, OutputRecords, RuleRecords, DefaultRecords, Records}
+use Rattle.meaning.specs.Reader.{coefficientAt, changeLatest, addRange, addTerm, changeRanges, changeOutputs}
+use Rattle.meaning.specs.Records.{ruleRecord, rangeRecord, outputRecord, Term, termRecord, defaultRecord, Joined, rangeRecords, OutputRecords, RuleRecords, DefaultRecords, Records}
 use Rattle.meaning.proofs.Laws.Shape.{IsSum}
+use Rattle.meaning.proofs.Laws.Terms.{terms-put}
 use Rattle.meaning.proofs.Laws.Reading.{top}
 
 -- joined parts: one more, or more bytes of the last
@@ -41,15 +45,6 @@ joined-last R f e d (x ∷ (y ∷ ys)) b n h j =
 flatMap-snoc : {A : Type 0} (f : A → List ℕ) (xs : List A) (x : A) → flatMap f (xs ++ (x ∷ [])) ≡ flatMap f xs ++ f x
 flatMap-snoc f [] x = append-nil (f x)
 flatMap-snoc f (y ∷ ys) x = ap (λ l. f y ++ l) (flatMap-snoc f ys x) ∙ sym (append-assoc (f y) (flatMap f ys) (f x))
-
-pub lastD-atLast : {A : Type 0} (f : A → A) (d : A) (xs : List A) → 1 ≤ length xs → lastD d (atLast f xs) ≡ f (lastD d xs)
-lastD-atLast f d [] n = absurd (omega arith)
-lastD-atLast f d (x ∷ []) n = refl
-lastD-atLast f d (x ∷ (y ∷ ys)) n = lastD-atLast f x (y ∷ ys) (omega arith)
-
-pub lastD-snoc : {A : Type 0} (d : A) (xs : List A) (x : A) → lastD d (xs ++ (x ∷ [])) ≡ x
-lastD-snoc d [] x = refl
-lastD-snoc d (y ∷ ys) x = lastD-snoc y ys x
 
 -- a range's bytes
 
@@ -82,47 +77,17 @@ range-written p r ps h k =
 
 -- a term's bytes
 
-terms-append : (p : ℕ) (ks js : List ℤ) → terms p (ks ++ js) ≡ terms p ks ++ terms (p + length ks) js
-terms-append p [] js = ap (λ i. terms i js) (sym (add-zero p))
-terms-append p (pos zero ∷ ks) js = terms-append (suc p) ks js ∙ ap (λ i. terms (suc p) ks ++ terms i js) (suc-add p (length ks) ∙ sym (add-suc p (length ks)))
-terms-append p (pos (suc a) ∷ ks) js =
-    ap (λ l. record { position = p; coefficient = pos (suc a) } ∷ l)
-    (terms-append (suc p) ks js ∙ ap (λ i. terms (suc p) ks ++ terms i js) (suc-add p (length ks) ∙ sym (add-suc p (length ks))))
-terms-append p (negsuc a ∷ ks) js =
-    ap (λ l. record { position = p; coefficient = negsuc a } ∷ l)
-    (terms-append (suc p) ks js ∙ ap (λ i. terms (suc p) ks ++ terms i js) (suc-add p (length ks) ∙ sym (add-suc p (length ks))))
-
-pub term-one : (p : ℕ) (a : ℤ) (ks : List ℤ) → a ≢ pos 0 → terms p (a ∷ ks) ≡ record { position = p; coefficient = a } ∷ terms (suc p) ks
-term-one p (pos zero) ks d = absurd (d refl)
-term-one p (pos (suc a)) ks d = refl
-term-one p (negsuc a) ks d = refl
-
-terms-zeros : (p n : ℕ) → terms p (replicate n (pos 0)) ≡ []
-terms-zeros p zero = refl
-terms-zeros p (suc n) = terms-zeros (suc p) n
-
-terms-more : (p : ℕ) (a : ℤ) (ks : List ℤ) → a ≢ pos 0 → length ks ≤ p →
-    terms 0 (ks ++ replicate (p - length ks) (pos 0) ++ (a ∷ [])) ≡ terms 0 ks ++ (record { position = p; coefficient = a } ∷ [])
-terms-more p a ks d h =
-    let n = p - length ks in
-    let q : 0 + length (ks ++ replicate n (pos 0)) ≡ p = omega (arith, length-append ks (replicate n (pos 0)), length-replicate {A = ℤ} n (pos 0)) in
-    terms-append 0 (ks ++ replicate n (pos 0)) (a ∷ [])
-    ∙ ap (λ l. l ++ terms (0 + length (ks ++ replicate n (pos 0))) (a ∷ []))
-    (terms-append 0 ks (replicate n (pos 0)) ∙ ap (λ l. terms 0 ks ++ l) (terms-zeros (0 + length ks) n) ∙ append-nil (terms 0 ks))
-    ∙ ap (λ i. terms 0 ks ++ terms i (a ∷ [])) q
-    ∙ ap (λ l. terms 0 ks ++ l) (term-one p a [] d)
-
 pub term-sum : (p : ℕ) (a : ℤ) (o : Output) → IsSum o → IsSum (addTerm p a o)
 term-sum p a (sum c ks) i = tt
 term-sum p a (digit q shift) i = i
 
-pub term-written : (p : ℕ) (a : ℤ) (o : Output) → IsSum o → a ≢ pos 0 → reach o ≤ p → (b : List ℕ) → OutputRecords o b →
+pub term-written : (p : ℕ) (a : ℤ) (o : Output) → IsSum o → a ≢ pos 0 → coefficientAt o p ≡ pos 0 → (b : List ℕ) → OutputRecords o b →
     OutputRecords (addTerm p a o) (b ++ termRecord (record { position = p; coefficient = a }))
-term-written p a (digit q shift) i d h b w = absurd i
-term-written p a (sum c ks) i d h b w =
+term-written p a (digit q shift) i d z b w = absurd i
+term-written p a (sum c ks) i d z b w =
     let x : Term = record { position = p; coefficient = a } in (
       w .0 ++ (x ∷ []),
-      ap (λ l. l ++ (x ∷ [])) (w .1) ∙ sym (terms-more p a ks d h),
+      joined (last-first (w .0) x) (joined (kept (w .1)) (terms-put 0 p p a ks (omega arith) d z)),
       ap (λ l. l ++ termRecord x) (w .2)
           ∙ append-assoc (outputRecord c) (flatMap termRecord (w .0)) (termRecord x)
           ∙ ap (λ l. outputRecord c ++ l) (sym (flatMap-snoc termRecord (w .0) x)),
@@ -218,5 +183,5 @@ table-default g e rs (some d) n r b w = absurd (let z : _≡_ {A = ℕ} 0 1 = cc
 pub top-changed : (f : Group → Group) (rs : List Group) (d : Option Group) → 1 ≤ length (rs ++ optional d) →
     (let t = changeLatest f (record { rules = rs; default = d }) in top (t .rules) (t .default) ≡ f (top rs d))
 unfolding changeLatest
-top-changed f rs none n = lastD-atLast f (everyCharacter []) rs (omega (arith, length-append {A = Group} rs []))
+top-changed f rs none n = last-atLast f (everyCharacter []) rs (omega (arith, length-append {A = Group} rs []))
 top-changed f rs (some g) n = refl

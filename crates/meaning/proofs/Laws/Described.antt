@@ -10,23 +10,26 @@ use native.Mathlib.Nat.{mul-suc, div-add-mod}
 use native.Mathlib.Omega.{arith}
 use lib.Dec.{T, eqb, leb, ltb, nleb→lt, nltb→le, eqb→eq}
 use lib.IntN.{pos}
-use lib.ListN.{length, take, drop, replicate, length-append, length-replicate, length-take, length-drop, take-append-drop}
+use lib.ListN.{length, take, drop, length-append, length-take, length-drop, take-append-drop}
 use Rattle.lists.specs.Lists.{Each, atLast, lastD, isSome, optional}
 use Rattle.lists.proofs.Laws.Tests.{not-not, or-none, or-cases, of-cond, by-cases, eq→eqb, neqb→ne}
 use Rattle.lists.proofs.Laws.Each.{each-append, each-front, each-back, each-weaken, each-both}
 use Rattle.lists.proofs.Laws.Parts.{no-elements}
+use Rattle.lists.proofs.Laws.Reordered.{reordered-same}
+use Rattle.lists.proofs.Laws.Last.{lastD-snoc, last-atLast}
 use Rattle.meaning.specs.Refusal.{Outcome, refused, accepted}
 use Rattle.meaning.specs.Table.{Range, Output, sum, digit, Group, Table, everyCharacter, groups}
 use Rattle.meaning.specs.Record.{Record, rule, range, output, term, default, hexadecimal, decode}
-use Rattle.meaning.specs.Reader.{signed, Reading, unread, latest, reach, latestReach, ranging, misplaced, skipping, tooMany, changeLatest, addRange, addTerm, changeRanges, changeOutputs, addOutput, taken, readOne, readRecords, readEnd, readRules}
+use Rattle.meaning.specs.Reader.{signed, Reading, unread, latest, coefficientAt, repeated, ranging, misplaced, skipping, tooMany, changeLatest, addRange, addTerm, changeRanges, changeOutputs, addOutput, taken, readOne, readRecords, readEnd, readRules}
 use Rattle.meaning.specs.WellFormed.{WellFormedRange, Rising, WellFormedPosition, Signed, WellFormedOutput, WellFormedRule, WellFormedDefault, WellFormed}
 use Rattle.meaning.specs.Records.{Bytes, outputRecord, Joined, OutputRecords, Records}
 use Rattle.meaning.proofs.Laws.Refusal.{by-then}
 use Rattle.meaning.proofs.Laws.Shape.{Within, IsSum, ShapedGroup, ShapedDefault, Shaped}
+use Rattle.meaning.proofs.Laws.Terms.{none-there, put-each, put-length, put-named}
 use Rattle.meaning.proofs.Laws.Reading.{atLast-length, last-each, top, read-shaped}
 use Rattle.meaning.proofs.Laws.Decoding.{FittingRecord, decode-fits}
 use Rattle.meaning.proofs.Laws.Encoding.{signed-fits, signed-named, half-16, half-32, bytesOf, encode-decode}
-use Rattle.meaning.proofs.Laws.Appended.{joined-snoc, joined-last, lastD-atLast, lastD-snoc, term-sum, term-written, rule-outputs, default-outputs, rule-ranges, table-latest, table-rule, table-default, top-changed}
+use Rattle.meaning.proofs.Laws.Appended.{joined-snoc, joined-last, term-sum, term-written, rule-outputs, default-outputs, rule-ranges, table-latest, table-rule, table-default, top-changed}
 
 -- ranges and output characters stay well formed
 
@@ -63,23 +66,16 @@ one-named e = let z : _≡_ {A = ℕ} 1 0 = cc in omega arith
 output-formed : (k c : ℕ) → FittingRecord (output c) → WellFormedOutput k (sum (signed 32 c) [])
 output-formed k c h = record { constant = signed-fits 32 half-32 c h; coefficients = tt; below = omega arith; last-named = one-named }
 
-each-zero : (n : ℕ) → Each (Signed 16) (replicate n (pos 0))
-each-zero zero = tt
-each-zero (suc n) = (omega arith, each-zero n)
-
-term-formed : (k p a : ℕ) (o : Output) → FittingRecord (term p a) → p < k → reach o ≤ p → WellFormedOutput k o → WellFormedOutput k (addTerm p (signed 16 a) o)
-term-formed k p a (sum c ks) h l m w =
+term-formed : (k p a : ℕ) (o : Output) → FittingRecord (term p a) → p < k → WellFormedOutput k o → WellFormedOutput k (addTerm p (signed 16 a) o)
+term-formed k p a (sum c ks) h l w =
     let z = signed 16 a in
-    let gap = replicate (p - length ks) (pos 0) in
     record {
       constant = w .constant;
-      coefficients =
-          each-append (Signed 16) (ks ++ gap) (z ∷ []) (each-append (Signed 16) ks gap (w .coefficients) (each-zero (p - length ks)))
-          (signed-fits 16 half-16 a (h .2), tt);
-      below = rw (length-append, length-append, length-replicate) (omega arith);
-      last-named = rw (lastD-snoc (pos 1) (ks ++ gap) z) (signed-named 16 half-16 a (h .2) (h .1));
+      coefficients = put-each (Signed 16) (omega arith) p z ks (signed-fits 16 half-16 a (h .2)) (w .coefficients);
+      below = put-length p k z ks l (w .below);
+      last-named = put-named (pos 1) p z ks (signed-named 16 half-16 a (h .2) (h .1)) (w .last-named);
     }
-term-formed k p a (digit q shift) h l m w = w
+term-formed k p a (digit q shift) h l w = w
 
 -- groups, as far as they are read
 pub record Formed (g : Group) : Type 0 where
@@ -161,7 +157,7 @@ added-described s o kind e begun ended sums r f b w =
 
 taken-described : (s : Reading) (x : Record) → FittingRecord x → T (not (misplaced s x)) → T (not (skipping s x)) → T (not (tooMany s x)) →
     (b : List ℕ) → Described s b → Described (taken s x) (b ++ bytesOf x)
-unfolding taken misplaced skipping tooMany latest latestReach
+unfolding taken misplaced skipping tooMany latest repeated
 taken-described s (rule k a) f m n o b w =
     let g : Group = record { size = k; anchored = a; ranges = []; outputs = [] } in
     let rs = s .table .rules in
@@ -209,7 +205,7 @@ taken-described s (range p r) f m n o b w =
     }
 taken-described s (output c) f m n o b w =
     let e = outputRecord (signed 32 c) in
-    added-described s (sum (signed 32 c) []) 3 e (neqb→ne (s .kind) 0 m) (λ t. t) (λ _. tt) ([], refl, sym (append-nil e)) (output-formed _ c f) b w
+    added-described s (sum (signed 32 c) []) 3 e (neqb→ne (s .kind) 0 m) (λ t. t) (λ _. tt) ([], reordered-same [], sym (append-nil e)) (output-formed _ c f) b w
 taken-described s (hexadecimal p shift) f m n o b w =
     let k = top (s .table .rules) (s .table .default) .size in
     let u = or-none (eqb (s .kind) 0) (leb k p) m in
@@ -222,28 +218,28 @@ taken-described s (term p a) f m n o b w =
     let z = signed 16 a in
     let e = bytesOf (term p a) in
     let t1 = eqb (s .kind) 3 || eqb (s .kind) 4 in
-    let u3 = or-none (not t1 || leb (g .size) p) (ltb p (reach last)) m in
+    let u3 = or-none (not t1 || leb (g .size) p) (repeated s p) m in
     let u2 = or-none (not t1) (leb (g .size) p) (u3 .0) in
     let going : T t1 = not-not t1 (u2 .0) in
     let below : p < g .size = nleb→lt (g .size) p (u2 .1) in
-    let rising : reach last ≤ p = nltb→le p (reach last) (u3 .1) in
+    let new : coefficientAt last p ≡ pos 0 = none-there (coefficientAt last p) (u3 .1) in
     let more : List Output → List Output = atLast (addTerm p z) in
     let change = changeOutputs more in
     let some-group = w .begun (writing-begun s going) in
     let some-output : 1 ≤ length (g .outputs) = w .writing going .0 in
     let is-sum : IsSum last = w .writing going .1 in
     let listed : (v : List ℕ) → Joined OutputRecords (g .outputs) v → Joined OutputRecords (more (g .outputs)) (v ++ e) =
-    λ v. joined-last OutputRecords (addTerm p z) e (sum (pos 0) []) (g .outputs) v some-output (term-written p z last is-sum (signed-named 16 half-16 a (f .2) (f .1)) rising) in
+    λ v. joined-last OutputRecords (addTerm p z) e (sum (pos 0) []) (g .outputs) v some-output (term-written p z last is-sum (signed-named 16 half-16 a (f .2) (f .1)) new) in
     record {
       records = table-latest change e rs d some-group (rule-outputs more e g listed) (λ _. default-outputs more e g listed) b (w .records);
       formed = formed-latest change rs d
           (λ v. record {
             positions = v .positions;
-            outputs = last-each (WellFormedOutput (g .size)) (addTerm p z) (sum (pos 0) []) (g .outputs) (term-formed (g .size) p a last f below rising) (v .outputs);
+            outputs = last-each (WellFormedOutput (g .size)) (addTerm p z) (sum (pos 0) []) (g .outputs) (term-formed (g .size) p a last f below) (v .outputs);
           }) (w .formed);
       begun = λ _. some-latest change rs d some-group;
       bare = λ t. absurd t;
-      writing = λ _. rw (top-changed change rs d some-group, atLast-length, lastD-atLast (addTerm p z) (sum (pos 0) []) (g .outputs)) (some-output, term-sum p z last is-sum);
+      writing = λ _. rw (top-changed change rs d some-group, atLast-length, last-atLast (addTerm p z) (sum (pos 0) []) (g .outputs)) (some-output, term-sum p z last is-sum);
     }
 taken-described s default f m n o b w =
     let rs = s .table .rules in

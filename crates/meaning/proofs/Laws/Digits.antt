@@ -23,16 +23,16 @@ use Rattle.meaning.specs.Record.{Record, output, term, hexadecimal, zero
 use Rattle.meaning.specs.WellFormed.{Signed}
 use Rattle.meaning.specs.Records.{Bytes, littleEndian, twosComplement, outputRecord, Term, termRecord, digitRecord, Known}
 use Rattle.meaning.specs.Records as described
-use Rattle.meaning.specs.Reader.{Reading, unread, latest, misplaced, skipping, tooMany, changeOutputs, taken, readOne, readRecords, readRules, readTable}
+use Rattle.meaning.specs.Reader.{Reading, unread, latest, misplaced, skipping, tooMany, changeOutputs, taken, readOne, readRecords, LeadTo, readRules, readTable}
 use Rattle.meaning.specs.Meaning.{written}
-use Rattle.meaning.specs.Digits.{LeadTo, DigitAt, DigitsOut}
+use Rattle.meaning.specs.Digits.{DigitAt, DigitsOut}
 use Rattle.meaning.proofs.Laws.Refusal.{by-then, accepted-not, accepted-same, refused-same}
 use Rattle.meaning.proofs.Laws.Seven.{safe-every}
 use Rattle.meaning.proofs.Laws.Decoding.{onlyIf}
 use Rattle.meaning.proofs.Laws.Encoding.{read-output, read-term, read-hexadecimal}
 use Rattle.meaning.proofs.Laws.Appended.{top-changed}
 use Rattle.meaning.proofs.Laws.Described.{group-begun}
-use Rattle.meaning.proofs.Laws.Numbered.{records-on}
+use Rattle.meaning.proofs.Laws.Numbered.{records-on, lead-back}
 use Rattle.meaning.proofs.Laws.Direct.{refused-first}
 
 -- a record of kind 6
@@ -135,10 +135,10 @@ position-3 s p shift l t h =
 
 -- the reading that it leads to
 
-abbrev TakenTo : Reading → Record → Reading → Type 0
+abbrev pub TakenTo : Reading → Record → Reading → Type 0
 TakenTo s x s′ = T (not (misplaced s x)) × (s′ ≡ taken s x)
 
-one-taken : (s s′ : Reading) (x : Record) → readOne s (some x) ≡ accepted s′ → TakenTo s x s′
+pub one-taken : (s s′ : Reading) (x : Record) → readOne s (some x) ≡ accepted s′ → TakenTo s x s′
 unfolding readOne
 one-taken s s′ x =
     by-cases (λ o. o ≡ accepted s′ → TakenTo s x s′) _ (accepted (taken s x)) (
@@ -163,23 +163,14 @@ digit-taken s s′ p shift =
     (λ n _ q. absurd (accepted-not s′ n (sym q)))
     (λ r e q. decoded-taken s s′ p shift (e ∙ q))
 
-lead-back : (b : List ℕ) (p shift : ℕ) (s′ : Reading) → LeadTo (b ++ digitRecord p shift) s′ → (s : Reading) × LeadTo b s × TakenTo s (hexadecimal p shift) s′
-lead-back b p shift s′ lead =
-    let n = length b / 8 in
-    let count : length (b ++ digitRecord p shift) ≡ length b + 8 = length-append b (digitRecord p shift) in
-    let rest : length (b ++ digitRecord p shift) % 8 ≡ 0 = lead .0 in
-    let whole : length b % 8 ≡ 0 = omega arith in
-    let more : length (b ++ digitRecord p shift) / 8 ≡ n + 1 = omega arith in
-    by-then (λ o. o ≡ accepted s′ → (s : Reading) × LeadTo b s × TakenTo s (hexadecimal p shift) s′) (readRecords n b unread) (λ s. readRecords 1 (digitRecord p shift) s)
-    (λ k _ q. absurd (accepted-not s′ k (sym q)))
-    (λ s e q. (s, (whole, e), digit-taken s s′ p shift q))
-    (sym (records-on n b unread (omega arith) 1 (digitRecord p shift)) ∙ rw more at (lead .1))
+digit-back : (b : List ℕ) (p shift : ℕ) (s′ : Reading) → LeadTo (b ++ digitRecord p shift) s′ → (s : Reading) × LeadTo b s × TakenTo s (hexadecimal p shift) s′
+digit-back b p shift s′ lead = let back = lead-back b (digitRecord p shift) 1 s′ refl lead in (back .0, back .1, digit-taken (back .0) s′ p shift (back .2))
 
 appended : (b : List ℕ) (p shift : ℕ) (s s′ : Reading) → Bytes b → LeadTo b s → LeadTo (b ++ digitRecord p shift) s′ →
     latest s′ .outputs ≡ latest s .outputs ++ (digit p shift ∷ [])
 unfolding latest misplaced taken
 appended b p shift s s′ y lead on =
-    let back = lead-back b p shift s′ on in
+    let back = digit-back b p shift s′ on in
     let same : back .0 ≡ s = accepted-same (back .0) s (sym (back .1 .1) ∙ lead .1) in
     let t : TakenTo s (hexadecimal p shift) s′ = rw same at (back .2) in
     let begun = neqb→ne (s .kind) 0 (or-none (eqb (s .kind) 0) (leb (latest s .size) p) (t .0) .0) in
@@ -188,7 +179,7 @@ appended b p shift s s′ y lead on =
 
 -- a term behind it
 
-known-term : {r : List ℕ} → Known r → getD r 0 0 ≡ 4 → (p : ℕ) × (a : ℕ) × (decode r ≡ some (term p a))
+pub known-term : {r : List ℕ} → Known r → getD r 0 0 ≡ 4 → (p : ℕ) × (a : ℕ) × (decode r ≡ some (term p a))
 known-term (described.rule k a h l) e = absurd (omega arith)
 known-term (described.range p r h w) e = absurd (omega arith)
 known-term (described.output c s) e = absurd (omega arith)
@@ -219,7 +210,7 @@ term-refused b p shift s lead x known more whole =
     let n = length c / 8 in
     let j = length more / 8 in
     let rest : length c % 8 ≡ 0 = lead .0 in
-    let last : s .kind ≡ 6 = ap (λ r. r .kind) (lead-back b p shift s lead .2 .1) in
+    let last : s .kind ≡ 6 = ap (λ r. r .kind) (digit-back b p shift s lead .2 .1) in
     let t = known-term known refl in
     let here : readRecords (suc j) (termRecord x ++ more) s ≡ refused 3 = rw (take-at (termRecord x) more 8 refl, t .2, term-3 s (t .0) (t .1) last) refl in
     refused-there (c ++ termRecord x ++ more) (n + suc j) 3 (omega (arith, length-append (c ++ termRecord x) more, length-append c (termRecord x)))

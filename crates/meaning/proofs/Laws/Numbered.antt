@@ -17,7 +17,7 @@ use Rattle.lists.proofs.Laws.Each.{each-front, each-back}
 use Rattle.meaning.specs.Refusal.{Outcome, refused, accepted, andThen}
 use Rattle.meaning.specs.Table.{Group, Table}
 use Rattle.meaning.specs.Record.{Record, rule, range, output, term, default, hexadecimal, decode}
-use Rattle.meaning.specs.Reader.{Reading, unread, changeLatest, taken, readOne, readRecords, readEnd, readRules}
+use Rattle.meaning.specs.Reader.{Reading, unread, changeLatest, taken, readOne, readRecords, LeadTo, readEnd, readRules}
 use Rattle.meaning.specs.Records.{Bytes, Known, recordAt}
 use Rattle.meaning.specs.Records as described
 use Rattle.meaning.proofs.Laws.Refusal.{by-then, accepted-not}
@@ -175,6 +175,19 @@ records-on (suc n) c s l m more =
         andThen o (λ s′. readRecords (n + m) (drop 8 c ++ more) s′) ≡ andThen (andThen o (λ s′. readRecords n (drop 8 c) s′)) (λ s″. readRecords m more s″)
     go (refused k) f = refl
     go (accepted s′) f = f s′
+
+-- the reading that records before others lead to
+pub lead-back : (b e : List ℕ) (k : ℕ) (s′ : Reading) → length e ≡ 8 * k → LeadTo (b ++ e) s′ → (s : Reading) × LeadTo b s × (readRecords k e s ≡ accepted s′)
+lead-back b e k s′ l lead =
+    let n = length b / 8 in
+    let count : length (b ++ e) ≡ length b + length e = length-append b e in
+    let rest : length (b ++ e) % 8 ≡ 0 = lead .0 in
+    let whole : length b % 8 ≡ 0 = omega arith in
+    let more : length (b ++ e) / 8 ≡ n + k = omega arith in
+    by-then (λ o. o ≡ accepted s′ → (s : Reading) × LeadTo b s × (readRecords k e s ≡ accepted s′)) (readRecords n b unread) (λ s. readRecords k e s)
+    (λ j _ q. absurd (accepted-not s′ j (sym q)))
+    (λ s f q. (s, (whole, f), q))
+    (sym (records-on n b unread (omega arith) k e) ∙ rw more at (lead .1))
 
 -- the table
 

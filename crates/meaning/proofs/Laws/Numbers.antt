@@ -1,5 +1,6 @@
--- Numbers of 16 and 32 bits kept modulo 65536 and 2 ^ 32: the bits that a signed number was read from.
+-- Numbers of 16 and 32 bits kept modulo 65536 and 2 ^ 32: the bits that a signed number was read from; and the word of a flag.
 -- By the two cases of `signed`, below half and from half on.
+use mathlib.Core.Bool.{Bool, true, false}
 use mathlib.Core.Path.{_≡_, refl, ap, ap₂, _∙_}
 use Prim.Native.Nat.{ℕ, suc, _+_, _-_, _*_, _%_, _/_, _^_, _≤_, _<_}
 use native.Mathlib.Nat.{mod-eq-of-lt}
@@ -7,7 +8,7 @@ use native.Mathlib.Omega.{arith}
 use lib.Dec.{ltb, nltb→le}
 use lib.IntN.{ℤ, pos, negsuc, subℕ}
 use Rattle.lists.proofs.Laws.Tests.{of-cond}
-use Rattle.meaning.specs.Block.{word}
+use Rattle.meaning.specs.Block.{word, bit}
 use Rattle.meaning.specs.Reader.{signed}
 use Rattle.meaning.specs.bridge.Flat.{bits}
 
@@ -44,3 +45,7 @@ high-signed c h = ap (λ x. x / 65536) (bits-signed c h)
 
 pub halves-signed : (c : ℕ) → c < 2 ^ 32 → word (signed 32 c) + 65536 * (bits (signed 32 c) / 65536) ≡ c
 halves-signed c h = ap₂ (λ x y. x + 65536 * y) (word-constant c h) (high-signed c h) ∙ omega arith
+
+pub bit-small : (b : Bool) → bit b ≤ 1
+bit-small true = omega arith
+bit-small false = omega arith

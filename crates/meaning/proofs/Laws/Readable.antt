@@ -5,23 +5,26 @@ use mathlib.Core.List.{List, [], _∷_, _++_, append-nil, append-assoc}
 use mathlib.Core.Option.{Option, none, some}
 use mathlib.Core.Logic.{_≢_}
 use mathlib.Core.Path.{_≡_, refl, sym, ap, subst, _∙_}
-use Prim.Native.Nat.{ℕ, zero, suc, _+_, _*_, _-_, _/_, _%_, _≤_, _<_}
+use Prim.Native.Nat.{ℕ, suc, _+_, _*_, _/_, _%_, _≤_, _<_}
 use native.Mathlib.Nat.{mul-suc, mul-div-right, mul-mod-right}
 use native.Mathlib.Omega.{arith}
 use lib.Dec.{T, T-not, not-T, eqb, leb, ltb, leb→le, ltb→lt, eqb→eq, eqb-refl, lit<}
-use lib.IntN.{ℤ, pos, negsuc}
-use lib.ListN.{length, replicate, length-append, length-replicate}
+use lib.IntN.{ℤ, pos, natAbs}
+use lib.ListN.{length, getD, length-append}
 use lib.Seq.{append-snoc, take-at, drop-at}
 use Rattle.lists.specs.Lists.{Each, flatMap, atLast, lastD, optional}
 use Rattle.lists.proofs.Laws.Tests.{of-T, of-not, or-cases, by-cases, eq→eqb, ne→neqb}
+use Rattle.lists.proofs.Laws.Each.{each-weaken}
+use Rattle.lists.proofs.Laws.Reordered.{reordered-sym, reordered-each}
+use Rattle.lists.proofs.Laws.Last.{lastD-snoc}
 use Rattle.meaning.specs.Refusal.{accepted, andThen}
 use Rattle.meaning.specs.Table.{Range, Output, sum, digit, Group, Table, everyCharacter, isShift}
 use Rattle.meaning.specs.Record.{Record, rule, range, output, term, default, hexadecimal, decode}
-use Rattle.meaning.specs.Reader.{signed, Reading, unread, latest, latestReach, unfilled, misplaced, skipping, tooMany, changeLatest, addRange, addTerm, changeRanges, changeOutputs, addOutput, taken, readOne, readRecords, readEnd, readRules}
+use Rattle.meaning.specs.Reader.{signed, Reading, unread, latest, repeated, unfilled, misplaced, skipping, tooMany, changeLatest, addRange, putAt, addTerm, changeRanges, changeOutputs, addOutput, taken, readOne, readRecords, readEnd, readRules}
 use Rattle.meaning.specs.WellFormed.{WellFormedRange, Rising, WellFormedPosition, Signed, WellFormedOutput, WellFormedRule, WellFormedDefault, WellFormed}
-use Rattle.meaning.specs.Records.{littleEndian, twosComplement, ruleRecord, rangeRecord, outputRecord, termRecord, defaultRecord, digitRecord, Joined, rangeRecords, terms, OutputRecords, RuleRecords, DefaultRecords, Records}
+use Rattle.meaning.specs.Records.{littleEndian, twosComplement, ruleRecord, rangeRecord, outputRecord, Term, termRecord, defaultRecord, digitRecord, Joined, rangeRecords, terms, OutputRecords, RuleRecords, DefaultRecords, Records}
+use Rattle.meaning.proofs.Laws.Terms.{there-none, Named, New, Fits, terms-fit, allPut, any-order, by-position}
 use Rattle.meaning.proofs.Laws.Encoding.{signed-of-bits, half-16, half-32, read-rule, read-range, read-output, read-term, read-default, read-hexadecimal}
-use Rattle.meaning.proofs.Laws.Appended.{lastD-snoc, term-one}
 
 -- tests that fail
 
@@ -33,7 +36,7 @@ pub not-both : (a b : Bool) → (T a → T (not b)) → T (not (a && b))
 not-both true b f = f tt
 not-both false b f = tt
 
-not-leb : (m n : ℕ) → n < m → T (not (leb m n))
+pub not-leb : (m n : ℕ) → n < m → T (not (leb m n))
 not-leb m n h = not-T (leb m n) (λ t. let k = leb→le m n t in omega arith)
 
 pub not-ltb : (m n : ℕ) → n ≤ m → T (not (ltb m n))
@@ -188,22 +191,6 @@ module _ (d : Bool) (gs : List Group) (k : ℕ) (small : k ≤ 8) (anchored : Bo
 
 -- output characters and their terms
 
-zeros-last : (a : ℤ) (n : ℕ) → lastD a (replicate (suc n) (pos 0)) ≡ pos 0
-zeros-last a zero = refl
-zeros-last a (suc n) = zeros-last (pos 0) n
-
-pub zeros-shift : (n : ℕ) (ks : List ℤ) → replicate n (pos 0) ++ (pos 0 ∷ ks) ≡ pos 0 ∷ (replicate n (pos 0) ++ ks)
-zeros-shift zero ks = refl
-zeros-shift (suc n) ks = ap (λ l. pos 0 ∷ l) (zeros-shift n ks)
-
-lastD-append : {A : Type 0} (d : A) (xs : List A) (a : A) (ys : List A) → lastD d (xs ++ (a ∷ ys)) ≡ lastD a ys
-lastD-append d [] a ys = refl
-lastD-append d (x ∷ xs) a ys = lastD-append x xs a ys
-
-named-rest : (a : ℤ) (ks : List ℤ) → lastD a ks ≢ pos 0 → lastD (pos 1) ks ≢ pos 0
-named-rest a [] h e = let z : _≡_ {A = ℕ} 1 0 = cc in omega arith
-named-rest a (b ∷ ks) h e = h e
-
 -- the group with the output characters read so far; its ranges are all there
 module _ (d : Bool) (gs : List Group) (k : ℕ) (small : k ≤ 8) (anchored : Bool) (ranges : List (List Range)) (full : length ranges ≡ k) where
   abbrev writing : List Output → Group
@@ -240,62 +227,32 @@ module _ (d : Bool) (gs : List Group) (k : ℕ) (small : k ≤ 8) (anchored : Bo
       (room os kind l)
       (added os (digit p shift) 6)
 
-  term-read : (os : List Output) (c : ℤ) (ks : List ℤ) (kind p : ℕ) (a : ℤ) → T (eqb kind 3 || eqb kind 4) → p < k → length ks ≤ p → Signed 16 a → a ≢ pos 0 →
-      Reads (at d gs (writing (os ++ (sum c ks ∷ []))) kind) (termRecord (record { position = p; coefficient = a }))
-      (at d gs (writing (os ++ (sum c (ks ++ replicate (p - length ks) (pos 0) ++ (a ∷ [])) ∷ []))) 4)
-  unfolding littleEndian misplaced skipping tooMany taken latestReach
-  term-read os c ks kind p a t l h s n =
+  term-read : (os : List Output) (c : ℤ) (ks : List ℤ) (kind : ℕ) (x : Term) → T (eqb kind 3 || eqb kind 4) → Fits k x → getD ks (x .position) (pos 0) ≡ pos 0 →
+      Reads (at d gs (writing (os ++ (sum c ks ∷ []))) kind) (termRecord x) (at d gs (writing (os ++ (sum c (putAt (x .position) (x .coefficient) ks) ∷ []))) 4)
+  unfolding littleEndian misplaced skipping tooMany taken repeated
+  term-read os c ks kind x t f new =
+      let p = x .position in
+      let a = x .coefficient in
       let g = writing (os ++ (sum c ks ∷ [])) in
       let z = signed 16 (twosComplement 16 a) in
       let t1 = not (eqb kind 3 || eqb kind 4) in
-      one (at d gs g kind) _ (termRecord (record { position = p; coefficient = a })) (term p (twosComplement 16 a)) refl (read-term p a (omega arith) s n)
+      one (at d gs g kind) _ (termRecord x) (term p (twosComplement 16 a)) refl (read-term p a (omega (arith, f .0)) (f .1) (f .2))
       (rw (latest-at, lastD-snoc (sum (pos 0) []) os (sum c ks))
-      (neither (t1 || leb k p) (ltb p (length ks)) (neither t1 (leb k p) (refute (eqb kind 3 || eqb kind 4) t) (not-leb k p l)) (not-ltb p (length ks) h)))
+      (neither (t1 || leb k p) (not (eqb (natAbs (getD ks p (pos 0))) 0))
+      (neither t1 (leb k p) (refute (eqb kind 3 || eqb kind 4) t) (not-leb k p (f .0))) (there-none (getD ks p (pos 0)) new)))
       tt
       tt
       (ap (λ t. record { table = t; kind = 4 }) (change-at (changeOutputs (atLast (addTerm p z))) d gs g)
       ∙ ap (λ l. at d gs (writing l) 4) (atLast-snoc (addTerm p z) os (sum c ks))
-      ∙ ap (λ y. at d gs (writing (os ++ (addTerm p y (sum c ks) ∷ []))) 4) (signed-of-bits 16 half-16 a s))
+      ∙ ap (λ y. at d gs (writing (os ++ (addTerm p y (sum c ks) ∷ []))) 4) (signed-of-bits 16 half-16 a (f .1)))
 
-  -- the terms from position p on, where those of the n positions before it are to be filled up with 0
-  abbrev TermsRead : List ℤ → Type 0
-  TermsRead js = (os : List Output) (c : ℤ) (ks : List ℤ) (n p kind : ℕ) → T (eqb kind 3 || eqb kind 4) →
-      p ≡ length ks + n → p + length js ≤ k → Each (Signed 16) js → lastD (pos 1) (replicate n (pos 0) ++ js) ≢ pos 0 →
+  terms-read : (os : List Output) (c : ℤ) (ks : List ℤ) (kind : ℕ) (xs : List Term) → T (eqb kind 3 || eqb kind 4) → Each (Fits k) xs → New xs ks →
       (kind′ : ℕ) × T (eqb kind′ 3 || eqb kind′ 4)
-      × Reads (at d gs (writing (os ++ (sum c ks ∷ []))) kind) (flatMap termRecord (terms p js)) (at d gs (writing (os ++ (sum c (ks ++ (replicate n (pos 0) ++ js)) ∷ []))) kind′)
-
-  none-read : TermsRead []
-  none-read os c ks zero p kind t e l s h = (kind, t, moved refl (ap (λ y. at d gs (writing (os ++ (sum c y ∷ []))) kind) (sym (append-nil ks))) stay)
-  none-read os c ks (suc n) p kind t e l s h = absurd (h (ap (lastD (pos 1)) (append-nil (replicate (suc n) (pos 0))) ∙ zeros-last (pos 1) n))
-
-  zero-read : (js : List ℤ) → TermsRead js → TermsRead (pos 0 ∷ js)
-  zero-read js onward os c ks n p kind t e l s h =
-      let rest = onward os c ks (suc n) (suc p) kind t (omega arith) (omega arith) (s .1) (subst (λ y. lastD (pos 1) y ≢ pos 0) (zeros-shift n js) h) in
-      (rest .0, rest .1, moved refl (ap (λ y. at d gs (writing (os ++ (sum c (ks ++ y) ∷ []))) (rest .0)) (sym (zeros-shift n js))) (rest .2))
-
-  named-read : (a : ℤ) (js : List ℤ) → a ≢ pos 0 → TermsRead js → TermsRead (a ∷ js)
-  named-read a js d0 onward os c ks n p kind t e l s h =
-      let gap = replicate n (pos 0) in
-      let more = ks ++ gap ++ (a ∷ []) in
-      let count : length more ≡ length ks + n + 1 = rw (length-append, length-append, length-replicate) refl in
-      let width : p - length ks ≡ n = omega arith in
-      let here : Reads (at d gs (writing (os ++ (sum c ks ∷ []))) kind) (termRecord (record { position = p; coefficient = a })) (at d gs (writing (os ++ (sum c more ∷ []))) 4) =
-      moved refl (ap (λ m. at d gs (writing (os ++ (sum c (ks ++ replicate m (pos 0) ++ (a ∷ [])) ∷ []))) 4) width)
-      (term-read os c ks kind p a t (omega arith) (omega arith) (s .0) d0) in
-      let last : lastD (pos 1) js ≢ pos 0 = named-rest a js (λ q. h (lastD-append (pos 1) gap a js ∙ q)) in
-      let rest = onward os c more 0 (suc p) 4 tt (omega arith) (omega arith) (s .1) last in (
-        rest .0,
-        rest .1,
-        moved (ap (flatMap termRecord) (sym (term-one p a js d0)))
-            (ap (λ y. at d gs (writing (os ++ (sum c y ∷ []))) (rest .0)) (append-assoc (ks ++ gap) (a ∷ []) js ∙ append-assoc ks gap (a ∷ js)))
-            (then here (rest .2)),
-      )
-
-  terms-read : (js : List ℤ) → TermsRead js
-  terms-read [] = none-read
-  terms-read (pos zero ∷ js) = zero-read js (terms-read js)
-  terms-read (pos (suc a) ∷ js) = named-read (pos (suc a)) js (λ e. let z : suc a ≡ 0 = cc in omega arith) (terms-read js)
-  terms-read (negsuc a ∷ js) = named-read (negsuc a) js (λ e. let z : _≡_ {A = ℕ} 0 1 = cc in omega arith) (terms-read js)
+      × Reads (at d gs (writing (os ++ (sum c ks ∷ []))) kind) (flatMap termRecord xs) (at d gs (writing (os ++ (sum c (allPut xs ks) ∷ []))) kind′)
+  terms-read os c ks kind [] t f n = (kind, t, stay)
+  terms-read os c ks kind (x ∷ xs) t f n =
+      let rest = terms-read os c (putAt (x .position) (x .coefficient) ks) 4 xs tt (f .1) (n .1) in
+      (rest .0, rest .1, then (term-read os c ks kind x t (f .0) (n .0)) (rest .2))
 
   -- an output character with its terms
   whole-read : (os : List Output) (o : Output) (b : List ℕ) (kind : ℕ) → kind ≢ 0 → length os < 8 → WellFormedOutput k o → OutputRecords o b →
@@ -303,9 +260,13 @@ module _ (d : Bool) (gs : List Group) (k : ℕ) (small : k ≤ 8) (anchored : Bo
   whole-read os (digit p shift) b kind n l w r = (6, λ e. omega arith, moved (sym r) refl (digit-read os p shift kind n l (w .below) (w .shifts)))
   whole-read os (sum c ks) b kind n l w r =
       let here = output-read os c kind n l (w .constant) in
-      let rest = terms-read ks os c [] 0 0 3 tt refl (omega (arith, w .below)) (w .coefficients) (w .last-named) in
-      let bytes : outputRecord c ++ flatMap termRecord (terms 0 ks) ≡ b = sym (r .2 ∙ ap (λ y. outputRecord c ++ flatMap termRecord y) (r .1)) in
-      (rest .0, kind-some (rest .0) (rest .1), moved bytes refl (then here (rest .2)))
+      let fit : Each (Fits k) (terms 0 ks) = terms-fit k 0 ks (omega (arith, w .below)) (w .coefficients) in
+      let sorted = by-position ks (w .last-named) in
+      let turned = reordered-sym (r .1) in
+      let new = any-order turned (each-weaken (Fits k) Named (terms 0 ks) (λ x f. f .2) fit) [] (sorted .0) in
+      let rest = terms-read os c [] 3 (r .0) tt (reordered-each (Fits k) turned fit) (new .0) in
+      let all : allPut (r .0) [] ≡ ks = sym (new .1) ∙ sorted .1 in
+      (rest .0, kind-some (rest .0) (rest .1), moved (sym (r .2)) (ap (λ y. at d gs (writing (os ++ (sum c y ∷ []))) (rest .0)) all) (then here (rest .2)))
     where
       kind-some : (j : ℕ) → T (eqb j 3 || eqb j 4) → j ≢ 0
       kind-some j t e = or-cases (eqb j 3) (eqb j 4) t (λ u. omega (arith, eqb→eq j 3 u)) (λ u. omega (arith, eqb→eq j 4 u))

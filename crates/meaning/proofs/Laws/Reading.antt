@@ -8,15 +8,16 @@ use mathlib.Core.Path.{_≡_, refl, sym, ap, subst}
 use Prim.Native.Nat.{ℕ, zero, suc, _/_, _≤_, _<_}
 use native.Mathlib.Omega.{arith}
 use lib.Dec.{T, eqb, leb, ltb, leb→le, nleb→lt, nltb→le, eqb→eq}
-use lib.IntN.{ℤ, pos}
-use lib.ListN.{length, take, drop, length-append, length-replicate}
+use lib.IntN.{ℤ}
+use lib.ListN.{length, take, drop, length-append}
 use Rattle.lists.specs.Lists.{any, Each, atLast, lastD, isSome, orElse, optional}
 use Rattle.lists.proofs.Laws.Tests.{of-T, not-not, or-none, or-cases, of-cond, holds, by-cases, neqb→ne}
 use Rattle.lists.proofs.Laws.Each.{each-append, each-weaken, each-both, each-atLast}
 use Rattle.meaning.specs.Refusal.{Outcome, refused, accepted}
 use Rattle.meaning.specs.Table.{Range, Output, sum, digit, Group, Table, everyCharacter, isShift}
 use Rattle.meaning.specs.Record.{Record, rule, range, output, term, default, hexadecimal, decode}
-use Rattle.meaning.specs.Reader.{signed, Reading, unread, latest, reach, latestReach, ranging, unfilled, misplaced, skipping, tooMany, changeLatest, addRange, addTerm, changeRanges, changeOutputs, taken, readOne, readRecords, readEnd, readRules}
+use Rattle.meaning.specs.Reader.{signed, Reading, unread, latest, repeated, ranging, unfilled, misplaced, skipping, tooMany, changeLatest, addRange, addTerm, changeRanges, changeOutputs, taken, readOne, readRecords, readEnd, readRules}
+use Rattle.meaning.proofs.Laws.Terms.{put-length}
 use Rattle.meaning.proofs.Laws.Refusal.{by-then, Says}
 use Rattle.meaning.proofs.Laws.Shape.{Within, ShapedGroup, ShapedDefault, Shaped}
 use Rattle.meaning.proofs.Laws.Seven.{Ordered, FilledPosition, FilledGroup, Filled}
@@ -133,14 +134,12 @@ output-more o k os w t h =
     let other : length os ≢ 8 = neqb→ne (length os) 8 t in
     (rw length-append (omega arith), each-append (Within k) os (o ∷ []) (h .1) (w, tt))
 
-term-within : (p k : ℕ) (a : ℤ) (o : Output) → p < k → reach o ≤ p → Within k o → Within k (addTerm p a o)
-term-within p k a (sum c ks) l h w =
-    rw (length-append, length-append, length-replicate) (omega arith)
-term-within p k a (digit q shift) l h w = w
+term-within : (p k : ℕ) (a : ℤ) (o : Output) → p < k → Within k o → Within k (addTerm p a o)
+term-within p k a (sum c ks) l w = put-length p k a ks l w
+term-within p k a (digit q shift) l w = w
 
-term-more : (p k : ℕ) (a : ℤ) (os : List Output) → p < k → reach (lastD (sum (pos 0) []) os) ≤ p → Outputs k os → Outputs k (atLast (addTerm p a) os)
-term-more p k a os l r h =
-    (rw atLast-length (h .0), last-each (Within k) (addTerm p a) (sum (pos 0) []) os (term-within p k a (lastD (sum (pos 0) []) os) l r) (h .1))
+term-more : (p k : ℕ) (a : ℤ) (os : List Output) → p < k → Outputs k os → Outputs k (atLast (addTerm p a) os)
+term-more p k a os l h = (rw atLast-length (h .0), each-atLast (Within k) (addTerm p a) os (λ o. term-within p k a o l) (h .1))
 
 -- a range
 
@@ -214,7 +213,7 @@ ended-before s t =
 
 pub taken-kept : (s : Reading) (r : Record) → Fields (some r) → T (not (misplaced s r)) → T (not (skipping s r)) → T (not (tooMany s r)) →
     KeptReading s → KeptReading (taken s r)
-unfolding taken misplaced skipping tooMany latest latestReach
+unfolding taken misplaced skipping tooMany latest
 taken-kept s (rule k a) f m n o h =
     let full : Each Full (s .table .rules) = all-full s h n in
     let len : length (s .table .rules) ≤ 32 = h .few in
@@ -244,11 +243,9 @@ taken-kept s (hexadecimal p shift) f m n o h =
 taken-kept s (term p a) f m n o h =
     let g = top (s .table .rules) (s .table .default) in
     let kinds = eqb (s .kind) 3 || eqb (s .kind) 4 in
-    let last = reach (lastD (sum (pos 0) []) (g .outputs)) in
-    let t = or-none (not kinds || leb (g .size) p) (ltb p last) m in
-    let u = or-none (not kinds) (leb (g .size) p) (t .0) in
+    let u = or-none (not kinds) (leb (g .size) p) (or-none (not kinds || leb (g .size) p) (repeated s p) m .0) in
     outputs-kept (atLast (addTerm p (signed 16 a))) (ranging s) (s .table .rules) (s .table .default) h (all-full s h (ended-before s (not-not kinds (u .0))))
-    (term-more p (g .size) (signed 16 a) (g .outputs) (nleb→lt (g .size) p (u .1)) (nltb→le p last (t .1)))
+    (term-more p (g .size) (signed 16 a) (g .outputs) (nleb→lt (g .size) p (u .1)))
 taken-kept s default f m n o h =
     record {
       few = h .few;

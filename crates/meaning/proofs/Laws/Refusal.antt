@@ -1,7 +1,7 @@
 -- How a proof tells outcomes apart, and takes apart what goes on only if it was accepted.
 -- By cases on the outcome.
 use mathlib.Core.List.{List}
-use mathlib.Core.Path.{_≡_, refl}
+use mathlib.Core.Path.{_≡_, refl, sym}
 use Prim.Native.Nat.{ℕ}
 use native.Mathlib.Omega.{arith}
 use lib.Dec.{T, eqb}
@@ -16,6 +16,9 @@ by-then P (accepted a) f h k = k a refl
 
 pub accepted-not : {A : Type 0} (a : A) (n : ℕ) → accepted a ≡ refused n → ⊥
 accepted-not a n e = let z : _≡_ {A = ℕ} 0 1 = cc in omega arith
+
+pub refused-not : {A : Type 0} (n : ℕ) (a : A) → refused n ≡ accepted a → ⊥
+refused-not n a e = accepted-not a n (sym e)
 
 pub accepted-same : {A : Type 0} (x y : A) → accepted x ≡ accepted y → x ≡ y
 accepted-same x y e = cc

@@ -4,21 +4,15 @@ use mathlib.Core.Bool.{false}
 use mathlib.Core.List.{[]}
 use mathlib.Core.Path.{_≡_}
 use Prim.Native.Nat.{ℕ, _≤_, _<_}
-use native.Mathlib.Omega.{arith}
 use lib.Dec.{T}
 use lib.ListN.{length}
 use Rattle.lists.specs.Lists.{Each, optional}
 use Rattle.meaning.specs.Table.{Output, sum, digit, Group, Table, everyCharacter, isShift}
-use Rattle.meaning.specs.Reader.{reach}
 
 -- an output character of a group of size k: coefficients for its positions alone, or a digit of one of them by a known shift
 abbrev pub Within : ℕ → Output → Type 0
 Within k (sum c ks) = length ks ≤ k
 Within k (digit p shift) = (p < k) × T (isShift shift)
-
-pub within-reach : (k : ℕ) (o : Output) → Within k o → reach o ≤ k
-within-reach k (sum c ks) h = h
-within-reach k (digit p shift) h = omega arith
 
 -- a sum takes terms, a digit none
 abbrev pub IsSum : Output → Type 0

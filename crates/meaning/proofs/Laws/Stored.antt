@@ -5,22 +5,22 @@ use mathlib.Core.List.{List, [], _∷_, _++_, map}
 use mathlib.Core.Logic.{_≢_}
 use mathlib.Core.Path.{_≡_, refl, sym, ap, ap₂, subst, _∙_}
 use Prim.Native.Nat.{ℕ, zero, suc, pred, _+_, _-_, _*_, _≤_, _<_}
-use native.Mathlib.Nat.{suc-sub-suc, sub-zero}
 use native.Mathlib.Omega.{arith}
 use lib.Dec.{T, T-not, eqb, eqb→eq, eqb-refl, lit<}
 use lib.IntN.{ℤ, pos}
-use lib.ListN.{length, getD, set, replicate, length-append}
+use lib.ListN.{length, getD, set, length-append}
 use lib.Seq.{append-snoc}
 use Rattle.lists.specs.Lists.{Each, flatMap, pad, atLast, lastD}
 use Rattle.lists.proofs.Laws.Tests.{either}
 use Rattle.meaning.specs.Table.{Range, Output, sum, digit, Group}
-use Rattle.meaning.specs.Reader.{reach, addRange, addTerm, changeRanges, changeOutputs}
+use Rattle.meaning.specs.Reader.{addRange, putAt, addTerm, changeRanges, changeOutputs}
 use Rattle.meaning.specs.Block.{word, bit, entry, block, blockSize, entrySize}
 use Rattle.meaning.specs.bridge.Flat.{highOf}
 use Rattle.meaning.proofs.Laws.Shape.{IsSum}
 use Rattle.meaning.proofs.Laws.Exact.{oneAt}
 use Rattle.meaning.proofs.Laws.Reading.{atLast-length}
 use Rattle.lists.proofs.Laws.Folds.{flatMap-append}
+use Rattle.lists.proofs.Laws.Last.{lastD-snoc, last-atLast}
 use Rattle.meaning.proofs.Laws.Rows.{fill, pad-fill, length-fill, fill-snoc, fill-after, fill-atLast, fill-last, map-append, length-map, stores, shift, set-past, stores-past, shift-more, joined, joined-set, pad-rows, pad-pad}
 
 abbrev pub slotRow : Group → List ℕ
@@ -38,10 +38,6 @@ highRow g = map highOf (g .outputs)
 
 -- one more at the end of a padded list
 
-pub lastD-snoc : {A : Type 0} (d : A) (xs : List A) (x : A) → lastD d (xs ++ x ∷ []) ≡ x
-lastD-snoc d [] x = refl
-lastD-snoc d (y ∷ xs) x = lastD-snoc y xs x
-
 pub pad-snoc : (n : ℕ) (xs : List ℕ) (a : ℕ) → length xs < n → pad n (xs ++ (a ∷ [])) ≡ set (pad n xs) (length xs) a
 pad-snoc n xs a h = pad-fill n (xs ++ (a ∷ [])) ∙ fill-snoc 0 n xs a h ∙ ap (λ l. set l (length xs) a) (sym (pad-fill n xs))
 
@@ -58,11 +54,6 @@ pad-ends rs r h =
     ap (pad 8) (flatMap-append (λ r. r .lowest ∷ r .highest ∷ []) rs (r ∷ []) ∙ sym (append-snoc xs (r .lowest) (r .highest ∷ [])))
     ∙ pad-snoc 8 (xs ++ (r .lowest ∷ [])) (r .highest) (omega arith)
     ∙ ap₂ (λ y k. set y k (r .highest)) (pad-snoc 8 xs (r .lowest) (omega arith) ∙ ap (λ k. set (pad 8 xs) k (r .lowest)) l) l′
-
-pub last-atLast : {A : Type 0} (f : A → A) (d : A) (xs : List A) → 1 ≤ length xs → lastD d (atLast f xs) ≡ f (lastD d xs)
-last-atLast f d [] h = absurd (omega arith)
-last-atLast f d (x ∷ []) h = refl
-last-atLast f d (x ∷ (y ∷ ys)) h = last-atLast f x (y ∷ ys) (omega arith)
 
 -- a range
 
@@ -207,27 +198,23 @@ block-digit p shift g inside h =
     (ap (λ l. 1 ∷ shift ∷ l) (pad-one (entrySize - 2) p inside))
     ∙ rw (first, second, third)
 
--- a term's coefficient, behind zeros for the positions between
-pad-place : (n : ℕ) (ks : List ℤ) (p : ℕ) (z : ℤ) → length ks ≤ p → p < n → pad n (map word (ks ++ replicate (p - length ks) (pos 0) ++ (z ∷ []))) ≡ set (pad n (map word ks)) p (word z)
+-- a term's coefficient, at its position
+pad-place : (n : ℕ) (ks : List ℤ) (p : ℕ) (z : ℤ) → p < n → pad n (map word (putAt p z ks)) ≡ set (pad n (map word ks)) p (word z)
 unfolding pad word
-pad-place zero ks p z h k = absurd (omega arith)
-pad-place (suc n) [] zero z h k = refl
-pad-place (suc n) [] (suc p) z h k =
-    ap (λ m. pad (suc n) (map word (replicate m (pos 0) ++ (z ∷ [])))) (sub-zero (suc p) ∙ ap suc (sym (sub-zero p))) ∙ ap (λ l. 0 ∷ l) (pad-place n [] p z (omega arith) (omega arith))
-pad-place (suc n) (c ∷ ks) zero z h k = absurd (omega arith)
-pad-place (suc n) (c ∷ ks) (suc p) z h k =
-    ap (λ m. word c ∷ pad n (map word (ks ++ replicate m (pos 0) ++ (z ∷ [])))) (suc-sub-suc p (length ks)) ∙ ap (λ l. word c ∷ l) (pad-place n ks p z (omega arith) (omega arith))
+pad-place zero ks p z k = absurd (omega arith)
+pad-place (suc n) [] zero z k = refl
+pad-place (suc n) (c ∷ ks) zero z k = refl
+pad-place (suc n) [] (suc p) z k = ap (λ l. 0 ∷ l) (pad-place n [] p z (omega arith))
+pad-place (suc n) (c ∷ ks) (suc p) z k = ap (λ l. word c ∷ l) (pad-place n ks p z (omega arith))
 
-entry-term : (p : ℕ) (z : ℤ) (o : Output) → p < 8 → IsSum o → reach o ≤ p →
-    pad entrySize (entryRow (addTerm p z o)) ≡ set (pad entrySize (entryRow o)) (suc (suc p)) (word z)
+entry-term : (p : ℕ) (z : ℤ) (o : Output) → p < 8 → IsSum o → pad entrySize (entryRow (addTerm p z o)) ≡ set (pad entrySize (entryRow o)) (suc (suc p)) (word z)
 unfolding pad
-entry-term p z (sum c ks) h s k = ap (λ l. 0 ∷ word c ∷ l) (pad-place (entrySize - 2) ks p z k (omega arith))
-entry-term p z (digit q shift) h s k = absurd s
+entry-term p z (sum c ks) h s = ap (λ l. 0 ∷ word c ∷ l) (pad-place (entrySize - 2) ks p z (omega arith))
+entry-term p z (digit q shift) h s = absurd s
 
-pub block-term : (p : ℕ) (z : ℤ) (g : Group) → p < 8 → 1 ≤ length (g .outputs) → length (g .outputs) ≤ 8 →
-    IsSum (lastD (sum (pos 0) []) (g .outputs)) → reach (lastD (sum (pos 0) []) (g .outputs)) ≤ p →
+pub block-term : (p : ℕ) (z : ℤ) (g : Group) → p < 8 → 1 ≤ length (g .outputs) → length (g .outputs) ≤ 8 → IsSum (lastD (sum (pos 0) []) (g .outputs)) →
     pad blockSize (block (changeOutputs (atLast (addTerm p z)) g)) ≡ set (pad blockSize (block g)) (5 + entrySize * pred (length (g .outputs)) + p) (word z)
-block-term p z g h k l s m =
+block-term p z g h k l s =
     let os = g .outputs in
     let o = length os in
     let last = lastD (sum (pos 0) []) os in
@@ -236,7 +223,7 @@ block-term p z g h k l s m =
     ∙ ap₂ (λ n l. g .size ∷ bit (g .anchored) ∷ n ∷ l) (atLast-length (addTerm p z) os)
     (ap (joined entrySize) (fill-atLast [] entryRow (addTerm p z) (sum (pos 0) []) 8 os k l)
     ∙ joined-set entrySize (fill [] 8 (map entryRow os)) (pred o) (entryRow (addTerm p z last)) ((suc (suc p), word z) ∷ []) (rw length-fill (omega arith)) (omega arith, tt)
-    (entry-term p z last h s m ∙ ap (λ l. set (pad entrySize l) (suc (suc p)) (word z)) (sym (fill-last [] entryRow (sum (pos 0) []) 8 os k l))))
+    (entry-term p z last h s ∙ ap (λ l. set (pad entrySize l) (suc (suc p)) (word z)) (sym (fill-last [] entryRow (sum (pos 0) []) 8 os k l))))
     ∙ sym (set-past (g .size ∷ bit (g .anchored) ∷ o ∷ []) rest (entrySize * pred o + suc (suc p)) (word z))
     ∙ ap₂ (λ l i. set l i (word z)) (sym (block-parts g)) same
   where

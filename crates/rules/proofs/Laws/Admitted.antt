@@ -8,17 +8,19 @@ use mathlib.Core.Path.{_≡_, refl, ap, ap₂, _∙_}
 use Prim.Native.Nat.{ℕ, suc, _+_, _≤_}
 use native.Mathlib.Omega.{arith}
 use lib.Dec.{T, eqb, leb, ltb, eqb→eq}
+use lib.IntN.{pos}
 use lib.ListN.{length}
 use Rattle.lists.specs.Lists.{Each, lastD}
 use Rattle.lists.specs.Decide.{select}
 use Rattle.meaning.specs.Refusal.{Outcome, refused, accepted}
-use Rattle.meaning.specs.Table.{Range}
+use Rattle.meaning.specs.Table.{Range, sum}
 use Rattle.meaning.specs.Record.{Record, rule, range, output, term, default, hexadecimal}
-use Rattle.meaning.specs.Reader.{Reading, latest, latestReach, ranging, unfilled, misplaced, skipping, tooMany, taken, readOne}
-use Rattle.rules.specs.bridge.Summary.{rangesRead, next, admit, loadedBy}
+use Rattle.meaning.specs.Reader.{Reading, latest, repeated, ranging, unfilled, misplaced, skipping, tooMany, taken, readOne}
+use Rattle.rules.specs.bridge.Summary.{rangesRead, isNamed, next, admit, loadedBy}
 use Rattle.meaning.specs.bridge.Flat.{loadedWords}
 use Rattle.rules.specs.declared.reader.Reader.{Reader}
 use Rattle.meaning.proofs.Laws.Seven.{FilledPosition}
+use Rattle.rules.proofs.Laws.Positions.{output-named}
 use Rattle.rules.proofs.Laws.Represents.{latestOf, summary, Read, each-last, latest-begun}
 use Rattle.meaning.proofs.Laws.Decoding.{FittingRecord}
 use Rattle.rules.proofs.Laws.Taken.{Taken}
@@ -83,8 +85,15 @@ range-misplaced s p r h =
     (λ t. let e : suc p ≡ length ps = eqb→eq (suc p) (length ps) t in
     ap (leb (r .lowest)) (last-range r (record { lowest = 0; highest = 0 }) ps (omega arith) (latest-begun s h .filled))))
 
+term-misplaced : (s : Reading) (p a : ℕ) →
+    (not (eqb (s .kind) 3 || eqb (s .kind) 4) || leb (summary s .last .size) p || isNamed (summary s .last .named) p) ≡ misplaced s (term p a)
+unfolding misplaced latest repeated
+term-misplaced s p a =
+    let g = latestOf (s .table) in
+    ap (λ b. not (eqb (s .kind) 3 || eqb (s .kind) 4) || leb (g .size) p || b) (output-named (lastD (sum (pos 0) []) (g .outputs)) p)
+
 pub admit-right : (s : Reading) (x : Record) → Read s → FittingRecord x → Right s x (readOne s (some x))
-unfolding readOne admit misplaced skipping tooMany unfilled latest latestReach select
+unfolding readOne admit misplaced skipping tooMany unfilled latest repeated select
 admit-right s (rule k a) h f = alike s (rule k a) (rule-taken s k a h f)
 admit-right s (range p r) h f =
     let one : p + 1 ≡ suc p = omega arith in
@@ -92,6 +101,8 @@ admit-right s (range p r) h f =
     decided s (range p r) _ (skipping s (range p r)) _ (misplaced s (range p r)) (skipping s (range p r)) (tooMany s (range p r)) (range-misplaced s p r h) refl
     (ap (λ q. eqb q (length ps) && eqb (length (lastD [] ps)) 4) one) (range-taken s p r h f)
 admit-right s (output c) h f = alike s (output c) (output-taken s c h f)
-admit-right s (term p a) h f = alike s (term p a) (term-taken s p a h f)
+admit-right s (term p a) h f =
+    decided s (term p a) _ (skipping s (term p a)) (tooMany s (term p a)) (misplaced s (term p a)) (skipping s (term p a)) (tooMany s (term p a)) (term-misplaced s p a) refl refl
+    (term-taken s p a h f)
 admit-right s default h f = alike s default (default-taken s h)
 admit-right s (hexadecimal p shift) h f = alike s (hexadecimal p shift) (digit-taken s p shift h f)

@@ -12,16 +12,17 @@ use lib.ListN.{length}
 use Rattle.lists.specs.Lists.{Each, atLast, lastD, isSome, optional}
 use Rattle.lists.proofs.Laws.Tests.{of-T, of-not, or-cases}
 use Rattle.lists.proofs.Laws.Each.{each-append, each-front, each-back, each-weaken}
+use Rattle.lists.proofs.Laws.Last.{last-atLast}
 use Rattle.meaning.specs.Table.{sum, Group, Table, everyCharacter}
-use Rattle.meaning.specs.Reader.{Reading, unread, reach, ranging, changeLatest}
+use Rattle.meaning.specs.Reader.{Reading, unread, ranging, changeLatest}
 use Rattle.rules.specs.bridge.Summary.{Fitting}
 use Rattle.rules.specs.declared.reader.Reader.{Reader}
 use Rattle.rules.specs.declared.reader.Last.{Last}
 use Rattle.meaning.proofs.Laws.Reading.{Begun, Plain, Ended, KeptReading, top, atLast-length, last-each, unread-kept}
-use Rattle.meaning.proofs.Laws.Shape.{Within, within-reach, IsSum}
+use Rattle.meaning.proofs.Laws.Shape.{Within, IsSum}
 use Rattle.meaning.proofs.Laws.Narrow.{NarrowGroup, Narrow}
 use Rattle.meaning.proofs.Laws.Rows.{Grouped}
-use Rattle.meaning.proofs.Laws.Stored.{last-atLast}
+use Rattle.rules.proofs.Laws.Positions.{namedBy, named-fit}
 
 -- what is kept of a group
 abbrev pub lastOf : Group → Last
@@ -32,7 +33,7 @@ lastOf g =
       slots = length (lastD [] (g .ranges));
       highest = lastD (record { lowest = 0; highest = 0 }) (lastD [] (g .ranges)) .highest;
       outputs = length (g .outputs);
-      reach = reach (lastD (sum (pos 0) []) (g .outputs));
+      named = namedBy (lastD (sum (pos 0) []) (g .outputs));
     }
 
 -- the last record's kind, the number of rules, whether there is a default, and the group read last
@@ -124,7 +125,6 @@ read-fitting s h =
     let small : g .size ≤ 8 = b .small in
     let places : length (g .ranges) ≤ g .size = b .places in
     let last = lastD (sum (pos 0) []) (g .outputs) in
-    let reaches : reach last ≤ g .size = within-reach (g .size) last (each-last (Within (g .size)) (sum (pos 0) []) (g .outputs) (omega arith) (b .outputs .1)) in
     record {
       rules = h .kept .few;
       last = record {
@@ -132,7 +132,7 @@ read-fitting s h =
         positions = omega arith;
         slots = each-last (λ rs. length rs ≤ 4) [] (g .ranges) (omega arith) (latest-narrow s h .few);
         outputs = b .outputs .0;
-        reach = omega arith;
+        named = named-fit (g .size) last small (each-last (Within (g .size)) (sum (pos 0) []) (g .outputs) (omega arith) (b .outputs .1));
       };
       ranging = λ t. let e = without s h t in (there (s .table .rules) (s .table .default) (h .grouped (kind-there (s .kind) 1 2 t tt tt)) e, e);
       grouped = λ t. there (s .table .rules) (s .table .default) (h .grouped t);

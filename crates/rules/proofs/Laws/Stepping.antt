@@ -13,8 +13,9 @@ use lib.ListN.{length, length-set}
 use Rattle.lists.proofs.Laws.Tests.{of-not, not-not, or-none, or-cases, of-cond, by-cases, neqb→ne}
 use Rattle.meaning.specs.Refusal.{Outcome, refused, accepted}
 use Rattle.meaning.specs.Record.{Record, rule, range, output, term, default, hexadecimal}
-use Rattle.rules.specs.bridge.Summary.{everyLast, started, rangesRead, admit, groupNumber, slotNumber, summedTo, loadedBy, afterwards, ifTaken, FittingLast, Fitting}
+use Rattle.rules.specs.bridge.Summary.{everyLast, started, rangesRead, isNamed, admit, groupNumber, slotNumber, summedTo, loadedBy, afterwards, ifTaken, FittingLast, Fitting}
 use Rattle.rules.specs.declared.reader.Reader.{Reader}
+use Rattle.rules.proofs.Laws.Positions.{named-more}
 
 pub fails : (b : Bool) → b ≡ false → T (not b)
 fails true e = absurd (true≢false e)
@@ -79,20 +80,22 @@ slot-free r p s n m e =
         let other : r .last .slots ≢ 4 = eqb-false (r .last .slots) 4 four in
         omega arith
 
--- a term that may come: after an output character or a term, at a position of the group
+-- a term that may come: after an output character or a term, at a position of the group that no term has named
 
 abbrev pub termMisplaced : Reader → ℕ → Bool
-termMisplaced r p = not (eqb (r .kind) 3 || eqb (r .kind) 4) || leb (r .last .size) p || ltb p (r .last .reach)
+termMisplaced r p = not (eqb (r .kind) 3 || eqb (r .kind) 4) || leb (r .last .size) p || isNamed (r .last .named) p
 
 pub record TermComes (r : Reader) (p : ℕ) : Type 0 where
   pub writing : T (eqb (r .kind) 3 || eqb (r .kind) 4)
   pub begun : T (not (eqb (r .kind) 0))
   pub inside : p < r .last .size
+  pub new : isNamed (r .last .named) p ≡ false
 
 pub term-comes : (r : Reader) (p : ℕ) → T (not (termMisplaced r p)) → TermComes r p
 term-comes r p h =
     let kinds = eqb (r .kind) 3 || eqb (r .kind) 4 in
-    let u = or-none (not kinds) (leb (r .last .size) p) (or-none (not kinds || leb (r .last .size) p) (ltb p (r .last .reach)) h .0) in
+    let v = or-none (not kinds || leb (r .last .size) p) (isNamed (r .last .named) p) h in
+    let u = or-none (not kinds) (leb (r .last .size) p) (v .0) in
     let t = not-not kinds (u .0) in
     record {
       writing = t;
@@ -101,6 +104,7 @@ term-comes r p h =
           (λ e. subst (λ k. T (not (eqb k 0))) (sym (eqb→eq (r .kind) 3 e)) tt)
           (λ e. subst (λ k. T (not (eqb k 0))) (sym (eqb→eq (r .kind) 4 e)) tt);
       inside = nleb→lt (r .last .size) p (u .1);
+      new = of-not (isNamed (r .last .named) p) (v .1);
     }
 
 -- a digit that may come: of a group that has begun, at one of its positions
@@ -130,7 +134,7 @@ SmallRecord default = Unit {0}
 SmallRecord (hexadecimal p shift) = Unit {0}
 
 every-fitting : FittingLast everyLast
-every-fitting = record { size = omega arith; positions = omega arith; slots = omega arith; outputs = omega arith; reach = omega arith }
+every-fitting = record { size = omega arith; positions = omega arith; slots = omega arith; outputs = omega arith; named = omega arith }
 
 pub started-fitting : Fitting started
 started-fitting =
@@ -149,7 +153,7 @@ added-fitting r kind f begun other past =
     let few : r .last .outputs ≤ 8 = f .last .outputs in
     record {
       rules = f .rules;
-      last = record { size = f .last .size; positions = f .last .positions; slots = f .last .slots; outputs = omega arith; reach = omega arith };
+      last = record { size = f .last .size; positions = f .last .positions; slots = f .last .slots; outputs = omega arith; named = omega arith };
       ranging = λ t. absurd (T-not (eqb kind 1 || eqb kind 2) past t);
       grouped = λ _. f .grouped begun;
       writing = λ _. omega arith;
@@ -173,7 +177,7 @@ admit-fit r (rule k a) f s =
               let other : r .rules ≢ 32 = neqb→ne (r .rules) 32 n in
               record {
                 rules = omega arith;
-                last = record { size = s; positions = omega arith; slots = omega arith; outputs = omega arith; reach = omega arith };
+                last = record { size = s; positions = omega arith; slots = omega arith; outputs = omega arith; named = omega arith };
                 ranging = λ _. (omega arith, refl);
                 grouped = λ _ _. omega arith;
                 writing = λ t. absurd t;
@@ -196,7 +200,7 @@ admit-fit r (range p c) f s =
               let free : slotNumber r p < 4 = slot-free r p (f .last .slots) (comes .next) near (of-not (positionFull r p) n) in
               record {
                 rules = f .rules;
-                last = record { size = f .last .size; positions = omega arith; slots = omega arith; outputs = f .last .outputs; reach = f .last .reach };
+                last = record { size = f .last .size; positions = omega arith; slots = omega arith; outputs = f .last .outputs; named = f .last .named };
                 ranging = λ _. f .ranging (comes .ranging);
                 grouped = λ _ _. f .ranging (comes .ranging) .0;
                 writing = λ t. absurd t;
@@ -219,7 +223,7 @@ admit-fit r (term p a) f s =
           let small : r .last .size ≤ 8 = f .last .size in
           record {
             rules = f .rules;
-            last = record { size = f .last .size; positions = f .last .positions; slots = f .last .slots; outputs = f .last .outputs; reach = omega arith };
+            last = record { size = f .last .size; positions = f .last .positions; slots = f .last .slots; outputs = f .last .outputs; named = named-more (r .last .named) p (f .last .named) (omega arith) (comes .new) };
             ranging = λ t. absurd t;
             grouped = λ _. f .grouped (comes .begun);
             writing = λ _. f .writing (comes .writing);

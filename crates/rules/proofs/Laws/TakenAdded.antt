@@ -10,8 +10,9 @@ use lib.IntN.{pos}
 use lib.ListN.{length, length-append}
 use Rattle.lists.specs.Lists.{Each, pad, lastD, isSome}
 use Rattle.lists.proofs.Laws.Each.{each-append}
+use Rattle.lists.proofs.Laws.Last.{lastD-snoc}
 use Rattle.meaning.specs.Table.{Output, sum}
-use Rattle.meaning.specs.Reader.{Reading, reach, changeLatest, changeOutputs, addOutput}
+use Rattle.meaning.specs.Reader.{Reading, changeLatest, changeOutputs, addOutput}
 use Rattle.meaning.specs.Block.{block, blockSize, blocksSize}
 use Rattle.rules.specs.bridge.Summary.{summedTo}
 use Rattle.meaning.specs.bridge.Flat.{slotWords, rangeWords, blockWords, highWords, loadedWords, highsFrom}
@@ -20,7 +21,8 @@ use Rattle.meaning.proofs.Laws.Reading.{KeptReading}
 use Rattle.meaning.proofs.Laws.Narrow.{NarrowOutput}
 use Rattle.meaning.proofs.Laws.Rows.{Grouped, numberOf, rows-latest, stores, shift, each-shift}
 use Rattle.meaning.proofs.Laws.Loaded.{table-sized, sized-stores, stores-block, stores-high, joined-same}
-use Rattle.meaning.proofs.Laws.Stored.{lastD-snoc, slotRow, rangeRow, highRow}
+use Rattle.meaning.proofs.Laws.Stored.{slotRow, rangeRow, highRow}
+use Rattle.rules.proofs.Laws.Positions.{namedBy}
 use Rattle.rules.proofs.Laws.Represents.{summaryOf, latestOf, summary, Read, latest-changed, grouped-changed, summary-changed, narrow-changed}
 use Rattle.rules.proofs.Laws.Stepping.{group-below}
 
@@ -54,13 +56,13 @@ module _ (s : Reading) (h : Read s) (grouped : Grouped (s .table .rules) (s .tab
     abbrev added : Reading
     added = record { table = addOutput o (s .table); kind = kind }
 
-    pub added-summary : reach o ≡ 0 → summedTo (summary s) kind (length (latestOf (s .table) .outputs) + 1) 0 ≡ summary added
+    pub added-summary : namedBy o ≡ 0 → summedTo (summary s) kind (length (latestOf (s .table) .outputs) + 1) 0 ≡ summary added
     added-summary bare =
         let g = latestOf (s .table) in
         let os = g .outputs in
         let F = changeOutputs (λ os. os ++ (o ∷ [])) in
         let outputs : length os + 1 ≡ length (os ++ (o ∷ [])) = sym (length-append os (o ∷ [])) in
-        let none : 0 ≡ reach (lastD (sum (pos 0) []) (os ++ (o ∷ []))) = sym (ap reach (lastD-snoc (sum (pos 0) []) os o) ∙ bare) in
+        let none : 0 ≡ namedBy (lastD (sum (pos 0) []) (os ++ (o ∷ []))) = sym (ap namedBy (lastD-snoc (sum (pos 0) []) os o) ∙ bare) in
         let same : summedTo (summary s) kind (length os + 1) 0 ≡ summaryOf kind (length (s .table .rules)) (isSome (s .table .default)) (F g) =
         ap₂ (summedTo (summary s) kind) outputs none in
         same ∙ sym (summary-changed F kind (s .table .rules) (s .table .default) grouped)

@@ -13,6 +13,7 @@ use lib.ListN.{length, set, length-append}
 use Rattle.lists.specs.Lists.{pad, isSome, optional}
 use Rattle.lists.proofs.Laws.Tests.{neqb→ne}
 use Rattle.lists.proofs.Laws.Each.{each-append, each-front}
+use Rattle.lists.proofs.Laws.Last.{lastD-snoc}
 use Rattle.meaning.specs.Table.{Group, Table, everyCharacter}
 use Rattle.meaning.specs.Record.{rule, default}
 use Rattle.meaning.specs.Reader.{Reading, misplaced, skipping, tooMany, taken}
@@ -23,7 +24,7 @@ use Rattle.meaning.proofs.Laws.Reading.{top, taken-kept}
 use Rattle.meaning.proofs.Laws.Narrow.{NarrowGroup}
 use Rattle.meaning.proofs.Laws.Rows.{rows-more, rows-default}
 use Rattle.meaning.proofs.Laws.Loaded.{table-sized, sized-block, sized-slot, set-block, set-slot, set-range, joined-same}
-use Rattle.meaning.proofs.Laws.Stored.{lastD-snoc, slotRow, rangeRow, highRow}
+use Rattle.meaning.proofs.Laws.Stored.{slotRow, rangeRow, highRow}
 use Rattle.rules.proofs.Laws.Represents.{summaryOf, Read, every-narrow}
 use Rattle.meaning.proofs.Laws.Decoding.{FittingRecord}
 use Rattle.rules.proofs.Laws.Taken.{Taken}

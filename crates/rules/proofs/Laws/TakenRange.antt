@@ -11,6 +11,7 @@ use lib.ListN.{length, set, length-append}
 use Rattle.lists.specs.Lists.{Each, atLast, lastD, isSome}
 use Rattle.lists.proofs.Laws.Tests.{not-not, or-none, either, neqb→ne}
 use Rattle.lists.proofs.Laws.Each.{each-append}
+use Rattle.lists.proofs.Laws.Last.{lastD-snoc}
 use Rattle.meaning.specs.Table.{Range, Group}
 use Rattle.meaning.specs.Record.{range}
 use Rattle.meaning.specs.Reader.{Reading, latest, ranging, misplaced, skipping, tooMany, addRange, changeRanges, taken}
@@ -21,7 +22,7 @@ use Rattle.meaning.proofs.Laws.Reading.{taken-kept, last-each}
 use Rattle.meaning.proofs.Laws.Narrow.{NarrowGroup}
 use Rattle.meaning.proofs.Laws.Rows.{Grouped, numberOf, rows-latest}
 use Rattle.meaning.proofs.Laws.Loaded.{table-sized, sized-slot, sized-range, set-slot, set-range, joined-same}
-use Rattle.meaning.proofs.Laws.Stored.{lastD-snoc, slotRow, rangeRow, highRow, earlier, length-earlier, addRange-last, addRange-length, here, slotRow-range, rangeRow-range}
+use Rattle.meaning.proofs.Laws.Stored.{slotRow, rangeRow, highRow, earlier, length-earlier, addRange-last, addRange-length, here, slotRow-range, rangeRow-range}
 use Rattle.rules.proofs.Laws.Represents.{summaryOf, latestOf, summary, Read, each-last, latest-narrow, latest-begun, kind-there, grouped-changed, summary-changed, narrow-changed}
 use Rattle.meaning.proofs.Laws.Decoding.{FittingRecord}
 use Rattle.rules.proofs.Laws.Stepping.{group-below}

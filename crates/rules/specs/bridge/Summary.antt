@@ -3,7 +3,7 @@ use mathlib.Core.Bool.{Bool, true, false, _&&_, _||_, not, cond}
 use mathlib.Core.List.{List, [], _∷_}
 use mathlib.Core.Option.{Option, none, some}
 use mathlib.Core.Path.{_≡_}
-use Prim.Native.Nat.{ℕ, zero, suc, pred, _+_, _*_, _%_, _/_, _≤_}
+use Prim.Native.Nat.{ℕ, zero, suc, pred, _+_, _*_, _%_, _/_, _^_, _≤_, _<_}
 use lib.Dec.{T, eqb, leb, ltb}
 use lib.ListN.{take, drop, set}
 use Rattle.lists.specs.Decide.{select}
@@ -17,10 +17,10 @@ use Rattle.rules.specs.declared.reader.Last.{Last}
 
 -- what is kept of a group that takes every character, as the default does, and of a rule that begins
 abbrev pub everyLast : Last
-everyLast = record { size = 1; positions = 1; slots = 1; highest = 65535; outputs = 0; reach = 0 }
+everyLast = record { size = 1; positions = 1; slots = 1; highest = 65535; outputs = 0; named = 0 }
 
 abbrev pub begun : ℕ → Last
-begun k = record { size = k; positions = 0; slots = 0; highest = 0; outputs = 0; reach = 0 }
+begun k = record { size = k; positions = 0; slots = 0; highest = 0; outputs = 0; named = 0 }
 
 -- nothing read yet; what is said of the last group is said of one that takes every character
 abbrev pub started : Reader
@@ -31,6 +31,10 @@ rangesRead r = eqb (r .kind) 1 || eqb (r .kind) 2
 
 abbrev pub gap : Reader → Bool
 gap r = rangesRead r && ltb (r .last .positions) (r .last .size)
+
+-- a term of the last output character has named the position: its bit is 1
+abbrev pub isNamed : ℕ → ℕ → Bool
+isNamed named p = eqb (named / 2 ^ p % 2) 1
 
 -- the number of a range among its position's
 abbrev pub slotNumber : Reader → ℕ → ℕ
@@ -44,17 +48,17 @@ rangedTo r positions slots highest =
       kind = 2;
       rules = r .rules;
       defaulted = r .defaulted;
-      last = record { size = l .size; positions = positions; slots = slots; highest = highest; outputs = l .outputs; reach = l .reach };
+      last = record { size = l .size; positions = positions; slots = slots; highest = highest; outputs = l .outputs; named = l .named };
     }
 
 abbrev pub summedTo : Reader → ℕ → ℕ → ℕ → Reader
-summedTo r kind outputs reach =
+summedTo r kind outputs named =
     let l = r .last in
     record {
       kind = kind;
       rules = r .rules;
       defaulted = r .defaulted;
-      last = record { size = l .size; positions = l .positions; slots = l .slots; highest = l .highest; outputs = outputs; reach = reach };
+      last = record { size = l .size; positions = l .positions; slots = l .slots; highest = l .highest; outputs = outputs; named = named };
     }
 
 -- the summary with the record taken in
@@ -62,7 +66,7 @@ abbrev pub next : Reader → Record → Reader
 next r (rule k a) = record { kind = 1; rules = r .rules + 1; defaulted = false; last = begun k }
 next r (range p c) = rangedTo r (p + 1) (slotNumber r p + 1) (c .highest)
 next r (output c) = summedTo r 3 (r .last .outputs + 1) 0
-next r (term p a) = summedTo r 4 (r .last .outputs) (p + 1)
+next r (term p a) = summedTo r 4 (r .last .outputs) (r .last .named + 2 ^ p)
 next r (hexadecimal p shift) = summedTo r 6 (r .last .outputs + 1) 0
 next r default = record { kind = 5; rules = r .rules; defaulted = true; last = everyLast }
 
@@ -80,7 +84,7 @@ admit r (range p c) =
 admit r (output c) =
     select ((eqb (r .kind) 0, refused 3) ∷ (gap r, refused 4) ∷ (eqb (r .last .outputs) 8, refused 6) ∷ []) (accepted (next r (output c)))
 admit r (term p a) =
-    select ((not (eqb (r .kind) 3 || eqb (r .kind) 4) || leb (r .last .size) p || ltb p (r .last .reach), refused 3) ∷ []) (accepted (next r (term p a)))
+    select ((not (eqb (r .kind) 3 || eqb (r .kind) 4) || leb (r .last .size) p || isNamed (r .last .named) p, refused 3) ∷ []) (accepted (next r (term p a)))
 admit r (hexadecimal p shift) =
     select ((eqb (r .kind) 0 || leb (r .last .size) p, refused 3) ∷ (gap r, refused 4) ∷ (eqb (r .last .outputs) 8, refused 6) ∷ [])
     (accepted (next r (hexadecimal p shift)))
@@ -148,7 +152,7 @@ pub record FittingLast (l : Last) : Type 0 where
   pub positions : l .positions ≤ 8
   pub slots : l .slots ≤ 4
   pub outputs : l .outputs ≤ 8
-  pub reach : l .reach ≤ 8
+  pub named : l .named < 256
 
 pub record Fitting (r : Reader) : Type 0 where
   pub rules : r .rules ≤ 32

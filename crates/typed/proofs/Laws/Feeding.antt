@@ -68,7 +68,7 @@ one-record c r l long =
     by (accepted r′) = (refl, refl)
 
 module _ (s : State) (r : Reader) (h : Ready s) (e : s .check ≡ accepted r) where
-  pub count-small : s .count ≤ 53792
+  pub count-small : s .count ≤ 652312
   count-small =
       let t = h .reading r e in
       let m = t .1 in

@@ -1,24 +1,23 @@
 -- The records of a line's ranges and expressions lead to its group.
--- Range by range and term by term, each from where those before it led; zeros are filled in before a coefficient that has a term.
+-- Range by range and term by term, each from where those before it led.
 use mathlib.Core.Bool.{Bool, true}
-use mathlib.Core.List.{List, [], _∷_, _++_, map, append-nil, append-assoc}
-use mathlib.Core.Logic.{_≢_}
+use mathlib.Core.List.{List, [], _∷_, _++_, map, append-nil}
 use mathlib.Core.Option.{some}
-use mathlib.Core.Path.{_≡_, refl, sym, ap, subst, _∙_}
-use Prim.Native.Nat.{ℕ, zero, suc, _+_, _-_, _/_, _%_, _≤_}
+use mathlib.Core.Path.{_≡_, refl, sym, subst, _∙_}
+use Prim.Native.Nat.{ℕ, suc, _+_, _/_, _%_, _≤_}
 use native.Mathlib.Omega.{arith}
-use lib.IntN.{ℤ, pos, negsuc}
-use lib.ListN.{length, replicate, length-append, length-replicate}
+use lib.IntN.{ℤ}
+use lib.ListN.{length, length-append}
 use lib.Seq.{append-snoc}
 use Rattle.lists.specs.Lists.{Each, flatMap, atLast}
 use Rattle.meaning.specs.Table.{Range, Output, sum, Group}
 use Rattle.meaning.specs.Record.{Record, range, output, term, decode}
-use Rattle.meaning.specs.Reader.{signed, skipping, addRange, addTerm, changeRanges, changeOutputs, taken}
+use Rattle.meaning.specs.Reader.{signed, skipping, addRange, putAt, addTerm, changeRanges, changeOutputs, taken}
 use Rattle.meaning.specs.WellFormed.{Signed}
 use Rattle.meaning.specs.Records.{littleEndian, twosComplement, rangeRecord, outputRecord, Term, termRecord, rangeRecords, terms}
 use Rattle.meaning.proofs.Laws.Decoding.{decode-range}
 use Rattle.meaning.proofs.Laws.Encoding.{only-some, two-read, signed-of-bits, half-16, half-32, read-output, read-term}
-use Rattle.meaning.proofs.Laws.Appended.{term-one}
+use Rattle.meaning.proofs.Laws.Terms.{allPut, Fits, terms-fit}
 use Rattle.meaning.proofs.Laws.Readable.{not-ltb, latest-at, atLast-snoc, add-new, add-beside}
 use Rattle.expression.specs.Grammar.{Tree}
 use Rattle.expression.specs.bridge.Forms.{Proper}
@@ -89,21 +88,9 @@ module _ (d : Bool) (gs : List Group) (k : ℕ) (anchored : Bool) where
       leads-on d gs (group ps) (group next) _ (flatMap (rangeRecord (length ps)) q) (rangeRecords (suc (length ps)) qs)
       (whole-joined (rangeRecord (length ps)) (λ r. (1, range-long (length ps) r)) q) (item-leads ps q (w .0)) rest
 
--- coefficients as terms give them: none behind the last that is not 0; n zeros wait for one
-unfoldable pub trimmedBehind : ℕ → List ℤ → List ℤ
-trimmedBehind n [] = []
-trimmedBehind n (pos zero ∷ ks) = trimmedBehind (suc n) ks
-trimmedBehind n (pos (suc a) ∷ ks) = replicate n (pos 0) ++ (pos (suc a) ∷ trimmedBehind 0 ks)
-trimmedBehind n (negsuc a ∷ ks) = replicate n (pos 0) ++ (negsuc a ∷ trimmedBehind 0 ks)
-
+-- coefficients as their terms give them: none behind the last that is not 0
 abbrev pub trimmed : List ℤ → List ℤ
-trimmed ks = trimmedBehind 0 ks
-
-trimmed-one : (n : ℕ) (a : ℤ) (ks : List ℤ) → a ≢ pos 0 → trimmedBehind n (a ∷ ks) ≡ replicate n (pos 0) ++ (a ∷ trimmedBehind 0 ks)
-unfolding trimmedBehind
-trimmed-one n (pos zero) ks d = absurd (d refl)
-trimmed-one n (pos (suc a)) ks d = refl
-trimmed-one n (negsuc a) ks d = refl
+trimmed ks = allPut (terms 0 ks) []
 
 -- an expression's output character
 abbrev pub outputOf : Tree → Output
@@ -125,45 +112,26 @@ module _ (d : Bool) (gs : List Group) (g : Group) (full : length (g .ranges) ≡
       (leads-one d gs (changeOutputs (λ l. l ++ (sum (signed 32 x) [] ∷ []))) (writing g os) (outputRecord c) (output x) (output-long c) (known _ _ (read-output c s)) (λ s. refl)
       (filled d gs (writing g os) full))
 
-  term-leads : (os : List Output) (c : ℤ) (ks : List ℤ) (p : ℕ) (a : ℤ) → p ≤ 7 → Signed 16 a → a ≢ pos 0 →
-      Leads d gs (writing g (os ++ (sum c ks ∷ []))) (termRecord (record { position = p; coefficient = a }))
-      (writing g (os ++ (sum c (ks ++ replicate (p - length ks) (pos 0) ++ (a ∷ [])) ∷ [])))
+  term-leads : (os : List Output) (c : ℤ) (ks : List ℤ) (x : Term) → Fits 8 x →
+      Leads d gs (writing g (os ++ (sum c ks ∷ []))) (termRecord x) (writing g (os ++ (sum c (putAt (x .position) (x .coefficient) ks) ∷ [])))
   unfolding taken skipping
-  term-leads os c ks p a h s n =
-      let x = twosComplement 16 a in
+  term-leads os c ks x f =
+      let p = x .position in
+      let a = x .coefficient in
+      let n = twosComplement 16 a in
       let from = writing g (os ++ (sum c ks ∷ [])) in
-      let y : Term = record { position = p; coefficient = a } in
-      let b = termRecord y in
-      subst (λ z. Leads d gs from b (writing g (os ++ (addTerm p z (sum c ks) ∷ [])))) (signed-of-bits 16 half-16 a s)
-      (subst (λ l. Leads d gs from b (writing g l)) (atLast-snoc (addTerm p (signed 16 x)) os (sum c ks))
-      (leads-one d gs (changeOutputs (atLast (addTerm p (signed 16 x)))) from b (term p x) (term-long y) (known _ _ (read-term p a h s n)) (λ s. refl) (λ kind. tt)))
+      let b = termRecord x in
+      subst (λ z. Leads d gs from b (writing g (os ++ (addTerm p z (sum c ks) ∷ [])))) (signed-of-bits 16 half-16 a (f .1))
+      (subst (λ l. Leads d gs from b (writing g l)) (atLast-snoc (addTerm p (signed 16 n)) os (sum c ks))
+      (leads-one d gs (changeOutputs (atLast (addTerm p (signed 16 n)))) from b (term p n) (term-long x) (known _ _ (read-term p a (omega (arith, f .0)) (f .1) (f .2))) (λ s. refl) (λ kind. tt)))
 
-  -- the terms from position p on, behind n positions that have none
-  abbrev TermsLead : List ℤ → Type 0
-  TermsLead js = (os : List Output) (c : ℤ) (ks : List ℤ) (n p : ℕ) → p ≡ length ks + n → p + length js ≤ 8 → Each (Signed 16) js →
-      Leads d gs (writing g (os ++ (sum c ks ∷ []))) (flatMap termRecord (terms p js)) (writing g (os ++ (sum c (ks ++ trimmedBehind n js) ∷ [])))
-
-  named-lead : (a : ℤ) (js : List ℤ) → a ≢ pos 0 → TermsLead js → TermsLead (a ∷ js)
-  named-lead a js d0 onward os c ks n p e l s =
-      let gap = replicate n (pos 0) in
-      let more = ks ++ gap ++ (a ∷ []) in
-      let x : Term = record { position = p; coefficient = a } in
-      let from = writing g (os ++ (sum c ks ∷ [])) in
-      let width : p - length ks ≡ n = omega arith in
-      let count : length more ≡ length ks + n + 1 = rw (length-append, length-append, length-replicate) refl in
-      let join : more ++ trimmedBehind 0 js ≡ ks ++ trimmedBehind n (a ∷ js) =
-      append-assoc (ks ++ gap) (a ∷ []) (trimmedBehind 0 js) ∙ append-assoc ks gap (a ∷ trimmedBehind 0 js) ∙ ap (λ y. ks ++ y) (sym (trimmed-one n a js d0)) in
-      let here : Leads d gs from (termRecord x) (writing g (os ++ (sum c more ∷ []))) = rw width at (term-leads os c ks p a (omega arith) (s .0) d0) in
-      let rest : Leads d gs (writing g (os ++ (sum c more ∷ []))) (flatMap termRecord (terms (suc p) js)) (writing g (os ++ (sum c (ks ++ trimmedBehind n (a ∷ js)) ∷ []))) =
-      rw join at (onward os c more 0 (suc p) (omega arith) (omega arith) (s .1)) in
-      rw (term-one p a js d0) (leads-on d gs from (writing g (os ++ (sum c more ∷ []))) _ (termRecord x) (flatMap termRecord (terms (suc p) js)) (1, term-long x) here rest)
-
-  terms-lead : (js : List ℤ) → TermsLead js
-  unfolding trimmedBehind
-  terms-lead [] os c ks n p e l s = rw append-nil (leads-nowhere d gs (writing g (os ++ (sum c ks ∷ []))))
-  terms-lead (pos zero ∷ js) os c ks n p e l s = terms-lead js os c ks (suc n) (suc p) (omega arith) (omega arith) (s .1)
-  terms-lead (pos (suc a) ∷ js) os c ks n p e l s = named-lead (pos (suc a)) js (λ q. let z : suc a ≡ 0 = cc in omega arith) (terms-lead js) os c ks n p e l s
-  terms-lead (negsuc a ∷ js) os c ks n p e l s = named-lead (negsuc a) js (λ q. let z : _≡_ {A = ℕ} 0 1 = cc in omega arith) (terms-lead js) os c ks n p e l s
+  terms-lead : (os : List Output) (c : ℤ) (ks : List ℤ) (xs : List Term) → Each (Fits 8) xs →
+      Leads d gs (writing g (os ++ (sum c ks ∷ []))) (flatMap termRecord xs) (writing g (os ++ (sum c (allPut xs ks) ∷ [])))
+  terms-lead os c ks [] f = leads-nowhere d gs (writing g (os ++ (sum c ks ∷ [])))
+  terms-lead os c ks (x ∷ xs) f =
+      let more = putAt (x .position) (x .coefficient) ks in
+      leads-on d gs (writing g (os ++ (sum c ks ∷ []))) (writing g (os ++ (sum c more ∷ []))) _ (termRecord x) (flatMap termRecord xs) (1, term-long x)
+      (term-leads os c ks x (f .0)) (terms-lead os c more xs (f .1))
 
   whole-leads : (os : List Output) (t : Tree) → Fitting t → Leads d gs (writing g os) (outputRecords (partOf t)) (writing g (os ++ (outputOf t ∷ [])))
   unfolding outputRecords
@@ -171,7 +139,7 @@ module _ (d : Bool) (gs : List Group) (g : Group) (full : length (g .ranges) ≡
       let c = constant (partOf t) in
       let ks = coefficients (partOf t) in
       leads-on d gs (writing g os) (writing g (os ++ (sum c [] ∷ []))) _ (outputRecord c) (flatMap termRecord (terms 0 ks)) (1, output-long c)
-      (output-leads os c (w .constant-32)) (terms-lead ks os c [] 0 0 refl (omega (arith, eight-coefficients t)) (w .coefficients-16))
+      (output-leads os c (w .constant-32)) (terms-lead os c [] (terms 0 ks) (terms-fit 8 0 ks (omega (arith, eight-coefficients t)) (w .coefficients-16)))
 
   pub outputs-lead : (os : List Output) (ts : List Tree) → Each Fitting ts → Leads d gs (writing g os) (flatMap (λ t. outputRecords (partOf t)) ts) (writing g (os ++ map outputOf ts))
   outputs-lead os [] w = rw append-nil (leads-nowhere d gs (writing g os))

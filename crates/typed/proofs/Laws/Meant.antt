@@ -1,13 +1,13 @@
 -- An accepted text's table means what the text means: same choices, same characters, same end.
 -- Definition 7 looks at no output character, and an output character has its expression's value at every word.
 use mathlib.Core.Bool.{Bool, true, false, cond}
-use mathlib.Core.List.{List, [], _∷_, _++_, map, append-nil}
+use mathlib.Core.List.{List, [], _∷_, _++_, map}
 use mathlib.Core.Option.{some}
 use mathlib.Core.Path.{_≡_, refl, sym, ap, ap₂, _∙_}
 use Prim.Native.Nat.{ℕ, zero, suc}
 use lib.Dec.{eqb}
 use lib.IntN.{ℤ, pos, negsuc, natAbs, _+ℤ_, _*ℤ_}
-use lib.ListN.{getD, replicate, List·getD-map}
+use lib.ListN.{getD, List·getD-map}
 use Rattle.lists.specs.Lists.{Each, flatMap, orElse}
 use Rattle.lists.proofs.Laws.Each.{each-append, each-anywhere}
 use Rattle.meaning.specs.Refusal.{accepted}
@@ -15,7 +15,8 @@ use Rattle.meaning.specs.Table.{Table, everyCharacter, ruleAt, group, defaultNu
 use Rattle.meaning.specs.Value.{dot, value}
 use Rattle.meaning.specs.Meaning.{written, Emission, textOf, covered, convert, meaningText, meaningPlace}
 use Rattle.meaning.specs.Reader.{readTable}
-use Rattle.meaning.proofs.Laws.Readable.{zeros-shift}
+use Rattle.meaning.specs.Records.{terms}
+use Rattle.meaning.proofs.Laws.Terms.{allPut, put-behind}
 use Rattle.meaning.proofs.Laws.Bare.{bareGroup, bareDefault, bare, convert-bare}
 use Rattle.expression.specs.Grammar.{Tree}
 use Rattle.expression.specs.Value.{valueAt}
@@ -25,28 +26,38 @@ use Rattle.typed.specs.Grammar.{Head, pattern, otherwise, Line}
 use Rattle.typed.specs.Records.{partOf, constant, coefficients, linesWithin17, records}
 use Rattle.typed.specs.Meaning.{ruleOf, defaultOf, groupOf, firstOf, patterns, silent, expressions, writes, choices, typedText, typedPlace}
 use Rattle.typed.proofs.Laws.Bytes.{LinesProper}
-use Rattle.typed.proofs.Laws.Grouped.{trimmedBehind, outputOf, Fitting}
+use Rattle.typed.proofs.Laws.Grouped.{trimmed, outputOf, Fitting}
 use Rattle.typed.proofs.Laws.Tables.{lineGroup, tableOf, LineFits, lines-fit, head-bare, accepted-table}
 
 -- values
 
-dot-behind : (ns ks js : List ℤ) → ((w : List ℕ) → dot ks w ≡ dot js w) → (w : List ℕ) → dot (ns ++ ks) w ≡ dot (ns ++ js) w
+dot-behind : (a : ℤ) (ks js : List ℤ) → ((w : List ℕ) → dot ks w ≡ dot js w) → (w : List ℕ) → dot (a ∷ ks) w ≡ dot (a ∷ js) w
 unfolding dot
-dot-behind [] ks js h w = h w
-dot-behind (n ∷ ns) ks js h [] = refl
-dot-behind (n ∷ ns) ks js h (c ∷ w) = ap (λ z. n *ℤ pos c +ℤ z) (dot-behind ns ks js h w)
+dot-behind a ks js h [] = refl
+dot-behind a ks js h (c ∷ w) = ap (λ z. a *ℤ pos c +ℤ z) (h w)
+
+-- a first coefficient of 0 adds nothing, whether or not it has a place
+zero-first : (i : ℕ) (ks : List ℤ) (w : List ℕ) → dot (allPut (terms (suc i) ks) []) w ≡ dot (allPut (terms (suc i) ks) (pos 0 ∷ [])) w
+unfolding dot
+zero-first i [] w = sym (dot-zeros 1 w)
+zero-first i (pos zero ∷ ks) w = zero-first (suc i) ks w
+zero-first i (pos (suc a) ∷ ks) w = refl
+zero-first i (negsuc a ∷ ks) w = refl
+
+-- a first coefficient, and the others behind it
+first-put : (a : ℤ) (ks : List ℤ) → ((w : List ℕ) → dot (trimmed ks) w ≡ dot ks w) → (w : List ℕ) → dot (allPut (terms 1 ks) (a ∷ [])) w ≡ dot (a ∷ ks) w
+first-put a ks h w = ap (λ l. dot l w) (put-behind 0 a ks []) ∙ dot-behind a (trimmed ks) ks h w
 
 -- zeros behind the last coefficient add nothing
-dot-trimmed : (n : ℕ) (ks : List ℤ) (w : List ℕ) → dot (trimmedBehind n ks) w ≡ dot (replicate n (pos 0) ++ ks) w
-unfolding dot trimmedBehind
-dot-trimmed n [] w = sym (ap (λ l. dot l w) (append-nil (replicate n (pos 0))) ∙ dot-zeros n w)
-dot-trimmed n (pos zero ∷ ks) w = dot-trimmed (suc n) ks w ∙ ap (λ l. dot l w) (sym (zeros-shift n ks))
-dot-trimmed n (pos (suc a) ∷ ks) w = dot-behind (replicate n (pos 0)) _ _ (dot-behind (pos (suc a) ∷ []) (trimmedBehind 0 ks) ks (dot-trimmed 0 ks)) w
-dot-trimmed n (negsuc a ∷ ks) w = dot-behind (replicate n (pos 0)) _ _ (dot-behind (negsuc a ∷ []) (trimmedBehind 0 ks) ks (dot-trimmed 0 ks)) w
+dot-trimmed : (ks : List ℤ) (w : List ℕ) → dot (trimmed ks) w ≡ dot ks w
+dot-trimmed [] w = refl
+dot-trimmed (pos zero ∷ ks) w = zero-first 0 ks w ∙ first-put (pos 0) ks (dot-trimmed ks) w
+dot-trimmed (pos (suc a) ∷ ks) w = first-put (pos (suc a)) ks (dot-trimmed ks) w
+dot-trimmed (negsuc a ∷ ks) w = first-put (negsuc a) ks (dot-trimmed ks) w
 
 pub value-meant : (t : Tree) → Fitting t → (w : List ℕ) → value (outputOf t) w ≡ valueAt w t
 unfolding value affineAt
-value-meant t f w = ap (λ z. constant (partOf t) +ℤ z) (dot-trimmed 0 (coefficients (partOf t)) w) ∙ affine-value t (f .proper) (f .fine) w
+value-meant t f w = ap (λ z. constant (partOf t) +ℤ z) (dot-trimmed (coefficients (partOf t)) w) ∙ affine-value t (f .proper) (f .fine) w
 
 -- what the line of a number writes
 

@@ -1,14 +1,15 @@
--- Each record that is taken in makes the summary's weight greater, and no weight is above 6,724.
+-- Each record that is taken in makes the summary's weight greater, and no weight is above 81,539.
 -- By the tests that the record has passed, and the limits of the summary's numbers. Assumes nothing.
-use mathlib.Core.Bool.{Bool, true, false, _||_, not}
 use mathlib.Core.Path.{_≡_, ap, subst}
 use Prim.Native.Nat.{ℕ, suc, _+_, _*_, _≤_, _<_}
 use native.Mathlib.Omega.{arith}
-use lib.Dec.{eqb, leb, ltb, eqb→eq, nltb→le}
-use Rattle.lists.proofs.Laws.Tests.{of-not, or-none, of-cond, by-cases, neqb→ne}
+use lib.Dec.{eqb, eqb→eq, nltb→le}
+use lib.Pow.{pow-pos}
+use Rattle.lists.proofs.Laws.Tests.{of-not, of-cond, by-cases, neqb→ne}
 use Rattle.meaning.specs.Refusal.{Outcome, refused, accepted}
 use Rattle.meaning.specs.Block.{bit}
 use Rattle.meaning.specs.Record.{Record, rule, range, output, term, default, hexadecimal}
+use Rattle.meaning.proofs.Laws.Numbers.{bit-small}
 use Rattle.rules.specs.bridge.Summary.{slotNumber, admit, FittingLast, Fitting}
 use Rattle.rules.specs.declared.reader.Reader.{Reader}
 use Rattle.rules.specs.declared.reader.Last.{Last}
@@ -17,21 +18,17 @@ use Rattle.typed.specs.bridge.Stream.{weight}
 
 -- what the last group adds
 abbrev part : Last → ℕ
-part l = 4 * l .positions + l .slots + 10 * l .outputs + l .reach
+part l = 4 * l .positions + l .slots + 256 * l .outputs + l .named
 
-part-small : (l : Last) → FittingLast l → part l ≤ 124
+part-small : (l : Last) → FittingLast l → part l ≤ 2339
 part-small l f =
     let a = f .positions in
     let b = f .slots in
     let c = f .outputs in
-    let d = f .reach in
+    let d = f .named in
     omega arith
 
-bit-small : (b : Bool) → bit b ≤ 1
-bit-small true = omega arith
-bit-small false = omega arith
-
-pub weight-small : (r : Reader) → Fitting r → weight r ≤ 6724
+pub weight-small : (r : Reader) → Fitting r → weight r ≤ 81539
 weight-small r f =
     let a = part-small (r .last) (f .last) in
     let b = bit-small (r .defaulted) in
@@ -67,15 +64,10 @@ admit-heavier r (range p c) f =
       ),
     )
 admit-heavier r (output c) f =
-    let h = f .last .reach in
+    let h = f .last .named in
     by-cases (Heavier (weight r)) _ _ (λ _. tt, λ _. (λ _. tt, λ _. (λ _. tt, λ _. omega arith)))
 admit-heavier r (term p a) f =
-    by-cases (Heavier (weight r)) _ _ (
-      λ _. tt,
-      λ d.
-          let h = nltb→le p (r .last .reach) (or-none (not (eqb (r .kind) 3 || eqb (r .kind) 4) || leb (r .last .size) p) (ltb p (r .last .reach)) d .1) in
-          omega arith,
-    )
+    by-cases (Heavier (weight r)) _ _ (λ _. tt, λ _. omega (arith, pow-pos p))
 admit-heavier r default f =
     let h = part-small (r .last) (f .last) in
     by-cases (Heavier (weight r)) _ _ (
@@ -83,7 +75,7 @@ admit-heavier r default f =
       λ d. (λ _. tt, λ _. let e = ap bit (of-not (r .defaulted) d) in omega arith),
     )
 admit-heavier r (hexadecimal p shift) f =
-    let h = f .last .reach in
+    let h = f .last .named in
     by-cases (Heavier (weight r)) _ _ (λ _. tt, λ _. (λ _. tt, λ _. (λ _. tt, λ _. omega arith)))
 
 pub weight-grows : (r r′ : Reader) (x : Record) → Fitting r → admit r x ≡ accepted r′ → suc (weight r) ≤ weight r′

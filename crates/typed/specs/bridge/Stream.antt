@@ -91,9 +91,9 @@ feedLines ls s = foldLeft feedLine ls s
 abbrev pub nothingRead : List ℕ → State
 nothingRead buffer = record { fine = true; check = accepted started; loaded = pad loadedSize []; count = 0; buffer = buffer }
 
--- a number that each record taken in makes greater, so that no more than 6,724 are
+-- a number that each record taken in makes greater, so that no more than 81,539 are
 abbrev pub weight : Reader → ℕ
-weight r = 200 * (r .rules + bit (r .defaulted)) + 4 * r .last .positions + r .last .slots + 10 * r .last .outputs + r .last .reach
+weight r = 2400 * (r .rules + bit (r .defaulted)) + 4 * r .last .positions + r .last .slots + 256 * r .last .outputs + r .last .named
 
 -- what holds of every state on the way
 pub record Ready (s : State) : Type 0 where

@@ -20,8 +20,11 @@ returns c = simp (sym (c .before .either .ensures) ∙ not-true _ (c .if1 .taken
 returns-2 : tie.Need-returns-2
 returns-2 c = simp (writing (c .before .before), le-leb _ _ (c .if2 .taken))
 
+shr-result : tie.Need-shr-result
+shr-result c = search needs
+
 returns-3 : tie.Need-returns-3
 returns-3 c = simp (writing (c .before .before .before), lt-leb _ _ (c .before .if2 .left))
 
 pub term-misplaced-spec : {M : Type 1} → statement M
-term-misplaced-spec = tie.close (tie.spec either-requires returns returns-2 returns-3)
+term-misplaced-spec = tie.close (tie.spec either-requires returns returns-2 shr-result returns-3)
