@@ -1,25 +1,24 @@
 -- Request [7] of document 02, "Terms in any order": which tables differ only there, and that they are alike, one field a sentence.
-use mathlib.Core.List.{List, [], _∷_, _++_}
+use mathlib.Core.List.{List, _++_}
 use mathlib.Core.Logic.{_↔_}
 use mathlib.Core.Path.{_≡_}
-use Prim.Native.Nat.{ℕ, zero, suc, _/_, _<_}
+use Prim.Native.Nat.{ℕ, _/_, _<_}
 use lib.Dec.{T, eqb}
 use lib.IntN.{ℤ}
-use lib.ListN.{length, getD, take, drop}
-use Rattle.lists.specs.Lists.{any, flatMap}
+use lib.ListN.{length, getD}
+use Rattle.lists.specs.Lists.{any, flatMap, tabFrom}
 use Rattle.lists.specs.Reordered.{Reordered}
 use Rattle.meaning.specs.Refusal.{refused, accepted}
 use Rattle.meaning.specs.Table.{Table}
 use Rattle.meaning.specs.Record.{decode}
-use Rattle.meaning.specs.Records.{Bytes, outputRecord, Term, termRecord, Known}
+use Rattle.meaning.specs.Records.{Bytes, outputRecord, Term, termRecord, Known, recordAt}
 use Rattle.meaning.specs.Reader.{Reading, latest, readOne, LeadTo, readTable}
 use Rattle.meaning.specs.Direct.{Converted, direct}
 use Rattle.meaning.specs.Samples.{t1, t1Turned, t1Twice}
 
--- a table's records, of eight bytes each: n of them
-unfoldable pub records : ℕ → List ℕ → List (List ℕ)
-records zero b = []
-records (suc n) b = take 8 b ∷ records n (drop 8 b)
+-- a table's records, by number
+abbrev pub records : List ℕ → List (List ℕ)
+records b = tabFrom 0 (length b / 8) (recordAt b)
 
 -- a record of kind 4
 abbrev pub IsTerm : List ℕ → Type 0
@@ -29,7 +28,7 @@ IsTerm x = getD x 0 0 ≡ 4
 -- output character.
 pub record DifferInTerms (b c : List ℕ) : Type 0 where
   pub lengths : length b ≡ length c
-  pub terms : Reordered IsTerm (records (length b / 8) b) (records (length c / 8) c)
+  pub terms : Reordered IsTerm (records b) (records c)
 
 -- what is alike where two tables differ only so
 pub record ReadAlike (b c : List ℕ) : Type 0 where

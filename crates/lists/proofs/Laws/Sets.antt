@@ -78,6 +78,14 @@ module _ {A : Type 0} (f : ℕ → A) where
   length-tab i zero = refl
   length-tab i (suc n) = ap suc (length-tab (suc i) n)
 
+  pub tab-shift : (i n : ℕ) → tabFrom (suc i) n f ≡ tabFrom i n (λ k. f (suc k))
+  tab-shift i zero = refl
+  tab-shift i (suc n) = ap (λ l. f (suc i) ∷ l) (tab-shift (suc i) n)
+
+  pub each-tab : (P : A → Type 0) → ((k : ℕ) → P (f k)) → (i n : ℕ) → Each P (tabFrom i n f)
+  each-tab P h i zero = tt
+  each-tab P h i (suc n) = (h i, each-tab P h (suc i) n)
+
   pub tab-is : (n : ℕ) (xs : List A) (d : A) → length xs ≡ n → ((k : ℕ) → k < n → f k ≡ getD xs k d) → tabFrom 0 n f ≡ xs
   tab-is n xs d e h =
       ext-getD d (tabFrom 0 n f) xs (length-tab 0 n ∙ sym e)

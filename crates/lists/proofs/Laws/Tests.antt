@@ -29,6 +29,10 @@ pub not-not : (b : Bool) → T (not (not b)) → T b
 not-not true t = tt
 not-not false t = t
 
+pub refute : (b : Bool) → T b → T (not (not b))
+refute true t = tt
+refute false t = t
+
 -- a test, by a function's answer that is its value, where the code goes by its negation
 pub passed : {r b : Bool} → r ≡ b → not r ≡ false → b ≡ true
 passed {r} e t = sym e ∙ not-false r t
@@ -79,6 +83,10 @@ or-cases false b t f g = g t
 pub or-none : (a b : Bool) → T (not (a || b)) → T (not a) × T (not b)
 or-none true b t = absurd t
 or-none false b t = (tt, t)
+
+pub neither : (a b : Bool) → T (not a) → T (not b) → T (not (a || b))
+neither true b s t = s
+neither false b s t = t
 
 pub any-more : {A : Type 0} (p : A → Bool) (xs ys : List A) → T (any p xs) → T (any p (xs ++ ys))
 any-more p [] ys t = absurd t

@@ -1,28 +1,30 @@
 -- Request [7]'s sentences hold of the definitions: tables that differ only in the order of terms are read alike, and inputs converted alike.
 -- Neighbouring terms may change places (`Swapped`), and so may any number of them, one pair after another.
 use mathlib.Core.Bool.{Bool, true, false, not}
-use mathlib.Core.List.{List, [], _∷_, _++_}
+use mathlib.Core.List.{List, [], _∷_}
 use mathlib.Core.Path.{_≡_, refl, sym, ap, subst, _∙_, fun-ext}
 use Prim.Native.Nat.{ℕ, zero, suc, _*_, _/_, _%_, _<_}
 use lib.Dec.{eqb, ltb}
 use lib.ListN.{length, take, drop, take-append-drop}
-use Rattle.lists.specs.Lists.{Each}
+use Rattle.lists.specs.Lists.{Each, tabFrom}
 use Rattle.lists.specs.Decide.{select}
 use Rattle.lists.specs.Reordered.{Reordered, none, kept, swapped, joined}
 use Rattle.lists.proofs.Laws.Each.{each-front, each-back}
+use Rattle.lists.proofs.Laws.Sets.{tab-shift, each-tab}
 use Rattle.lists.proofs.Laws.Reordered.{reordered-sym, reordered-each}
 use Rattle.meaning.specs.Refusal.{Outcome, refused, accepted, andThen}
 use Rattle.meaning.specs.Table.{Table, expansion}
 use Rattle.meaning.specs.Value.{safe}
 use Rattle.meaning.specs.Record.{decode}
-use Rattle.meaning.specs.Records.{Bytes}
+use Rattle.meaning.specs.Records.{Bytes, recordAt}
 use Rattle.meaning.specs.Reader.{Reading, unread, readOne, readRecords, readEnd, readRules, readTable}
 use Rattle.meaning.specs.Direct.{limit, Converted, admitted, directBy, direct}
-use Rattle.meaning.specs.AnyOrder.{records, IsTerm, DifferInTerms, ReadAlike, TermsInAnyOrder}
+use Rattle.meaning.specs.AnyOrder.{IsTerm, DifferInTerms, ReadAlike, TermsInAnyOrder}
 use Rattle.meaning.specs.Samples.{t1, t1Turned, t1Twice}
 use Rattle.meaning.proofs.Laws.Opened.{rules-opened}
 use Rattle.meaning.proofs.Laws.Refusal.{refused-not}
 use Rattle.meaning.proofs.Laws.Decoding.{decode-fits}
+use Rattle.meaning.proofs.Laws.Numbered.{record-next}
 use Rattle.meaning.proofs.Laws.Repeated.{only-repeated}
 use Rattle.meaning.proofs.Laws.Swapped.{only-term, swap-records}
 
@@ -52,10 +54,12 @@ readAll : List (List ℕ) → Reading → Outcome Reading
 readAll [] s = accepted s
 readAll (x ∷ xs) s = andThen (readOne s (decode x)) (λ s′. readAll xs s′)
 
-read-all : (n : ℕ) (b : List ℕ) (s : Reading) → readRecords n b s ≡ readAll (records n b) s
-unfolding readRecords records readAll
+read-all : (n : ℕ) (b : List ℕ) (s : Reading) → readRecords n b s ≡ readAll (tabFrom 0 n (recordAt b)) s
+unfolding readRecords readAll
 read-all zero b s = refl
-read-all (suc n) b s = ap (andThen (readOne s (decode (take 8 b)))) (fun-ext (λ s′. read-all n (drop 8 b) s′))
+read-all (suc n) b s =
+    let rest : tabFrom 0 n (recordAt (drop 8 b)) ≡ tabFrom 1 n (recordAt b) = ap (tabFrom 0 n) (fun-ext (record-next b)) ∙ sym (tab-shift (recordAt b) 0 n) in
+    ap (andThen (readOne s (decode (take 8 b)))) (fun-ext (λ s′. read-all n (drop 8 b) s′ ∙ ap (λ xs. readAll xs s′) rest))
 
 reordered-read : {xs ys : List (List ℕ)} → Reordered IsTerm xs ys → Each Bytes xs → (s : Reading) → Passes (readAll xs s) (readAll ys s)
 unfolding readAll
@@ -66,12 +70,10 @@ reordered-read (swapped {x = x} {y = y} {xs = xs} i j) b s z e =
     swap-records s (λ s′. readAll xs s′) z _ _ (decode x) (decode y) (only-term x i) (only-term y j) (λ r k. decode-fits x (b .0) r k) e
 reordered-read (joined r q) b s z e = reordered-read q (reordered-each Bytes r b) s z (reordered-read r b s z e)
 
-records-bytes : (n : ℕ) (b : List ℕ) → Bytes b → Each Bytes (records n b)
-unfolding records
-records-bytes zero b e = tt
-records-bytes (suc n) b e =
-    let parts : Bytes (take 8 b ++ drop 8 b) = subst Bytes (sym (take-append-drop 8 b)) e in
-    (each-front (λ x. x < 256) (take 8 b) (drop 8 b) parts, records-bytes n (drop 8 b) (each-back (λ x. x < 256) (take 8 b) (drop 8 b) parts))
+record-bytes : (b : List ℕ) → Bytes b → (i : ℕ) → Bytes (recordAt b i)
+record-bytes b e i =
+    let behind : Bytes (drop (8 * i) b) = each-back (λ x. x < 256) (take (8 * i) b) (drop (8 * i) b) (subst Bytes (sym (take-append-drop (8 * i) b)) e) in
+    each-front (λ x. x < 256) (recordAt b i) (drop 8 (drop (8 * i) b)) (subst Bytes (sym (take-append-drop 8 (drop (8 * i) b))) behind)
 
 -- tables
 
@@ -83,7 +85,7 @@ table-passes b c e d =
     then-passes _ _
     (test-passes (not (eqb (length b % 8) 0)) (not (eqb (length c % 8) 0)) 1 _ _ (ap (λ i. not (eqb (i % 8) 0)) (d .lengths))
     (then-passes (readRecords n b unread) (readRecords m c unread)
-    (λ s k. read-all m c unread ∙ reordered-read (d .terms) (records-bytes n b e) unread s (sym (read-all n b unread) ∙ k)) readEnd))
+    (λ s k. read-all m c unread ∙ reordered-read (d .terms) (each-tab (recordAt b) Bytes (record-bytes b e) 0 n) unread s (sym (read-all n b unread) ∙ k)) readEnd))
     (λ t. select ((not (safe t), refused 7) ∷ []) (accepted t))
 
 -- direct conversion, by what it is admitted with

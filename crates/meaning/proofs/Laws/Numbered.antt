@@ -60,7 +60,7 @@ one-fault s c l = go (decode (take 8 c)) refl
         )
 
 -- record number i after the first
-record-next : (c : List ℕ) (i : ℕ) → recordAt (drop 8 c) i ≡ recordAt c (suc i)
+pub record-next : (c : List ℕ) (i : ℕ) → recordAt (drop 8 c) i ≡ recordAt c (suc i)
 record-next c i = ap (take 8) (drop-drop (8 * i) 8 c ∙ ap (λ n. drop n c) (let e : 8 + 8 * i ≡ 8 * suc i = omega (arith, mul-suc 8 i) in e))
 
 fault-next : (c : List ℕ) (k : ℕ) → Fault (drop 8 c) k → Fault c k

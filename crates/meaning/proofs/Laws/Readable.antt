@@ -13,7 +13,7 @@ use lib.IntN.{ℤ, pos, natAbs}
 use lib.ListN.{length, getD, length-append}
 use lib.Seq.{append-snoc, take-at, drop-at}
 use Rattle.lists.specs.Lists.{Each, flatMap, atLast, lastD, optional}
-use Rattle.lists.proofs.Laws.Tests.{of-T, of-not, or-cases, by-cases, eq→eqb, ne→neqb}
+use Rattle.lists.proofs.Laws.Tests.{of-T, of-not, refute, neither, or-cases, by-cases, eq→eqb, ne→neqb}
 use Rattle.lists.proofs.Laws.Each.{each-weaken}
 use Rattle.lists.proofs.Laws.Reordered.{reordered-sym, reordered-each}
 use Rattle.lists.proofs.Laws.Last.{lastD-snoc}
@@ -28,10 +28,6 @@ use Rattle.meaning.proofs.Laws.Encoding.{signed-of-bits, half-16, half-
 
 -- tests that fail
 
-neither : (a b : Bool) → T (not a) → T (not b) → T (not (a || b))
-neither true b s t = s
-neither false b s t = t
-
 pub not-both : (a b : Bool) → (T a → T (not b)) → T (not (a && b))
 not-both true b f = f tt
 not-both false b f = tt
@@ -41,10 +37,6 @@ not-leb m n h = not-T (leb m n) (λ t. let k = leb→le m n t in omega arith)
 
 pub not-ltb : (m n : ℕ) → n ≤ m → T (not (ltb m n))
 not-ltb m n h = not-T (ltb m n) (λ t. let k = ltb→lt m n t in omega arith)
-
-refute : (b : Bool) → T b → T (not (not b))
-refute true t = tt
-refute false t = t
 
 -- the bytes lead from one reading to another, record by record
 data Reads : Reading → List ℕ → Reading → Type 0 where

@@ -1,6 +1,6 @@
 -- Two terms may be taken in either order: where they are both taken in, they are so the other way round, and lead to the same reading.
 -- Coefficients at different positions do not meet, and of two terms with the same position the second is refused.
-use mathlib.Core.Bool.{Bool, true, false, _||_, not}
+use mathlib.Core.Bool.{_||_, not}
 use mathlib.Core.List.{List, [], _∷_}
 use mathlib.Core.Logic.{_≢_}
 use mathlib.Core.Option.{Option, none, some}
@@ -12,7 +12,7 @@ use lib.Dec.{T, T-not, eqb, leb}
 use lib.IntN.{ℤ, pos, natAbs}
 use lib.ListN.{getD}
 use Rattle.lists.specs.Lists.{atLast, lastD}
-use Rattle.lists.proofs.Laws.Tests.{or-none, not-not, holds, by-cases}
+use Rattle.lists.proofs.Laws.Tests.{or-none, not-not, refute, neither, holds, by-cases}
 use Rattle.lists.proofs.Laws.Last.{last-atLast, last-changed, atLast-none, atLast-comm}
 use Rattle.meaning.specs.Refusal.{Outcome, refused, accepted, andThen}
 use Rattle.meaning.specs.Table.{Output, sum, digit, Group, everyCharacter}
@@ -143,12 +143,10 @@ module _ (s : Reading) (p a : ℕ) where
 
   of-comes : Comes s p → T (not (misplaced s (term p a)))
   unfolding misplaced
-  of-comes f = none-of (eqb (s .kind) 3 || eqb (s .kind) 4) (leb (latest s .size) p) (repeated s p) (f .kind) (f .below) (f .new)
-    where
-      none-of : (a b c : Bool) → T a → T (not b) → T (not c) → T (not (not a || b || c))
-      none-of true true c x y z = absurd y
-      none-of true false c x y z = z
-      none-of false b c x y z = absurd x
+  of-comes f =
+      let kinds = eqb (s .kind) 3 || eqb (s .kind) 4 in
+      let outside = leb (latest s .size) p in
+      neither (not kinds || outside) (repeated s p) (neither (not kinds) outside (refute kinds (f .kind)) (f .below)) (f .new)
 
   module _ {B : Type 0} (f : Reading → Outcome B) (o : B) where
     -- a term that was taken might come, and what comes after it was accepted
