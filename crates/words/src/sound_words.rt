@@ -12,6 +12,7 @@ ghost use Rattle.automaton.specs.Sound.{stateCount, classCount, ruleCount, long
 ghost use Rattle.automaton.specs.Layout.{wordCount};
 use crate::layout::BLOCKS_FROM;
 use crate::layout::WORDS;
+use crate::levels::pass_in_levels;
 use crate::numbers::ClassNo;
 use crate::numbers::DEFAULT_RULE;
 use crate::numbers::RuleNo;
@@ -261,7 +262,7 @@ fn depth_sound(words: &[u16], state: StateNo) -> bool
 }
 
 // The state's "end", if it has one, names a rule.
-fn accept_at_end_sound(words: &[u16], state: StateNo) -> bool
+pub fn accept_at_end_sound(words: &[u16], state: StateNo) -> bool
     requires { ⌜ (wordCount ≤ length (now words)) × (ruleCount (now words) ≤ 32) × (state .0 < 256) ⌝ }
     ensures { λ r.
         ⌜ r ≡ implies (used (acceptAtEndWord (now (words .entry)) (state .0)))
@@ -275,7 +276,7 @@ fn accept_at_end_sound(words: &[u16], state: StateNo) -> bool
 }
 
 // The state's "go", if it has one, names an unanchored rule, and "a go comes with an end".
-fn accept_sound(words: &[u16], state: StateNo) -> bool
+pub fn accept_sound(words: &[u16], state: StateNo) -> bool
     requires { ⌜ (wordCount ≤ length (now words)) × (ruleCount (now words) ≤ 32) × (state .0 < 256) ⌝ }
     ensures { λ r.
         ⌜ r ≡ implies (used (acceptWord (now (words .entry)) (state .0)))
@@ -352,7 +353,8 @@ fn state_sound(words: &[u16], state: StateNo) -> bool
     targets_sound(words, state)
 }
 
-fn states_sound(words: &[u16]) -> bool
+// The states one by one.
+fn each_state_sound(words: &[u16]) -> bool
     requires { ⌜ (wordCount ≤ length (now words)) × (stateCount (now words) ≤ 256) × (classCount (now words) ≤ 64) × (ruleCount (now words) ≤ 32) ⌝ }
     ensures { λ r. ⌜ r ≡ forBelow (stateCount (now (words .entry))) (soundState (now (words .entry))) ⌝ }
 {
@@ -365,6 +367,17 @@ fn states_sound(words: &[u16]) -> bool
         state += 1;
     }
     true
+}
+
+// The states: those that our compiler wrote pass by their levels, others are tested one by one.
+fn states_sound(words: &[u16]) -> bool
+    requires { ⌜ (wordCount ≤ length (now words)) × (stateCount (now words) ≤ 256) × (classCount (now words) ≤ 64) × (longestWord (now words) ≤ 8) × (ruleCount (now words) ≤ 32) ⌝ }
+    ensures { λ r. ⌜ r ≡ forBelow (stateCount (now (words .entry))) (soundState (now (words .entry))) ⌝ }
+{
+    if pass_in_levels(words) {
+        return true;
+    }
+    each_state_sound(words)
 }
 
 // Only sound words make a machine.

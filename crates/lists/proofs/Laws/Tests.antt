@@ -8,6 +8,7 @@ use Prim.Native.Nat.{ℕ, zero, suc, _≤_, _<_}
 use native.Mathlib.Decide.{ℕ-discrete}
 use native.Mathlib.Omega.{arith}
 use borrow.Author.Tests.{not-true, not-false}
+use lib.Bits.{bitOr, or-add-and, and-le-l, and-le-r}
 use lib.Dec.{T, T-not, not-T, eqb, leb, eqb→eq, eqb-refl, leb→le, le→leb}
 use lib.ListN.{getD}
 use Rattle.lists.specs.Lists.{any, Each}
@@ -103,6 +104,21 @@ neqb→ne m n t e = T-not (eqb m n) t (eq→eqb m n e)
 
 pub ne→neqb : (m n : ℕ) → m ≢ n → T (not (eqb m n))
 ne→neqb m n h = not-T (eqb m n) (λ t. h (eqb→eq m n t))
+
+-- numbers joined bit by bit are 0 just where both are
+pub joined-none : (a b : ℕ) → eqb a 0 && eqb 0 b ≡ eqb (bitOr a b) 0
+joined-none a b =
+    test-eq (eqb a 0 && eqb 0 b) (eqb (bitOr a b) 0)
+    (λ t.
+    eq→eqb (bitOr a b) 0 (omega (
+      arith,
+      or-add-and a b,
+      eqb→eq a 0 (and-left (eqb a 0) (eqb 0 b) t),
+      eqb→eq 0 b (and-right (eqb a 0) (eqb 0 b) t),
+    )))
+    (λ t.
+    let none : bitOr a b ≡ 0 = eqb→eq (bitOr a b) 0 t in
+    both (eqb a 0) (eqb 0 b) (eq→eqb a 0 (omega (arith, or-add-and a b, and-le-r a b))) (eq→eqb 0 b (omega (arith, or-add-and a b, and-le-l a b))))
 
 -- what holds of each number of a list holds of one that is among them
 pub one-of : (P : ℕ → Type 0) (ks : List ℕ) → Each P ks → (n : ℕ) → T (any (eqb n) ks) → P n

@@ -4,29 +4,13 @@ use mathlib.Core.Bool.{_&&_}
 use mathlib.Core.Path.{_≡_, refl, sym, ap, _∙_}
 use Prim.Native.Nat.{ℕ, _+_, _-_, _≤_}
 use native.Mathlib.Omega.{arith}
-use lib.Bits.{bitOr, or-add-and, and-le-l, and-le-r}
-use lib.Dec.{eqb, eqb→eq}
+use lib.Dec.{eqb}
 use lib.ListN.{length, getD, take, drop}
 use Rattle.lists.specs.Lists.{all}
-use Rattle.lists.proofs.Laws.Tests.{test-eq, and-left, and-right, both, and-true, and-assoc, eq→eqb}
+use Rattle.lists.proofs.Laws.Tests.{and-true, and-assoc, joined-none}
 use Rattle.reckoning.proofs.Laws.Keeping.{held-next, held-done}
 use Rattle.session.proofs.uses.others_unused.Statement.{statement}
 use Rattle.session.proofs.uses.others_unused.Tie as tie
-
--- numbers joined are 0 where both are
-joined-none : (a b : ℕ) → eqb a 0 && eqb 0 b ≡ eqb (bitOr a b) 0
-joined-none a b =
-    test-eq (eqb a 0 && eqb 0 b) (eqb (bitOr a b) 0)
-    (λ t.
-    eq→eqb (bitOr a b) 0 (omega (
-      arith,
-      or-add-and a b,
-      eqb→eq a 0 (and-left (eqb a 0) (eqb 0 b) t),
-      eqb→eq 0 b (and-right (eqb a 0) (eqb 0 b) t),
-    )))
-    (λ t.
-    let none : bitOr a b ≡ 0 = eqb→eq (bitOr a b) 0 t in
-    both (eqb a 0) (eqb 0 b) (eq→eqb a 0 (omega (arith, or-add-and a b, and-le-r a b))) (eq→eqb 0 b (omega (arith, or-add-and a b, and-le-l a b))))
 
 abbrev Inv-loop : tie.InvT-loop
 Inv-loop uses rules joined₀ i₀ joined i =

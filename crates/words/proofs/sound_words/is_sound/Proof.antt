@@ -61,7 +61,7 @@ states-sound-requires : tie.Need-states-sound-requires
 states-sound-requires c κs =
     let e = c .before .before .before .before in
     let s = small e in
-    (e .before .before .if1 .left, s .0, s .1, s .4)
+    (e .before .before .if1 .left, s .0, s .1, s .2, s .4)
 
 returns-5 : tie.Need-returns-5
 returns-5 c =
