@@ -34,7 +34,7 @@ returns c =
       begun = l .loop .inv .0;
       inside = l .loop .inv .1;
       level = l .loop .inv .2;
-      whole = λ h e. c .if1 .taken (c .before .depth-word .ensures ∙ e);
+      whole = λ h e. let no : ⊥ = omega (arith, c .if1 .taken, c .before .depth-word .ensures) in no;
     }
 
 add-end : tie.Need-add-end Inv-loop μ-loop
