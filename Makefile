@@ -1,5 +1,6 @@
 # `make demo` converts two samples, unproved; `make build` proves and builds the library and the program; `make test` is the gate;
-# `make install` installs the library; `make tables` builds the tables; `make bench` times the library.
+# `make install` installs the library; `make tables` builds the tables; `make bench` times the library
+# beside the build before and beside rivals.
 .PHONY: demo build test install tables bench fmt
 
 demo:
@@ -36,8 +37,14 @@ tables: target/staticlib/libcobbletwill.a
 	    echo "$$folder" && target/cargo/release/build_table "$$folder/rules.txt" "$$folder/rules.tab" || exit 1; \
 	done
 
-bench: build
-	cargo run --release --offline --locked --quiet --manifest-path compare/Cargo.toml --target-dir target/cargo --features flex --bin bench
+# The library, proved, beside that of an earlier commit and beside rivals; prints the tables of docs/PERFORMANCE.md. BEFORE is the landing before
+# this one, and each landing sets it anew.
+BEFORE ?= f99be23
+bench:
+	@command -v flex > /dev/null || { echo 'bench: flex is missing; apt-get install flex' >&2; exit 1; }
+	@bash .ci/build
+	@bash compare/before.sh $(BEFORE)
+	cargo run --release --offline --locked --quiet --manifest-path compare/Cargo.toml --target-dir target/cargo --features before,flex --bin bench
 
 fmt:
 	rt fmt

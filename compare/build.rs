@@ -1,12 +1,18 @@
-//! With the feature `flex`, links the scanners that flex generates.
+//! With the feature `flex`, links the scanners that flex generates, and with the feature
+//! `before` the library of an earlier commit beside the one that is there now.
 
 use std::env;
+use std::path::Path;
 use std::process::Command;
 
 fn main() {
     println!("cargo::rerun-if-changed=build.rs");
     if env::var_os("CARGO_FEATURE_FLEX").is_some() {
         build_scanners();
+    }
+    if env::var_os("CARGO_FEATURE_BEFORE").is_some() {
+        link_build("now", "../target/staticlib/libcobbletwill.a");
+        link_build("before", "../target/before/libcobbletwill.a");
     }
 }
 
@@ -37,6 +43,27 @@ fn build_scanners() {
     println!("cargo::rustc-link-search=native={folder}");
     println!("cargo::rustc-link-lib=static=t1");
     println!("cargo::rerun-if-changed=flex/t1.l");
+}
+
+/// Links a copy of a build of the library, whose names begin with the build's, so that
+/// there can be two; the functions of the C library that it calls keep theirs. Its own
+/// functions begin at multiples of 64 bytes: at multiples of 16, as the linker puts them
+/// else, the place alone can make the same machine code slower by a third.
+fn link_build(name: &str, library: &str) {
+    let is_there = Path::new(library).exists();
+    assert!(is_there, "{library} is missing: see README.md");
+    let folder = variable("OUT_DIR");
+    let copy = format!("{folder}/lib{name}.a");
+    let prefix = format!("--prefix-symbols={name}_");
+    let alignment = "--set-section-alignment=.text.*=64";
+    run("objcopy", &[&prefix, alignment, library, &copy]);
+    for called in ["memcpy", "memset"] {
+        let name = format!("--redefine-sym={name}_{called}={called}");
+        run("objcopy", &[&name, &copy]);
+    }
+    println!("cargo::rustc-link-search=native={folder}");
+    println!("cargo::rustc-link-lib=static={name}");
+    println!("cargo::rerun-if-changed={library}");
 }
 
 /// Runs a program, which must succeed.

@@ -9,15 +9,25 @@ pub use cobbletwill::{Session, Tally};
 use reference::direct::Conversion;
 use reference::meaning::Ending;
 
+/// Direct conversion, whose answer is in the independent version's terms.
+///
+/// # Panics
+///
+/// As [`conversion`].
+pub fn converted(table: &[u8], input: &[u16], output: &mut [u16]) -> Result<Conversion, u32> {
+    let (mut place, mut count) = (0, 0);
+    let answer = convert(table, input, output, &mut place, &mut count);
+    conversion(answer, place, count)
+}
+
 /// What direct conversion answers, in the independent version's terms, or the
 /// number of the refusal.
 ///
 /// # Panics
 ///
 /// If a place or a count doesn't fit, which no conversion of a slice has.
-pub fn converted(table: &[u8], input: &[u16], output: &mut [u16]) -> Result<Conversion, u32> {
-    let (mut place, mut count) = (0, 0);
-    let ending = match convert(table, input, output, &mut place, &mut count) {
+pub fn conversion(answer: u32, place: u64, count: u64) -> Result<Conversion, u32> {
+    let ending = match answer {
         OK => Ending::Closed,
         STOPPED => Ending::Stopped,
         refusal => return Err(refusal),

@@ -15,6 +15,7 @@
 //! - [`uses`]: sessions with uses of many rules, and damage to their counts
 //! - [`fast`]: the rollback machine written for speed
 //! - `flex`: T1's rules as a scanner that flex generates (feature `flex`)
+//! - `builds`: the library now and as it was before, in one program (feature `before`)
 //!
 //! `tests/` compares them; the program `bench` times them.
 
@@ -22,6 +23,8 @@
 #![warn(missing_docs)]
 
 pub mod both;
+#[cfg(feature = "before")]
+pub mod builds;
 pub mod calls;
 pub mod cases;
 pub mod damage;

@@ -1,65 +1,59 @@
-//! Direct conversion, by the library and by the independent version.
+//! Direct conversion, by both builds and by the independent version.
 
 use std::hint::black_box;
 use std::time::Duration;
 
-use compare::face;
-use reference::direct;
+use compare::face::conversion;
+use reference::direct::{self, Conversion};
 
 use crate::inputs::{inputs, Input, FILL, LENGTH};
-use crate::timing::{each, ratio, worked};
+use crate::tables::Table;
+use crate::timing::{best, nanoseconds, worked};
+use crate::versions::Version;
 
 /// Runs of each conversion, of which the best counts.
 const RUNS: usize = 25;
 
 /// Prints the times.
 pub fn print() {
+    println!("## Direct conversion");
+    println!();
     println!(
-        "Direct conversion under T1, and of bytes as two digits, {LENGTH} characters, best of {RUNS} runs, in nanoseconds of processor \
-         time a character."
-    );
-    println!(
-        "Both write into one buffer of E × {LENGTH} characters, which is filled before each run, outside the time, \
-         and not cleared within it."
-    );
-    println!(
-        "The library writes its text there at once; the reference gathers it in a list that grows, and copies that."
+        "In nanoseconds a character, {LENGTH} characters under T1, and bytes as two digits, best of {RUNS} runs. All write into one \
+         buffer of E × {LENGTH} characters, which is filled before each run, outside the time, and not cleared within it. The library \
+         writes its text there at once; the independent version gathers it in a list that grows, and copies that."
     );
     println!();
-    println!("| input | library | reference | library / reference |");
-    println!("|---|---:|---:|---:|");
+    let table = Table::new(&["input"], &["independent"], &[], 2);
     for input in inputs() {
-        let [library, reference] = best(&input);
-        println!(
-            "| {} | {:.2} | {:.2} | {:.2} |",
-            input.name,
-            each(library, LENGTH),
-            each(reference, LENGTH),
-            ratio(library, reference)
-        );
+        table.print_row(&[input.name], &nanoseconds(&times(&input), LENGTH), &[]);
     }
 }
 
-/// The best times of the library and of the independent version, whose runs take
-/// turns and whose answers and outputs are compared.
-fn best(input: &Input) -> [Duration; 2] {
-    let (table, text) = (&input.table[..], &input.text[..]);
-    let mut best = [Duration::MAX; 2];
+/// The best times of all, whose answers and outputs are compared.
+fn times(input: &Input) -> Vec<Duration> {
     let mut output = vec![FILL; input.most_outputs() * LENGTH];
-    for _ in 0..RUNS {
+    let answer = convert(Version::Independent, input, &mut output);
+    let text = output.clone();
+    best(RUNS, &Version::ALL, |version| {
         output.fill(FILL);
-        let (library, time) =
-            worked(|| face::converted(black_box(table), black_box(text), &mut output));
-        best[0] = best[0].min(time);
-        let written = output.clone();
+        let (other, time) = worked(|| convert(version, black_box(input), &mut output));
+        assert_eq!(other, answer, "{}", version.name());
+        assert!(output == text, "{}: another output", version.name());
+        time
+    })
+}
 
-        output.fill(FILL);
-        let (reference, time) =
-            worked(|| direct::convert(black_box(table), black_box(text), &mut output));
-        best[1] = best[1].min(time);
-
-        assert_eq!(library.ok(), reference.ok());
-        assert!(written == output, "the outputs differ");
-    }
-    best
+/// Converts an input, which is accepted.
+fn convert(version: Version, input: &Input, output: &mut [u16]) -> Conversion {
+    let (table, text) = (&input.table[..], &input.text[..]);
+    let converted = match version {
+        Version::Library(build) => {
+            let (mut place, mut count) = (0, 0);
+            let answer = build.convert(table, text, output, &mut place, &mut count);
+            conversion(answer, place, count).ok()
+        }
+        Version::Independent => direct::convert(table, text, output).ok(),
+    };
+    converted.expect("the tables and lengths are accepted")
 }

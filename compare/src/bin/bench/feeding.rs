@@ -1,86 +1,80 @@
-//! Feeds of an input in pieces, and the finish: by the library, by the machine
-//! written for speed, and by the scanners that flex generates if there are any.
+//! Feeds of an input in pieces, and the finish: by both builds, by the machine written
+//! for speed, and by the scanners that flex generates.
 
 use std::hint::black_box;
 use std::time::Duration;
 
-use compare::face::{self, Session};
+use compare::builds::Build;
+use compare::face::{Session, OK, OPEN};
 use compare::fast::Fast;
+use compare::flex::{scan, Tables};
 use reference::compile::compiled;
 
 use crate::inputs::{inputs, Input, FILL, LENGTH};
-use crate::timing::{each, ratio, worked};
+use crate::tables::Table;
+use crate::timing::{best, nanoseconds, worked};
+use crate::versions::BUILDS;
 
 /// The lengths of pieces, each with the runs of which the best counts.
 const PIECES: [(usize, usize); 2] = [(1 << 16, 100), (16, 25)];
 
-/// What feeds and the finish came to.
+/// Who converts.
+#[derive(Clone, Copy)]
+enum By {
+    /// A build of the library.
+    Library(&'static Build),
+    /// The machine written for speed.
+    Rust,
+    /// A scanner that flex generates.
+    Flex(Tables),
+}
+
+/// What a run came to: the number of characters in the buffer, and the session, which
+/// scanners don't have.
 struct Fed {
-    session: Session,
-    text: Vec<u16>,
+    session: Option<Session>,
+    written: usize,
     time: Duration,
 }
 
-/// The best times, and those of the scanners: with usual tables, with the fastest.
-struct Best {
-    library: Duration,
-    fast: Duration,
-    flex: [Option<Duration>; 2],
-}
-
-/// An input, the machine of its table, and a buffer for all of its output.
+/// An input, also in bytes, the machine of its table, and a buffer for all of its
+/// output.
 struct Feeding {
+    input: Input,
+    bytes: Vec<u8>,
     words: Vec<u16>,
     fast: Fast,
-    input: Input,
     output: Vec<u16>,
 }
 
 /// Prints the times.
 pub fn print() {
+    println!("## Feed and finish");
+    println!();
     println!(
-        "Feeds and the finish under T1, and of bytes as two digits, {LENGTH} characters in pieces, in nanoseconds of processor time a \
-         character."
-    );
-    println!(
-        "Pieces of 65,536 characters, best of {}, and of 16, best of {}. All write into one buffer of E × ({LENGTH} + 8) \
-         characters, which is filled before each run, outside the time.",
+        "In nanoseconds a character, {LENGTH} characters under T1, and bytes as two digits. Pieces of 65,536 characters, best of {} \
+         runs, and of 16, best of {}. All write into one buffer of E × ({LENGTH} + 8) characters, which is filled before each run, \
+         outside the time.",
         PIECES[0].1, PIECES[1].1
     );
     println!();
-    println!("| input | piece | library | Rust | flex | flex -Cfa | library / Rust | library / flex | library / flex -Cfa |");
-    println!("|---|---:|---:|---:|---:|---:|---:|---:|---:|");
+    let table = Table::new(&["input", "piece"], &["Rust", "flex", "flex -Cfa"], &[], 2);
     for (piece, runs) in PIECES {
         for input in inputs() {
             let mut feeding = Feeding::of(input);
-            let best = feeding.best(piece, runs);
-            print_row(feeding.input.name, piece, &best);
+            let times = nanoseconds(&feeding.times(piece, runs), LENGTH);
+            table.print_row(&[feeding.input.name, &piece.to_string()], &times, &[]);
         }
     }
-}
-
-/// Prints a row.
-fn print_row(name: &str, piece: usize, best: &Best) {
-    let shown =
-        |number: Option<f64>| number.map_or("-".to_string(), |number| format!("{number:.2}"));
-    let [usual, fastest] = best.flex;
-    println!(
-        "| {name} | {piece} | {:.2} | {:.2} | {} | {} | {:.2} | {} | {} |",
-        each(best.library, LENGTH),
-        each(best.fast, LENGTH),
-        shown(usual.map(|flex| each(flex, LENGTH))),
-        shown(fastest.map(|flex| each(flex, LENGTH))),
-        ratio(best.library, best.fast),
-        shown(usual.map(|flex| ratio(best.library, flex))),
-        shown(fastest.map(|flex| ratio(best.library, flex)))
-    );
 }
 
 impl Feeding {
     /// An input with what is needed to feed it.
     fn of(input: Input) -> Feeding {
         let words = compiled(&input.table).expect("the tables compile");
+        let byte = |&character: &u16| u8::try_from(character).expect("characters of one byte");
         Feeding {
+            bytes: input.text.iter().map(byte).collect(),
             fast: Fast::new(&words).expect("compiled words are sound"),
             words,
             output: vec![FILL; input.most_outputs() * (LENGTH + 8)],
@@ -88,60 +82,58 @@ impl Feeding {
         }
     }
 
-    /// The best times of all, whose runs take turns and whose sessions and
-    /// texts are compared.
-    fn best(&mut self, piece: usize, runs: usize) -> Best {
-        let mut best = Best {
-            library: Duration::MAX,
-            fast: Duration::MAX,
-            flex: [None; 2],
-        };
-        for _ in 0..runs {
-            let library = self.by_library(piece);
-            let fast = self.by_fast(piece);
-            assert_eq!(library.session, fast.session);
-            assert!(library.text == fast.text, "the texts differ");
-            best.library = best.library.min(library.time);
-            best.fast = best.fast.min(fast.time);
-            let scanned = match self.input.scanned {
-                true => self.by_flex(piece),
-                false => Vec::new(),
-            };
-            for (best, (text, time)) in best.flex.iter_mut().zip(scanned) {
-                assert!(library.text == text, "the texts differ");
-                *best = Some(best.map_or(time, |best| best.min(time)));
-            }
+    /// The best times of all who can convert the input, whose sessions and texts are
+    /// compared.
+    fn times(&mut self, piece: usize, runs: usize) -> Vec<Duration> {
+        let expected = self.run(By::Rust, piece);
+        let text = self.output[..expected.written].to_vec();
+        let [before, now] = BUILDS.map(By::Library);
+        let mut contenders = vec![before, now, By::Rust];
+        if self.input.scanned {
+            contenders.extend([Tables::Usual, Tables::Fastest].map(By::Flex));
         }
-        best
+        best(runs, &contenders, |by| {
+            let fed = self.run(by, piece);
+            assert!(fed.session.is_none() || fed.session == expected.session);
+            assert!(self.output[..fed.written] == text, "another text");
+            fed.time
+        })
     }
 
-    /// By the library.
-    fn by_library(&mut self, piece: usize) -> Fed {
+    /// A run over the input, whose text is then in the buffer.
+    fn run(&mut self, by: By, piece: usize) -> Fed {
         self.output.fill(FILL);
+        match by {
+            By::Library(build) => self.by_library(build, piece),
+            By::Rust => self.by_fast(piece),
+            By::Flex(tables) => self.by_flex(tables, piece),
+        }
+    }
+
+    /// By a build of the library.
+    fn by_library(&mut self, build: &Build, piece: usize) -> Fed {
         let (words, output) = (black_box(&self.words[..]), &mut self.output);
         let (mut session, mut written, mut count) = (Session::FRESH, 0, 0);
         let ((), time) = worked(|| {
             for piece in black_box(&self.input.text[..]).chunks(piece) {
-                let answer = face::feed(
-                    words,
-                    &mut session,
-                    piece,
-                    &mut output[written..],
-                    &mut count,
-                );
-                assert_eq!(answer, face::OPEN);
+                let room = &mut output[written..];
+                let answer = build.feed(words, &mut session, piece, room, &mut count);
+                assert_eq!(answer, OPEN, "{}", build.name);
                 written += count as usize;
             }
-            let answer = face::finish(words, &mut session, &mut output[written..], &mut count);
-            assert_eq!(answer, face::OK);
+            let answer = build.finish(words, &mut session, &mut output[written..], &mut count);
+            assert_eq!(answer, OK, "{}", build.name);
             written += count as usize;
         });
-        self.fed(session, written, time)
+        Fed {
+            session: Some(session),
+            written,
+            time,
+        }
     }
 
     /// By the machine written for speed.
     fn by_fast(&mut self, piece: usize) -> Fed {
-        self.output.fill(FILL);
         let (fast, output) = (black_box(&self.fast), &mut self.output);
         let (mut session, mut written) = (Session::FRESH, 0);
         let ((), time) = worked(|| {
@@ -150,36 +142,20 @@ impl Feeding {
             }
             written += fast.finish(&mut session, &mut output[written..]);
         });
-        self.fed(session, written, time)
-    }
-
-    /// By the scanners that flex generates; their texts and times.
-    #[cfg(feature = "flex")]
-    fn by_flex(&mut self, piece: usize) -> Vec<(Vec<u16>, Duration)> {
-        use compare::flex::{scan, Tables};
-        let text = self.input.text.iter();
-        let bytes: Vec<u8> = text.map(|&character| character as u8).collect();
-        let mut scanned = |tables| {
-            self.output.fill(FILL);
-            let output = &mut self.output;
-            let (written, time) = worked(|| scan(tables, black_box(&bytes), piece, output));
-            (self.output[..written].to_vec(), time)
-        };
-        vec![scanned(Tables::Usual), scanned(Tables::Fastest)]
-    }
-
-    /// No scanner was generated.
-    #[cfg(not(feature = "flex"))]
-    fn by_flex(&mut self, _piece: usize) -> Vec<(Vec<u16>, Duration)> {
-        Vec::new()
-    }
-
-    /// What a run came to, whose text is in the buffer.
-    fn fed(&self, session: Session, written: usize, time: Duration) -> Fed {
-        let text = self.output[..written].to_vec();
         Fed {
-            session,
-            text,
+            session: Some(session),
+            written,
+            time,
+        }
+    }
+
+    /// By a scanner that flex generates.
+    fn by_flex(&mut self, tables: Tables, piece: usize) -> Fed {
+        let (bytes, output) = (black_box(&self.bytes[..]), &mut self.output);
+        let (written, time) = worked(|| scan(tables, bytes, piece, output));
+        Fed {
+            session: None,
+            written,
             time,
         }
     }

@@ -1,8 +1,8 @@
-//! Times the proved library against other versions, in one run, and prints
-//! tables for docs/PERFORMANCE.md: direct conversion, compiling and live and dead
-//! rules against the independent version, feeds against a machine written for speed
-//! and a scanner that flex generates, previews against feeds, single calls, and typed
-//! texts against the independent version.
+//! Times the proved library beside the build before and beside other versions, in one
+//! run, and prints the tables of docs/PERFORMANCE.md: the test of words, single calls,
+//! feeds beside a machine written for speed and scanners that flex generates, compiling
+//! and direct conversion beside the independent version, previews beside feeds, and
+//! live and dead rules and typed texts beside the independent version.
 
 mod calls;
 mod compiling;
@@ -10,18 +10,22 @@ mod converting;
 mod feeding;
 mod inputs;
 mod previewing;
+mod tables;
+mod testing;
 mod timing;
 mod typing;
+mod versions;
 mod witnessing;
 
 /// What is timed.
-const SUBJECTS: [(&str, fn()); 7] = [
-    ("converting", converting::print),
-    ("compiling", compiling::print),
-    ("witnessing", witnessing::print),
-    ("feeding", feeding::print),
-    ("previewing", previewing::print),
+const SUBJECTS: [(&str, fn()); 8] = [
+    ("testing", testing::print),
     ("calls", calls::print),
+    ("feeding", feeding::print),
+    ("compiling", compiling::print),
+    ("converting", converting::print),
+    ("previewing", previewing::print),
+    ("witnessing", witnessing::print),
     ("typing", typing::print),
 ];
 

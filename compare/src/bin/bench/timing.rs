@@ -1,7 +1,7 @@
-//! Times.
+//! Times of the processor, the best of several turns.
 
 use std::hint::black_box;
-use std::time::{Duration, Instant};
+use std::time::Duration;
 
 /// The declaration of the C library's clocks on x86-64 Linux.
 mod c {
@@ -39,19 +39,33 @@ pub fn worked<T>(run: impl FnOnce() -> T) -> (T, Duration) {
     (answer, taken() - start)
 }
 
-/// What a short function answers, and the time that it takes.
-pub fn timed<T>(run: impl FnOnce() -> T) -> (T, Duration) {
-    let start = Instant::now();
-    let answer = black_box(run());
-    (answer, start.elapsed())
+/// The best time of each contender over so many turns. In every other turn they come in
+/// the reverse order, so that none always follows the same one.
+pub fn best<T: Copy>(
+    turns: usize,
+    contenders: &[T],
+    mut run: impl FnMut(T) -> Duration,
+) -> Vec<Duration> {
+    let mut best = vec![Duration::MAX; contenders.len()];
+    for turn in 0..turns {
+        for place in 0..contenders.len() {
+            let who = match turn % 2 {
+                0 => place,
+                _ => contenders.len() - 1 - place,
+            };
+            best[who] = best[who].min(run(contenders[who]));
+        }
+    }
+    best
 }
 
 /// Nanoseconds for each of so many.
-pub fn each(time: Duration, count: usize) -> f64 {
-    time.as_secs_f64() * 1e9 / count as f64
+pub fn nanoseconds(times: &[Duration], count: usize) -> Vec<f64> {
+    let each = |time: &Duration| time.as_secs_f64() * 1e9 / count as f64;
+    times.iter().map(each).collect()
 }
 
-/// One time in another.
-pub fn ratio(time: Duration, other: Duration) -> f64 {
-    time.as_secs_f64() / other.as_secs_f64()
+/// Microseconds for each of so many.
+pub fn microseconds(times: &[Duration], count: usize) -> Vec<f64> {
+    nanoseconds(times, 1000 * count)
 }

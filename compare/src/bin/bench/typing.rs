@@ -1,42 +1,47 @@
-//! Reading typed texts, by the library and by the independent version.
+//! Reading typed texts, by both builds and by the independent version.
 
 use std::hint::black_box;
 use std::time::Duration;
 
-use compare::face::{self, TABLE};
+use compare::face::TABLE;
 use compare::typed::longest_text;
 use reference::builder::characters;
 use reference::typed::from_text;
 
 use crate::inputs::LENGTH;
-use crate::timing::{each, ratio, worked};
+use crate::tables::Table;
+use crate::timing::{best, nanoseconds, worked};
+use crate::versions::{number, Version};
 
 /// Runs of each reading, of which the best counts.
-const RUNS: usize = 25;
+const RUNS: usize = 50;
 /// What every byte of the buffer is before a run.
 const FILL: u8 = 0xa5;
 
 /// Prints the times.
 pub fn print() {
-    println!("Reading typed texts, best of {RUNS} runs, in nanoseconds of processor time a character, and in microseconds a text.");
-    println!("Both write into one buffer of {TABLE} bytes, which is filled before each run, outside the time.");
+    println!("## Reading typed rules");
     println!();
-    println!("| text | characters | answer | library | reference | library, µs | reference, µs | library / reference |");
-    println!("|---|---:|---:|---:|---:|---:|---:|---:|");
+    println!(
+        "In nanoseconds a character, best of {RUNS} runs. All write into one buffer of {TABLE} bytes, which is filled before each run, \
+         outside the time."
+    );
+    println!();
+    let table = Table::new(
+        &["text", "characters", "answer"],
+        &["independent"],
+        &["now, ms a text"],
+        2,
+    );
     let texts = [
         ("lines over and over, 17 at the end", refused_at_end()),
         ("the longest table, 3377 records", longest_text()),
     ];
     for (name, text) in texts {
-        let (answer, [library, reference]) = best(&text);
-        let [by_library, by_reference] = [library, reference].map(|time| each(time, text.len()));
-        println!(
-            "| {name} | {} | {answer} | {by_library:.2} | {by_reference:.2} | {:.0} | {:.0} | {:.2} |",
-            text.len(),
-            library.as_secs_f64() * 1e6,
-            reference.as_secs_f64() * 1e6,
-            ratio(library, reference)
-        );
+        let (answer, times) = times(&text);
+        let subject = [name, &text.len().to_string(), &answer.to_string()];
+        let whole = times[1].as_secs_f64() * 1e3;
+        table.print_row(&subject, &nanoseconds(&times, text.len()), &[whole]);
     }
 }
 
@@ -51,24 +56,26 @@ fn refused_at_end() -> Vec<u16> {
     text
 }
 
-/// What a text is answered, and the best times of the library and of the
-/// independent version, whose runs take turns and whose buffers are compared.
-fn best(text: &[u16]) -> (u32, [Duration; 2]) {
-    let mut best = [Duration::MAX; 2];
-    let mut answer = face::OK;
-    let (mut table, mut expected, mut written) = ([FILL; TABLE], [FILL; TABLE], 0);
-    for _ in 0..RUNS {
+/// What a text is answered, and the best times of all, whose answers and buffers are
+/// compared.
+fn times(text: &[u16]) -> (u32, Vec<Duration>) {
+    let mut table = [FILL; TABLE];
+    let answer = read(Version::Independent, text, &mut table);
+    let expected = table;
+    let times = best(RUNS, &Version::ALL, |version| {
         table.fill(FILL);
-        let (library, time) = worked(|| face::from_text(black_box(text), &mut table, &mut written));
-        best[0] = best[0].min(time);
+        let (other, time) = worked(|| read(version, black_box(text), &mut table));
+        assert_eq!(other, answer, "{}", version.name());
+        assert!(table == expected, "{}: another table", version.name());
+        time
+    });
+    (answer, times)
+}
 
-        expected.fill(FILL);
-        let (reference, time) = worked(|| from_text(black_box(text), &mut expected));
-        best[1] = best[1].min(time);
-
-        answer = reference.map_or_else(|refusal| u32::from(refusal.number()), |_| face::OK);
-        assert_eq!(library, answer);
-        assert!(table == expected, "the buffers differ");
+/// Reads a text; the answer's number.
+fn read(version: Version, text: &[u16], table: &mut [u8]) -> u32 {
+    match version {
+        Version::Library(build) => build.from_text(text, table, &mut 0),
+        Version::Independent => number(from_text(text, table)),
     }
-    (answer, best)
 }

@@ -1,84 +1,76 @@
-//! Live and dead rules: every rule of a table, by the library and by the independent
+//! Live and dead rules: every rule of a table, by both builds and by the independent
 //! version. Each call compiles the table.
 
 use std::hint::black_box;
 use std::time::Duration;
 
 use compare::cases::large_table;
-use compare::face::{self, Input, INPUT};
+use compare::face::{Input, INPUT, OK};
+use reference::compile::compiled;
 use reference::samples::t1;
 use reference::witness;
 use reference::words::WORDS;
 
 use crate::inputs::FILL;
-use crate::timing::{ratio, timed};
+use crate::tables::Table;
+use crate::timing::{best, microseconds, worked};
+use crate::versions::Version;
 
-/// Runs over all rules, of which the best counts.
-const RUNS: usize = 200;
+/// How often all rules are asked about together.
+const ROUNDS: usize = 4;
+/// Runs of so many rounds, of which the best counts.
+const RUNS: usize = 100;
 
 /// Prints the times.
 pub fn print() {
-    println!("Live and dead rules, a call for each rule of a table, best of {RUNS} runs, in microseconds.");
-    println!("Both compile into one buffer of {WORDS} words at each call.");
+    println!("## Rules that can be chosen");
     println!();
-    println!("| table | library | a rule | reference | a rule | library / reference |");
-    println!("|---|---:|---:|---:|---:|---:|");
+    println!(
+        "A call for each rule of a table, in microseconds for all of them, best of {RUNS} runs of {ROUNDS} rounds. All compile into \
+         one buffer of {WORDS} words at each call."
+    );
+    println!();
+    let table = Table::new(&["table"], &["independent"], &["now, a rule"], 1);
     let tables = [
         ("T1: 3 rules, 10 classes, 9 states", t1(), 3),
         ("32 rules, 64 classes, 256 states", large_table(0, 7), 32),
     ];
-    for (name, table, rules) in tables {
-        let [library, reference] = best(&table, rules);
-        let all = |time: Duration| time.as_secs_f64() * 1e6;
-        let each = |time: Duration| all(time) / f64::from(rules);
-        println!(
-            "| {name} | {:.1} | {:.1} | {:.1} | {:.1} | {:.2} |",
-            all(library),
-            each(library),
-            all(reference),
-            each(reference),
-            ratio(library, reference)
-        );
+    for (name, rules, count) in tables {
+        let times = microseconds(&times(&rules, count), ROUNDS);
+        table.print_row(&[name], &times, &[times[1] / f64::from(count)]);
     }
 }
 
-/// The best times of asking about all rules, which are live, by the library and by the
-/// independent version, whose runs take turns.
-fn best(table: &[u8], rules: u32) -> [Duration; 2] {
-    let mut best = [Duration::MAX; 2];
-    let (mut words, mut expected) = (vec![FILL; WORDS], vec![FILL; WORDS]);
-    for _ in 0..RUNS {
-        let (live, time) = timed(|| {
-            let ask = |rule: &u32| by_library(black_box(table), &mut words, *rule);
-            (0..rules).filter(ask).count()
-        });
-        best[0] = best[0].min(time);
-        assert_eq!(live, rules as usize);
+/// The best times of asking about all rules, which are live.
+fn times(rules: &[u8], count: u32) -> Vec<Duration> {
+    let expected = compiled(rules).expect("the table compiles");
+    let mut words = vec![FILL; WORDS];
+    best(RUNS, &Version::ALL, |version| {
+        words.fill(FILL);
+        let mut ask = |rule| is_live(version, black_box(rules), &mut words, rule);
+        let mut round = || (0..count).all(&mut ask);
+        let (live, time) = worked(|| (0..ROUNDS).all(|_| round()));
+        assert!(live, "{}: a dead rule", version.name());
+        assert!(words == expected, "{}: other words", version.name());
+        time
+    })
+}
 
-        let (live, time) = timed(|| {
-            let ask = |rule: &u32| by_reference(black_box(table), &mut expected, *rule);
-            (0..rules).filter(ask).count()
-        });
-        best[1] = best[1].min(time);
-        assert_eq!(live, rules as usize);
-        assert!(words == expected, "the words differ");
+/// Whether a rule is live.
+fn is_live(version: Version, rules: &[u8], words: &mut [u16], rule: u32) -> bool {
+    match version {
+        Version::Library(build) => {
+            let mut input = Input {
+                length: FILL,
+                characters: [FILL; INPUT],
+            };
+            let answer = build.witness(rules, words, rule, &mut input);
+            black_box(input);
+            answer == OK
+        }
+        Version::Independent => {
+            let answer = witness::witness(rules, words, rule).expect("the tables compile");
+            black_box(answer).is_some()
+        }
     }
-    best
-}
-
-/// Whether a rule is live, by the library.
-fn by_library(table: &[u8], words: &mut [u16], rule: u32) -> bool {
-    let mut input = Input {
-        length: FILL,
-        characters: [FILL; INPUT],
-    };
-    let answer = face::witness(table, words, rule, &mut input);
-    black_box(input);
-    answer == face::OK
-}
-
-/// Whether a rule is live, by the independent version.
-fn by_reference(table: &[u8], words: &mut [u16], rule: u32) -> bool {
-    let answer = witness::witness(table, words, rule).expect("the tables compile");
-    black_box(answer).is_some()
 }

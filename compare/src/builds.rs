@@ -1,0 +1,282 @@
+//! The library as it is now and that of an earlier commit, both in one program, to time
+//! them beside each other: the functions of `include/cobbletwill.h`, safe to call, each
+//! by a pointer. `build.rs` links both, under names that begin with the build's.
+
+use crate::face::{Input, Session, USES};
+
+/// Declares the functions of both builds, and gathers those of each.
+macro_rules! functions {
+    ($(fn $name:ident($($argument:ident: $type:ty),* $(,)?);)*) => {
+        /// The functions of a build, as C has them.
+        struct Functions {
+            $($name: unsafe extern "C" fn($($argument: $type),*) -> u32,)*
+        }
+
+        impl Functions {
+            /// Of the library as it is now.
+            const NOW: Functions = {
+                extern "C" {
+                    $(
+                        #[link_name = concat!("now_cobbletwill_", stringify!($name))]
+                        fn $name($($argument: $type),*) -> u32;
+                    )*
+                }
+                Functions { $($name),* }
+            };
+
+            /// Of the build before.
+            const BEFORE: Functions = {
+                extern "C" {
+                    $(
+                        #[link_name = concat!("before_cobbletwill_", stringify!($name))]
+                        fn $name($($argument: $type),*) -> u32;
+                    )*
+                }
+                Functions { $($name),* }
+            };
+        }
+    };
+}
+
+functions! {
+    fn convert(
+        table: *const u8,
+        table_length: usize,
+        input: *const u16,
+        input_length: usize,
+        output: *mut u16,
+        output_length: usize,
+        place: *mut u64,
+        written: *mut u64,
+    );
+
+    fn from_text(
+        text: *const u16,
+        text_length: usize,
+        table: *mut u8,
+        table_length: usize,
+        length: *mut u64,
+    );
+
+    fn compile(table: *const u8, table_length: usize, words: *mut u16, words_length: usize);
+
+    fn witness(
+        table: *const u8,
+        table_length: usize,
+        words: *mut u16,
+        words_length: usize,
+        rule: u32,
+        input: *mut Input,
+    );
+
+    fn is_sound(words: *const u16, words_length: usize);
+
+    fn feed_parts(
+        words: *const u16,
+        words_length: usize,
+        session: *mut Session,
+        uses: *mut [u64; USES],
+        piece: *const u16,
+        piece_length: usize,
+        output: *mut u16,
+        output_length: usize,
+        written: *mut u64,
+    );
+
+    fn finish_parts(
+        words: *const u16,
+        words_length: usize,
+        session: *mut Session,
+        uses: *mut [u64; USES],
+        output: *mut u16,
+        output_length: usize,
+        written: *mut u64,
+    );
+
+    fn preview_parts(
+        words: *const u16,
+        words_length: usize,
+        session: *const Session,
+        uses: *const [u64; USES],
+        piece: *const u16,
+        piece_length: usize,
+        later: *mut Session,
+        later_uses: *mut [u64; USES],
+        written: *mut u64,
+    );
+}
+
+/// A build of the library. Its methods answer as the functions of [`crate::face`].
+pub struct Build {
+    /// What it is called.
+    pub name: &'static str,
+    functions: Functions,
+}
+
+/// The library as it is now.
+pub static NOW: Build = Build {
+    name: "now",
+    functions: Functions::NOW,
+};
+
+/// The library as it was before.
+pub static BEFORE: Build = Build {
+    name: "before",
+    functions: Functions::BEFORE,
+};
+
+// SAFETY, for each call: the functions are those of the header. Each pointer and length
+// are those of a slice, sessions and inputs have the header's layout, and what is written
+// is borrowed for the call alone. Of a session that is lent in two parts a function
+// touches but the part before the counts, and the counts by their own pointer.
+impl Build {
+    /// Direct conversion.
+    #[inline]
+    pub fn convert(
+        &self,
+        table: &[u8],
+        input: &[u16],
+        output: &mut [u16],
+        place: &mut u64,
+        written: &mut u64,
+    ) -> u32 {
+        // SAFETY: as above.
+        unsafe {
+            (self.functions.convert)(
+                table.as_ptr(),
+                table.len(),
+                input.as_ptr(),
+                input.len(),
+                output.as_mut_ptr(),
+                output.len(),
+                place,
+                written,
+            )
+        }
+    }
+
+    /// The records of a typed text.
+    #[inline]
+    pub fn from_text(&self, text: &[u16], table: &mut [u8], length: &mut u64) -> u32 {
+        // SAFETY: as above.
+        unsafe {
+            (self.functions.from_text)(
+                text.as_ptr(),
+                text.len(),
+                table.as_mut_ptr(),
+                table.len(),
+                length,
+            )
+        }
+    }
+
+    /// Compiling.
+    #[inline]
+    pub fn compile(&self, table: &[u8], words: &mut [u16]) -> u32 {
+        // SAFETY: as above.
+        unsafe {
+            (self.functions.compile)(table.as_ptr(), table.len(), words.as_mut_ptr(), words.len())
+        }
+    }
+
+    /// Whether a rule can be chosen.
+    #[inline]
+    pub fn witness(&self, table: &[u8], words: &mut [u16], rule: u32, input: &mut Input) -> u32 {
+        // SAFETY: as above.
+        unsafe {
+            (self.functions.witness)(
+                table.as_ptr(),
+                table.len(),
+                words.as_mut_ptr(),
+                words.len(),
+                rule,
+                input,
+            )
+        }
+    }
+
+    /// The test of words.
+    #[inline]
+    pub fn is_sound(&self, words: &[u16]) -> u32 {
+        // SAFETY: as above.
+        unsafe { (self.functions.is_sound)(words.as_ptr(), words.len()) }
+    }
+
+    /// A feed.
+    #[inline]
+    pub fn feed(
+        &self,
+        words: &[u16],
+        session: &mut Session,
+        piece: &[u16],
+        output: &mut [u16],
+        written: &mut u64,
+    ) -> u32 {
+        let session: *mut Session = session;
+        // SAFETY: as above.
+        unsafe {
+            (self.functions.feed_parts)(
+                words.as_ptr(),
+                words.len(),
+                session,
+                &raw mut (*session).uses,
+                piece.as_ptr(),
+                piece.len(),
+                output.as_mut_ptr(),
+                output.len(),
+                written,
+            )
+        }
+    }
+
+    /// A finish.
+    #[inline]
+    pub fn finish(
+        &self,
+        words: &[u16],
+        session: &mut Session,
+        output: &mut [u16],
+        written: &mut u64,
+    ) -> u32 {
+        let session: *mut Session = session;
+        // SAFETY: as above.
+        unsafe {
+            (self.functions.finish_parts)(
+                words.as_ptr(),
+                words.len(),
+                session,
+                &raw mut (*session).uses,
+                output.as_mut_ptr(),
+                output.len(),
+                written,
+            )
+        }
+    }
+
+    /// A preview.
+    #[inline]
+    pub fn preview(
+        &self,
+        words: &[u16],
+        session: &Session,
+        piece: &[u16],
+        later: &mut Session,
+        written: &mut u64,
+    ) -> u32 {
+        let later: *mut Session = later;
+        // SAFETY: as above.
+        unsafe {
+            (self.functions.preview_parts)(
+                words.as_ptr(),
+                words.len(),
+                session,
+                &session.uses,
+                piece.as_ptr(),
+                piece.len(),
+                later,
+                &raw mut (*later).uses,
+                written,
+            )
+        }
+    }
+}
