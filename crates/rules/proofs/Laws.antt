@@ -12,3 +12,4 @@ pub mod Admitted
 pub mod Flattened
 pub mod Loading
 pub mod Converting
+pub mod Plain

@@ -16,7 +16,8 @@ use crate::load::Load;
 use crate::load::load_table;
 use crate::output::write_group;
 use crate::pattern::Choice;
-use crate::pattern::choose_at;
+use crate::plain::choose_marked;
+use crate::plain::mark_plain;
 
 // The place where a conversion ended and the characters written, or the refusal.
 pub enum Conversion {
@@ -72,10 +73,12 @@ fn convert_flat(
         let whole = flatConversion (now (loaded .entry)) rules defaulted (now (input .entry)) in
         now (output .exit) ≡ over (flatText (now (loaded .entry)) (whole .log)) (now (output .entry))) ⌝ }
 {
+    let marks = mark_plain(loaded, rules, input.len());
     let mut place = 0;
     let mut count = 0;
     while place < input.len() {
-        let Choice::Group(group) = choose_at(loaded, rules, defaulted, input, place) else {
+        let Choice::Group(group) = choose_marked(loaded, rules, defaulted, &marks, input, place)
+        else {
             return Conversion::Stopped { place, count };
         };
         count = write_group(loaded, group, input, place, output, count);

@@ -4,6 +4,7 @@ pub mod layout;
 pub mod load;
 pub mod output;
 pub mod pattern;
+pub mod plain;
 pub mod reader;
 pub mod record;
 pub mod safe;

@@ -13,25 +13,29 @@ use Rattle.rules.proofs.convert.convert_flat.Statement.{statement}
 use Rattle.rules.proofs.convert.convert_flat.Tie as tie
 
 abbrev Inv-loop : tie.InvT-loop
-Inv-loop loaded rules defaulted input output₀ place₀ count₀ output place count =
+Inv-loop loaded rules defaulted input output₀ marks place₀ count₀ output place count =
     Reached (tableAt loaded rules defaulted) loaded input output₀ output place count × (length output ≡ length output₀)
 
 abbrev μ-loop : tie.MeasureT-loop
-μ-loop loaded rules defaulted input output₀ place₀ count₀ output place count = length input - place
+μ-loop loaded rules defaulted input output₀ marks place₀ count₀ output place count = length input - place
 
 -- the array as a table
 abbrev table : tie.Start Inv-loop μ-loop → Table
 table s = let a = s .args in tableAt (a .loaded .now) (a .rules) (a .defaulted)
 
+mark-plain-requires : tie.Need-mark-plain-requires Inv-loop μ-loop
+mark-plain-requires c κs = let s = c .before .before .before in (s .pre .0, s .pre .1 .0)
+
 loop-holds : tie.Need-loop-holds Inv-loop μ-loop
 loop-holds c =
-    let s = c .before .before .before in
+    let s = c .before .before .before .before in
     (reached-start (table s) (s .args .loaded .now) (s .args .input .now) (s .args .output .now), refl)
 
-choose-at-requires : tie.Need-choose-at-requires Inv-loop μ-loop
-choose-at-requires c κs =
-    let s = c .before .before .before .before .before in
-    (s .pre .0, (s .pre .1 .0, search needs))
+choose-marked-requires : tie.Need-choose-marked-requires Inv-loop μ-loop
+choose-marked-requires c κs =
+    let marked = c .before .before .before in
+    let s = marked .before .before .before .before in
+    (s .pre .0, ((s .pre .1 .0, c .before .loop-test .taken), (s .pre .1 .1 .0, marked .mark-plain .ensures)))
 
 enum-known-group : tie.Need-enum-known-group Inv-loop μ-loop
 enum-known-group c = search needs
@@ -45,22 +49,25 @@ same-length c = search needs
 returns : tie.Need-returns Inv-loop μ-loop
 returns c =
     let called = c .before .before in
-    reached-stop (called .before .before .loop .inv .0) (called .before .loop-test .taken)
-    (called .choose-at .ensures) (ap choiceOf (c .enum-told .given .1))
+    reached-stop (called .before .before .before .loop .inv .0) (called .before .before .loop-test .taken)
+    (called .choose-marked .ensures) (ap choiceOf (c .enum-told .given .1))
 
 -- a turn in which a group was chosen
+abbrev turn : tie.After-group Inv-loop μ-loop → tie.At-loop Inv-loop μ-loop
+turn c = c .before .before .before .before .before
+
 abbrev start : tie.After-group Inv-loop μ-loop → tie.Start Inv-loop μ-loop
-start c = c .before .before .before .before .before .before .before .before
+start c = turn c .before .before .before .before .before
 
 taken :
     (c : tie.After-group Inv-loop μ-loop) →
-    Taken (table (start c)) (start c .args .loaded .now) (start c .args .input .now) (c .before .before .before .before .loop .place) (c .group .given .0 .0)
+    Taken (table (start c)) (start c .args .loaded .now) (start c .args .input .now) (turn c .loop .place) (c .group .given .0 .0)
 taken c =
     let s = start c in
     let called = c .before .before in
     choice-taken (s .args .loaded .now) (s .args .rules) (s .args .defaulted) (s .args .input .now)
-    (called .before .before .loop .place) (c .group .given .0 .0) (s .pre .1 .0) (s .pre .1 .1 .0) (s .pre .1 .1 .1 .0) (called .before .loop-test .taken)
-    (called .choose-at .ensures) (ap choiceOf (c .group .given .1))
+    (turn c .loop .place) (c .group .given .0 .0) (s .pre .1 .0) (s .pre .1 .1 .0) (s .pre .1 .1 .1 .0) (called .before .before .loop-test .taken)
+    (called .choose-marked .ensures) (ap choiceOf (c .group .given .1))
 
 write-group-requires : tie.Need-write-group-requires Inv-loop μ-loop
 write-group-requires c κs =
@@ -71,7 +78,7 @@ write-group-requires c κs =
       (k .below, omega (arith, flat .long)),
       (
         (flat .size g (k .below), flat .outputs g (k .below)),
-        (k .room, reached-room (b .before .before .before .before .loop .inv .0) k (start b .pre .1 .1 .1 .1)),
+        (k .room, reached-room (turn b .loop .inv .0) k (start b .pre .1 .1 .1 .1)),
       ),
     )
 
@@ -104,7 +111,7 @@ loop-again c =
     let after = c .before .before .before in
     let w = after .write-group in
     let b = after .before .before .before in
-    let inv = b .before .before .before .before .loop .inv in
+    let inv = turn b .loop .inv in
     (reached-step (inv .0) (taken b) (w .last .1 .1 .1 .1 .0) (w .result) (w .ensures .0) (w .ensures .1), w .kept .1 .1 .1 .1 .0 ∙ inv .1)
 
 same-length-2 : tie.Need-same-length-2 Inv-loop μ-loop
@@ -119,8 +126,9 @@ convert-flat-spec =
     (tie.spec
     Inv-loop
     μ-loop
+    mark-plain-requires
     loop-holds
-    choose-at-requires
+    choose-marked-requires
     enum-known-group
     enum-told
     same-length
