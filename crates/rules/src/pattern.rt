@@ -38,6 +38,10 @@ pub fn in_ranges(loaded: &[u16], place: usize, c: u16) -> bool
     ensures { λ r. ⌜ r ≡ inRanges (rangesAt (now (loaded .entry)) place) c ⌝ }
 {
     let count = loaded[SLOTS_FROM + place] as usize;
+    // most positions have one range
+    if count == 1 {
+        return in_range(loaded, RANGES_FROM + 8 * place, c);
+    }
     let mut k: usize = 0;
     while k < count {
         if in_range(loaded, RANGES_FROM + 8 * place + 2 * k, c) {

@@ -30,13 +30,14 @@ fn is_plain(loaded: &[u16], rules: usize, c: u16) -> bool
     true
 }
 
-// The first characters, each marked if it is plain. For a short input none is: the tests would take longer than they save.
+// The first characters, each marked if it is plain. For an input with fewer characters than the rules are tried here, none is: that would take
+// longer than it saves.
 pub fn mark_plain(loaded: &[u16], rules: usize, size: usize) -> [bool; MARKS]
     requires { ⌜ Flat (now loaded) × (rules ≤ 32) ⌝ }
     ensures { λ r. ⌜ Marked (now (loaded .entry)) rules r ⌝ }
 {
     let mut marks = [false; MARKS];
-    if size < 1024 {
+    if size < MARKS * rules {
         return marks;
     }
     let mut c: usize = 0;

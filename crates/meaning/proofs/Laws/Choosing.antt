@@ -1,6 +1,6 @@
 -- How Definition 7's choice is found on the loaded array: range by range, position by position, rule by rule.
 -- Each loop's test of what is left is the test of its next element and of what is left then.
-use mathlib.Core.Bool.{Bool, true, false, _&&_, _||_, not, cond}
+use mathlib.Core.Bool.{Bool, true, false, _&&_, _||_, not, cond, or-false}
 use mathlib.Core.List.{List, [], _∷_}
 use mathlib.Core.Option.{Option, none, some}
 use mathlib.Core.Path.{_≡_, refl, sym, ap, _∙_}
@@ -9,7 +9,7 @@ use native.Mathlib.Nat.{add-zero, zero-add}
 use native.Mathlib.Numerals.{add-one}
 use native.Mathlib.Omega.{arith}
 use borrow.Author.Tests.{eqb-true, lt-ltb, le-ltb, eq-eqb, ne-eqb}
-use lib.Dec.{T, eqb, ltb}
+use lib.Dec.{T, eqb, leb, ltb}
 use lib.ListN.{length, take, drop, length-take, length-drop}
 use lib.Seq.{drop-cons}
 use Rattle.lists.specs.Lists.{tabFrom}
@@ -19,7 +19,7 @@ use Rattle.meaning.specs.Table.{Range, Group, Table, within, inRanges, e
 use Rattle.meaning.specs.Block.{at, blockSize}
 use Rattle.meaning.specs.Value.{fitsWord}
 use Rattle.meaning.specs.Meaning.{fits, better, best, orDefault, choose}
-use Rattle.meaning.specs.bridge.Flat.{slotsFrom, rangeAt, rangesAt, patternAt, groupAt, tableAt}
+use Rattle.meaning.specs.bridge.Flat.{slotsFrom, rangesFrom, rangeAt, rangesAt, patternAt, groupAt, tableAt}
 use Rattle.meaning.proofs.Laws.Prefix.{fitsWord-length}
 
 -- the n characters from place a on
@@ -47,6 +47,16 @@ module _ (loaded : List ℕ) (place c : ℕ) where
 
   pub inFrom-end : (k : ℕ) → at loaded (slotsFrom + place) ≤ k → inFrom k ≡ false
   inFrom-end k h = ap (λ rs. inRanges rs c) (tab-end (rangeAt loaded place) (at loaded (slotsFrom + place)) k h)
+
+  -- a position with one range
+  pub one-range : (b : Bool) → at loaded (slotsFrom + place) ≡ 1 →
+      let i = rangesFrom + 8 * place in b ≡ leb (at loaded i) c && leb c (at loaded (i + 1)) → inRanges (rangesAt loaded place) c ≡ b
+  one-range b one e =
+      let i : rangesFrom + 8 * place + 2 * 0 ≡ rangesFrom + 8 * place = omega arith in
+      inFrom-start
+      ∙ inFrom-next 0 b (omega arith) (rw i e)
+      ∙ ap (λ x. b || x) (inFrom-end 1 (omega arith))
+      ∙ or-false b
 
 -- the characters from place a + p on lie in the ranges of the positions from p on
 module _ (loaded : List ℕ) (place size : ℕ) (u : List ℕ) (a : ℕ) where

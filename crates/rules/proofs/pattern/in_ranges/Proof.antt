@@ -7,7 +7,7 @@ use native.Mathlib.Omega.{arith}
 use Rattle.meaning.specs.Table.{inRanges}
 use Rattle.meaning.specs.Block.{at}
 use Rattle.meaning.specs.bridge.Flat.{slotsFrom, rangesAt}
-use Rattle.meaning.proofs.Laws.Choosing.{inFrom, inFrom-start, inFrom-next, inFrom-end}
+use Rattle.meaning.proofs.Laws.Choosing.{inFrom, inFrom-start, inFrom-next, inFrom-end, one-range}
 use Rattle.rules.proofs.pattern.in_ranges.Statement.{statement}
 use Rattle.rules.proofs.pattern.in_ranges.Tie as tie
 
@@ -30,14 +30,23 @@ shared-slice-read-count c = omega arith
 cast-count : tie.Need-cast-count Inv-loop μ-loop
 cast-count c = omega arith
 
-loop-holds : tie.Need-loop-holds Inv-loop μ-loop
-loop-holds c = (omega arith, inFrom-start _ _ _)
-
 mul-in-range : tie.Need-mul-in-range Inv-loop μ-loop
 mul-in-range c = omega arith
 
 add-in-range : tie.Need-add-in-range Inv-loop μ-loop
 add-in-range c = omega arith
+
+in-range-requires : tie.Need-in-range-requires Inv-loop μ-loop
+in-range-requires c κs = omega arith
+
+returns : tie.Need-returns Inv-loop μ-loop
+returns c =
+    let a = c .before .before .before .before .args in
+    let only = one-range (a .loaded .now) (a .place) (a .c) (c .in-range .result) in
+    sym (only (omega arith) (c .in-range .ensures))
+
+loop-holds : tie.Need-loop-holds Inv-loop μ-loop
+loop-holds c = (omega arith, inFrom-start _ _ _)
 
 mul-in-range-2 : tie.Need-mul-in-range-2 Inv-loop μ-loop
 mul-in-range-2 c = omega arith
@@ -45,22 +54,28 @@ mul-in-range-2 c = omega arith
 add-in-range-2 : tie.Need-add-in-range-2 Inv-loop μ-loop
 add-in-range-2 c = omega arith
 
-in-range-requires : tie.Need-in-range-requires Inv-loop μ-loop
-in-range-requires c κs = omega arith
+mul-in-range-3 : tie.Need-mul-in-range-3 Inv-loop μ-loop
+mul-in-range-3 c = omega arith
+
+add-in-range-3 : tie.Need-add-in-range-3 Inv-loop μ-loop
+add-in-range-3 c = omega arith
+
+in-range-requires-2 : tie.Need-in-range-requires-2 Inv-loop μ-loop
+in-range-requires-2 c κs = omega arith
 
 -- the range that the turn looks at, and those after it
-turn : (c : tie.After-in-range Inv-loop μ-loop) →
+turn : (c : tie.After-in-range2 Inv-loop μ-loop) →
     let l = c .before .before in
-    let a = l .before .before .before .args in
+    let a = l .before .before .before .before .args in
     inRanges (rangesAt (a .loaded .now) (a .place)) (a .c)
-    ≡ c .in-range .result || inFrom (a .loaded .now) (a .place) (a .c) (l .loop .k + 1)
+    ≡ c .in-range2 .result || inFrom (a .loaded .now) (a .place) (a .c) (l .loop .k + 1)
 turn c =
     let l = c .before .before in
-    let a = l .before .before .before .args in
-    l .loop .inv .1 ∙ inFrom-next (a .loaded .now) (a .place) (a .c) (l .loop .k) (c .in-range .result) (omega arith) (c .in-range .ensures)
+    let a = l .before .before .before .before .args in
+    l .loop .inv .1 ∙ inFrom-next (a .loaded .now) (a .place) (a .c) (l .loop .k) (c .in-range2 .result) (omega arith) (c .in-range2 .ensures)
 
-returns : tie.Need-returns Inv-loop μ-loop
-returns c = sym (turn (c .before) ∙ rw (c .if1 .taken))
+returns-2 : tie.Need-returns-2 Inv-loop μ-loop
+returns-2 c = sym (turn (c .before) ∙ rw (c .if2 .taken))
 
 add-k : tie.Need-add-k Inv-loop μ-loop
 add-k c = omega arith
@@ -69,12 +84,12 @@ loop-less : tie.Need-loop-less Inv-loop μ-loop
 loop-less c = omega arith
 
 loop-again : tie.Need-loop-again Inv-loop μ-loop
-loop-again c = (omega arith, turn (c .before) ∙ rw (c .if1 .left))
+loop-again c = (omega arith, turn (c .before) ∙ rw (c .if2 .left))
 
-returns-2 : tie.Need-returns-2 Inv-loop μ-loop
-returns-2 c =
+returns-3 : tie.Need-returns-3 Inv-loop μ-loop
+returns-3 c =
     let l = c .before in
-    let a = l .before .before .before .args in
+    let a = l .before .before .before .before .args in
     sym (l .loop .inv .1 ∙ inFrom-end (a .loaded .now) (a .place) (a .c) (l .loop .k) (omega arith))
 
 pub in-ranges-spec : {M : Type 1} → statement M
@@ -87,14 +102,18 @@ in-ranges-spec =
     mul-count
     shared-slice-read-count
     cast-count
-    loop-holds
     mul-in-range
     add-in-range
-    mul-in-range-2
-    add-in-range-2
     in-range-requires
     returns
+    loop-holds
+    mul-in-range-2
+    add-in-range-2
+    mul-in-range-3
+    add-in-range-3
+    in-range-requires-2
+    returns-2
     add-k
     loop-less
     loop-again
-    returns-2)
+    returns-3)

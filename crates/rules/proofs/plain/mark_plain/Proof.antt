@@ -16,6 +16,9 @@ Inv-loop loaded rules size marks₀ c₀ marks c = (length marks ≡ 256) × Mar
 abbrev μ-loop : tie.MeasureT-loop
 μ-loop loaded rules size marks₀ c₀ marks c = 256 - c
 
+mul-if1 : tie.Need-mul-if1 Inv-loop μ-loop
+mul-if1 c = omega arith
+
 returns : tie.Need-returns Inv-loop μ-loop
 returns c = let a = c .before .before .args in none-marked (a .loaded .now) (a .rules) 256
 
@@ -54,6 +57,7 @@ mark-plain-spec =
     (tie.spec
     Inv-loop
     μ-loop
+    mul-if1
     returns
     loop-holds
     cast-is-plain
