@@ -12,6 +12,7 @@
 //! - [`calls`]: feeds and finishes by both, and random ones
 //! - [`lists`]: lists of calls by both, beside the reckoning
 //! - [`damage`]: damaged machine words and sessions
+//! - [`orders`]: words whose states are numbered in another order
 //! - [`uses`]: sessions with uses of many rules, and damage to their counts
 //! - [`fast`]: the rollback machine written for speed
 //! - `flex`: T1's rules as a scanner that flex generates (feature `flex`)
@@ -34,6 +35,7 @@ pub mod fast;
 #[cfg(feature = "flex")]
 pub mod flex;
 pub mod lists;
+pub mod orders;
 pub mod rivals;
 pub mod terms;
 pub mod typed;

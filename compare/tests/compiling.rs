@@ -7,6 +7,7 @@ use compare::both::{compile, is_sound};
 use compare::cases::{examples, large_table, pattern, tables};
 use compare::damage::Base;
 use compare::face::{check, OK};
+use compare::orders::{depths_fall, random_order, renumbered};
 use reference::builder::TableBuilder;
 use reference::compile::compiled;
 use reference::random::Random;
@@ -234,6 +235,47 @@ fn damaged_words() {
     assert!(sound >= 10_000, "{sound}");
     assert!(unsound - short >= 15_000, "{unsound}");
     assert!(short >= 2_000, "{short}");
+}
+
+#[test]
+fn words_with_states_in_another_order() {
+    let mut random = Random::new(SEED + 4);
+    let (mut falling, mut sound, mut unsound) = (0, 0, 0);
+    let bases = tables(SEED + 5).filter_map(|table| compiled(&table).ok());
+    for words in bases.filter(|words| words[0] < 64).take(2000) {
+        assert!(!depths_fall(&words));
+        let order = random_order(&mut random, &words);
+        let words = renumbered(&words, &order);
+        assert!(is_sound(&words));
+        falling += usize::from(depths_fall(&words));
+        let base = Base::new(words);
+        for _ in 0..20 {
+            match is_sound(&base.damaged(&mut random)) {
+                true => sound += 1,
+                false => unsound += 1,
+            }
+        }
+    }
+    println!("{falling} with depths that fall; damaged: {sound} sound, {unsound} not");
+    assert!(falling >= 500, "{falling}");
+    assert!(sound >= 5_000, "{sound}");
+    assert!(unsound >= 15_000, "{unsound}");
+}
+
+#[test]
+fn a_depth_left_out() {
+    // T3's third state, of depth 2, is put to depth 3: that is sound where no state leads
+    // there.
+    let mut words = compiled(&t3()).expect("T3 compiles");
+    assert_eq!(words[..3], [3, 4, 3]);
+    words[76..79].copy_from_slice(&[3, 0, 0]);
+    assert!(!is_sound(&words));
+    words[838 + 64..][..64].fill(0);
+    assert!(is_sound(&words));
+    // And one of depth 1 behind it.
+    words[0] = 4;
+    words[79] = 1;
+    assert!(depths_fall(&words) && is_sound(&words));
 }
 
 #[test]

@@ -5,6 +5,7 @@ use std::time::Duration;
 
 use compare::builds::Build;
 use compare::cases::large_table;
+use compare::orders::{depths_fall, renumbered};
 use reference::compile::compiled;
 use reference::samples::t1;
 use reference::words::Words;
@@ -141,21 +142,7 @@ fn deep_first(words: &[u16]) -> Vec<u16> {
         next.dedup();
         left.extend(next.into_iter().rev().map(usize::from));
     }
-
-    // State 0 comes first, so that 0, no target, stays 0.
-    let mut numbers = vec![0; walk.len()];
-    let mut renumbered = words.to_vec();
-    for (number, &state) in walk.iter().enumerate() {
-        numbers[state] = number as u16;
-        let facts = &words[70 + 3 * state..][..3];
-        renumbered[70 + 3 * number..][..3].copy_from_slice(facts);
-    }
-    for (number, &state) in walk.iter().enumerate() {
-        let places = renumbered[838 + 64 * number..].iter_mut();
-        for (place, &target) in places.zip(targets(state)) {
-            *place = numbers[usize::from(target)];
-        }
-    }
-    assert!(Words::sound(&renumbered).is_ok(), "sound words");
+    let renumbered = renumbered(words, &walk);
+    assert!(depths_fall(&renumbered) && Words::sound(&renumbered).is_ok());
     renumbered
 }
