@@ -156,36 +156,42 @@ fn cost(words: &[u16]) -> u64
 }
 
 // "open, the held characters lead from state 0 to the state, and steps are at most (L + 3) times consumed plus held"
-fn open_sound(words: &[u16], kept: Kept, consumed: u64) -> bool
-    requires { ⌜ T (sound (now words)) × (kept .«held_count» ≤ 8) × (consumed ≤ limit) ⌝ }
+fn open_sound(
+    words: &[u16],
+    held: &[u16; 8],
+    count: u16,
+    state: StateNo,
+    steps: u64,
+    consumed: u64,
+) -> bool
+    requires { ⌜ T (sound (now words)) × (length (now held) ≡ 8) × (count ≤ 8) × (consumed ≤ limit) ⌝ }
     ensures { λ r.
-        ⌜ r ≡ allOf (isAt (kept .state .0) (path (fromWords (now (words .entry))) 0 (take (kept .«held_count») (kept .held)))
-        ∷ leb (kept .tally .steps) ((longestWord (now (words .entry)) + 3) * consumed + kept .«held_count»)
+        ⌜ r ≡ allOf (isAt (state .0) (path (fromWords (now (words .entry))) 0 (take count (now (held .entry))))
+        ∷ leb steps ((longestWord (now (words .entry)) + 3) * consumed + count)
         ∷ []) ⌝ }
 {
-    let count = kept.held_count;
-    if !leads_to(words, &kept.held, count as usize, kept.state) {
+    if !leads_to(words, held, count as usize, state) {
         return false;
     }
-    kept.tally.steps <= cost(words) * consumed + count as u64
+    steps <= cost(words) * consumed + count as u64
 }
 
 // "closed or stopped, state 0, nothing held, steps at most (L + 3) times (consumed + 1)"
-fn ended_sound(words: &[u16], kept: Kept, consumed: u64) -> bool
+fn ended_sound(words: &[u16], count: u16, state: StateNo, steps: u64, consumed: u64) -> bool
     requires { ⌜ T (sound (now words)) × (consumed ≤ limit) ⌝ }
     ensures { λ r.
-        ⌜ r ≡ allOf (eqb (kept .state .0) 0
-        ∷ eqb (kept .«held_count») 0
-        ∷ leb (kept .tally .steps) ((longestWord (now (words .entry)) + 3) * (consumed + 1))
+        ⌜ r ≡ allOf (eqb (state .0) 0
+        ∷ eqb count 0
+        ∷ leb steps ((longestWord (now (words .entry)) + 3) * (consumed + 1))
         ∷ []) ⌝ }
 {
-    if kept.state.0 != 0 {
+    if state.0 != 0 {
         return false;
     }
-    if kept.held_count != 0 {
+    if count != 0 {
         return false;
     }
-    kept.tally.steps <= cost(words) * (consumed + 1)
+    steps <= cost(words) * (consumed + 1)
 }
 
 // A session as a call finds it is sound.
@@ -194,6 +200,7 @@ pub fn is_sound_session(words: &[u16], kept: Kept, uses: &[u64; 33]) -> bool
     ensures { λ r. ⌜ r ≡ soundSession (now (words .entry)) (sessionOf (together kept (now (uses .entry)))) ⌝ }
 {
     let count = kept.held_count as u64;
+    let held = kept.held;
     if !counts_sound(
         expansion(words) as u64,
         count,
@@ -202,7 +209,7 @@ pub fn is_sound_session(words: &[u16], kept: Kept, uses: &[u64; 33]) -> bool
     ) {
         return false;
     }
-    if !others_clear(&kept.held, count as usize) {
+    if !others_clear(&held, count as usize) {
         return false;
     }
     let consumed = kept.received - count;
@@ -210,9 +217,11 @@ pub fn is_sound_session(words: &[u16], kept: Kept, uses: &[u64; 33]) -> bool
         return false;
     }
     let status = kept.status;
+    let state = kept.state;
+    let steps = kept.tally.steps;
     match status {
-        Status::Open => open_sound(words, kept, consumed),
-        Status::Closed => ended_sound(words, kept, consumed),
-        Status::Stopped => ended_sound(words, kept, consumed),
+        Status::Open => open_sound(words, &held, kept.held_count, state, steps, consumed),
+        Status::Closed => ended_sound(words, kept.held_count, state, steps, consumed),
+        Status::Stopped => ended_sound(words, kept.held_count, state, steps, consumed),
     }
 }

@@ -15,7 +15,7 @@ returns : tie.Need-returns
 returns c = sym (all-stops _ (ne-eqb _ _ (c .if1 .taken)))
 
 returns-2 : tie.Need-returns-2
-returns-2 c = sym (all-next _ (eq-eqb _ _ (c .before .before .if1 .left)) ∙ all-stops _ (ne-eqb _ _ (c .if2 .taken)))
+returns-2 c = sym (all-next _ (eq-eqb _ _ (c .before .if1 .left)) ∙ all-stops _ (ne-eqb _ _ (c .if2 .taken)))
 
 cost-requires : tie.Need-cost-requires
 cost-requires c κs = search needs
@@ -25,16 +25,16 @@ add-result c = search needs
 
 mul-result : tie.Need-mul-result
 mul-result c =
-    let s = c .before .before .before .before .before .before in
+    let s = c .before .before .before .before .before in
     let b : s .args .consumed + 1 ≤ 1099511627777 = omega (arith, s .pre .1) in
     omega (arith, cost-small (s .args .words .now) (s .pre .0) (s .args .consumed + 1) (c .cost .ensures) b)
 
 returns-3 : tie.Need-returns-3
 returns-3 c =
-    let second = c .before .before in
-    let first = second .before .before in
+    let second = c .before in
+    let first = second .before in
     let a = first .before .before .before .args in
-    ap (λ x. leb (a .kept .tally .steps) (x * (a .consumed + 1))) (c .before .cost .ensures)
+    ap (λ x. leb (a .steps) (x * (a .consumed + 1))) (c .cost .ensures)
     ∙ sym (all-next _ (eq-eqb _ _ (first .if1 .left)) ∙ all-next _ (eq-eqb _ _ (second .if2 .left)) ∙ all-last _)
 
 pub ended-sound-spec : {M : Type 1} → statement M

@@ -11,16 +11,13 @@ use Rattle.session.proofs.kept.open_sound.Statement.{statement}
 use Rattle.session.proofs.kept.open_sound.Tie as tie
 
 abbrev start : tie.After-cost → tie.Start
-start c = c .before .before .before .before .before .before .before
+start c = c .before .before .before .before
 
 small : (c : tie.After-cost) → c .cost .result * start c .args .consumed ≤ 11 * 1099511627777
 small c =
     let s = start c in
-    let b : s .args .consumed ≤ 1099511627777 = omega (arith, s .pre .2) in
+    let b : s .args .consumed ≤ 1099511627777 = omega (arith, s .pre .3) in
     cost-small (s .args .words .now) (s .pre .0) (s .args .consumed) (c .cost .ensures) b
-
-cast-leads-to : tie.Need-cast-leads-to
-cast-leads-to c = search needs
 
 leads-to-requires : tie.Need-leads-to-requires
 leads-to-requires c κs = search needs
@@ -34,27 +31,22 @@ cost-requires c κs = search needs
 mul-result : tie.Need-mul-result
 mul-result c = omega (arith, small c)
 
-cast-result : tie.Need-cast-result
-cast-result c = search needs
-
 add-result : tie.Need-add-result
-add-result c = omega (arith, small c, start c .pre .1)
+add-result c = omega (arith, small c, start c .pre .2)
 
 returns-2 : tie.Need-returns-2
 returns-2 c =
     let a = start c .args in
-    ap (λ x. leb (a .t2 .tally .steps) (x * a .consumed + a .t2 .«held_count»)) (c .cost .ensures)
+    ap (λ x. leb (a .steps) (x * a .consumed + a .count)) (c .cost .ensures)
     ∙ sym (all-next _ (passed (c .before .before .leads-to .ensures) (c .before .if1 .left)) ∙ all-last _)
 
 pub open-sound-spec : {M : Type 1} → statement M
 open-sound-spec =
     tie.close
     (tie.spec
-    cast-leads-to
     leads-to-requires
     returns
     cost-requires
     mul-result
-    cast-result
     add-result
     returns-2)
