@@ -96,14 +96,14 @@ fn without_room() {
     assert!(short >= TABLES / 30, "{short}");
 }
 
-/// Pieces of 4,096 characters and more, of which the classes are worked out
-/// beforehand.
+/// Pieces of the lengths from which on more classes are worked out beforehand, 8
+/// and 128, and long ones.
 #[test]
-fn long_pieces() {
+fn pieces_by_length() {
     let mut random = Random::new(SEED + 5);
     for table in [t1(), two_digits()] {
         let words = compiled(&table).unwrap();
-        for length in [4095, 4096, 4097, 65_536, 200_000] {
+        for length in [1, 7, 8, 9, 127, 128, 129, 65_536, 200_000] {
             let parts = ["&#38;", "&#4", "&", "a", "é", "&#1234"];
             let mut text = Vec::new();
             while text.len() < length {

@@ -23,7 +23,7 @@ ghost use mathlib.Core.List.{_++_};
 ghost use mathlib.Core.Path.{_≡_};
 ghost use Prim.Native.Nat.{_+_, _-_, _≤_, _<_};
 ghost use lib.Dec.{T};
-ghost use lib.ListN.{length, getD, take, drop};
+ghost use lib.ListN.{length, getD, take, drop, replicate};
 ghost use Rattle.meaning.specs.Block.{at, blockOutput};
 ghost use Rattle.meaning.specs.Direct.{over};
 ghost use Rattle.automaton.specs.Layout.{wordCount, classesFrom};
@@ -32,7 +32,7 @@ ghost use Rattle.session.specs.Keeping.{meantStatus};
 ghost use Rattle.automaton.specs.Classes.{classOf};
 ghost use Rattle.words.specs.bridge.Readings.{wordOf};
 ghost use Rattle.session.specs.bridge.Counting.{Counted};
-ghost use Rattle.session.specs.bridge.Running.{put, firstOf, Classed, SomewherePlaced, ReadsOn, lent, PassesByDefaults, Moves, Emit, Back, Between, Halted, Waits, Stands, acceptNow, Fits, Placed, Advances, Beyond, Runnable, RunsTo};
+ghost use Rattle.session.specs.bridge.Running.{put, firstOf, Classed, ClassEnds, SomewherePlaced, ReadsOn, lent, PassesByDefaults, Moves, Emit, Back, Between, Halted, Waits, Stands, acceptNow, Fits, Placed, Advances, Beyond, Runnable, RunsTo};
 
 // A run: the store is the text from `from` on and below `at`; whether it is done, and how.
 pub struct Ran {
@@ -92,16 +92,43 @@ fn between(place: usize, count: usize, steps: u64) -> Ran
     }
 }
 
-// The classes of the first characters, as many as there are places for.
+// Every place gets the class.
+fn paint(classes: &mut [u16], class: u16)
+    ensures { λ _. ⌜ now (classes .exit) ≡ replicate (length (now (classes .entry))) class ⌝ }
+{
+    let mut c: usize = 0;
+    while c < classes.len() {
+        classes[c] = class;
+        c += 1;
+    }
+}
+
+// The end of a class among the first `most` characters: the next class's start, or `most` where that is not among them.
+fn class_end(words: &[u16], class: usize, most: usize) -> usize
+    requires { ⌜ T (sound (now words)) × (class < classCount (now words)) × (at (now words) (classesFrom + class) ≤ most) ⌝ }
+    ensures { λ r. ⌜ ClassEnds (now (words .entry)) class most r ⌝ }
+{
+    if class + 1 < class_count(words) {
+        let next = class_start(words, ClassNo((class + 1) as u16)) as usize;
+        if next < most {
+            return next;
+        }
+    }
+    most
+}
+
+// The classes of the first characters, as many as there are places for: class by class, since each is a range.
 fn fill_classes(words: &[u16], classes: &mut [u16])
     requires { ⌜ T (sound (now words)) × (length (now classes) ≤ 65536) ⌝ }
     ensures { λ _. ⌜ Classed (now (words .entry)) (now (classes .exit)) ⌝ }
 {
-    let mut c: usize = 0;
-    while c < classes.len() {
-        let class = class_of(words, c as u16);
-        classes[c] = class.0;
-        c += 1;
+    let mut class: usize = 0;
+    let mut from: usize = 0;
+    while from < classes.len() {
+        let to = class_end(words, class, classes.len());
+        paint(&mut classes[from..to], class as u16);
+        from = to;
+        class += 1;
     }
 }
 
@@ -529,7 +556,21 @@ fn run_from<'a>(
     ran
 }
 
-// The same run. Of a long piece the classes of the first 256 characters are worked out beforehand.
+// How many of the first characters have their classes worked out beforehand for a short piece: those below the last class, so that a character is
+// looked up or is of the last class. None where these are more than 64, or where the piece has too few characters to gain from it.
+fn prepared(words: &[u16], size: usize) -> usize
+    requires { ⌜ T (sound (now words)) ⌝ }
+    ensures { λ r. ⌜ r ≤ 64 ⌝ }
+{
+    let last = class_start(words, ClassNo((class_count(words) - 1) as u16)) as usize;
+    if last > 64 || size < 8 {
+        return 0;
+    }
+    last
+}
+
+// The same run, with the classes of the first characters worked out beforehand: of 256, or for a short piece of as many as it gains from. The
+// compiler inlines `run_from` where it is called twice, and not where it is called three times, which a feed of a few characters would feel.
 pub fn run_words<'a>(
     words: &[u16],
     given: &'a [u16],
@@ -543,8 +584,20 @@ pub fn run_words<'a>(
     ensures { λ r. ⌜ RunsTo (now (words .entry)) (now (given .entry)) (now (piece .entry)) (state .0) ended
         (lent (now (output .entry)) (now (uses .entry))) r (lent (now (output .exit)) (now (uses .exit))) ⌝ }
 {
-    if piece.len() < 4096 {
-        return run_from(words, &words[..0], given, piece, state, ended, uses, output);
+    if piece.len() < 128 {
+        let mut table = [0u16; 64];
+        let covered = prepared(words, piece.len());
+        fill_classes(words, &mut table[..covered]);
+        return run_from(
+            words,
+            &table[..covered],
+            given,
+            piece,
+            state,
+            ended,
+            uses,
+            output,
+        );
     }
     let mut table = [0u16; 256];
     fill_classes(words, &mut table);

@@ -42,7 +42,7 @@ module _ (w : List ℕ) (sure : T (sound w)) where
   unfolding sound soundStarts
   start-below k h = ltb→lt (at w (classesFrom + k)) (at w (classesFrom + 1 + k)) (below (pred (classCount w)) _ (holds _ (holds _ sure .1 .1 .0) .1 .0) k (omega arith))
 
-  starts-ordered : (i j : ℕ) → i ≤ j → j < classCount w → at w (classesFrom + i) ≤ at w (classesFrom + j)
+  pub starts-ordered : (i j : ℕ) → i ≤ j → j < classCount w → at w (classesFrom + i) ≤ at w (classesFrom + j)
   starts-ordered i j h b =
       let e : i + (j - i) ≡ j = omega arith in
       rw e at (rise (λ k. at w (classesFrom + k)) (classCount w) (λ k l. let d : classesFrom + 1 + k ≡ 6 + suc k = omega arith in rw d at (start-below k l)) i (j - i) (omega arith))

@@ -5,14 +5,13 @@ use mathlib.Core.List.{List, [], _∷_, _++_, append-nil}
 use mathlib.Core.Logic.{_≢_}
 use mathlib.Core.Path.{_≡_, refl, sym, ap, subst, _∙_}
 use Prim.Native.Nat.{ℕ, zero, suc, _+_, _-_, _≤_, _<_}
-use native.Mathlib.Decide.{ℕ-discrete}
 use native.Mathlib.Omega.{arith}
-use lib.Dec.{T, eqb, leb, eqb→eq}
-use lib.ListN.{length, getD, set, take, drop, length-append, length-drop, List·getD-append}
-use lib.Seq.{take-all, drop-nil, drop-cons, getD-drop, drop-append-add, getD-set-same, getD-set-other}
+use lib.Dec.{T, eqb, leb, ltb, eqb→eq, ltb→lt, nltb→le}
+use lib.ListN.{length, getD, take, drop, replicate, length-append, length-drop, length-replicate, getD-replicate, List·getD-append}
+use lib.Seq.{take-all, drop-nil, drop-cons, length-take-le, getD-take, getD-drop, getD-append-add, drop-append-add}
 use Rattle.lists.specs.Lists.{pad}
 use Rattle.lists.proofs.Laws.Parts.{length-pad}
-use Rattle.lists.proofs.Laws.Tests.{holds, below, of-cond, of-between}
+use Rattle.lists.proofs.Laws.Tests.{holds, below, split, of-cond, of-between}
 use Rattle.meaning.specs.Table.{defaultNumber}
 use Rattle.meaning.specs.Block.{at, blockOutput}
 use Rattle.automaton.specs.Sound.{longestWord, expansionWord, stateCount, depthWord, acceptWord, targetWord, classCount, blockAt, soundState, sound}
@@ -30,14 +29,23 @@ use Rattle.session.proofs.Laws.Counting.{bumped-none, bumped-again}
 use Rattle.session.proofs.Laws.Running.{first-at, character-backs, character-reads, decides-character, turn-room, turn-small, default-words, advances-read, advances-default, beyond-on}
 use Rattle.automaton.specs.Layout.{classesFrom}
 
--- one more place of a table is filled
-pub filled : (f : ℕ → ℕ) (table : List ℕ) (n x : ℕ) → n < length table → x ≡ f n → ((i : ℕ) → i < n → getD table i 0 ≡ f i) →
-    (i : ℕ) → i < n + 1 → getD (set table n x) i 0 ≡ f i
-filled f table n x h e k i l =
-    elim (ℕ-discrete i n) [
-      | yes p ↦ subst (λ m. getD (set table n x) m 0 ≡ f m) (sym p) (getD-set-same table n x 0 h ∙ e)
-      | no p ↦ getD-set-other table n i x 0 p ∙ k i (omega arith)
-    ]
+-- a part of a table is painted with the number that belongs there
+pub painted : (f : ℕ → ℕ) (table part rest : List ℕ) (from to x : ℕ) → from ≤ length table → part ≡ replicate (to - from) x →
+    ((i : ℕ) → i < from → getD table i 0 ≡ f i) → ((i : ℕ) → from ≤ i → i < to → f i ≡ x) → (i : ℕ) → i < to → getD (take from table ++ (part ++ rest)) i 0 ≡ f i
+painted f table part rest from to x h e before here i l =
+    let front = take from table in
+    let size : length front ≡ from = length-take-le from table h in
+    split (ltb i from)
+    (λ t. let b : i < from = ltb→lt i from t in List·getD-append front (part ++ rest) 0 i (omega arith) ∙ getD-take from table i 0 b ∙ before i b)
+    (λ t.
+    let b : from ≤ i = nltb→le i from t in
+    let z : i ≡ length front + (i - from) = omega arith in
+    ap (λ n. getD (front ++ (part ++ rest)) n 0) z
+    ∙ getD-append-add front (part ++ rest) (i - from) 0
+    ∙ List·getD-append part rest 0 (i - from) (omega (arith, ap length e, length-replicate (to - from) x))
+    ∙ ap (λ p. getD p (i - from) 0) e
+    ∙ getD-replicate (to - from) (i - from) x 0 (omega arith)
+    ∙ sym (here i b l))
 
 -- The text beyond those given back is the piece's.
 

@@ -135,6 +135,13 @@ Beyond old before new after = (old .count ≤ new .count) × (drop (new .count) 
 abbrev pub Classed : List ℕ → List ℕ → Type 0
 Classed w classes = (c : ℕ) → c < length classes → getD classes c 0 ≡ classOf (take (classCount w) (drop classesFrom w)) c
 
+-- where a class ends among the first characters: at the next class's start, or past the last of them
+pub record ClassEnds (w : List ℕ) (class most end : ℕ) : Type 0 where
+  pub onward : at w (classesFrom + class) ≤ end
+  pub inside : end ≤ most
+  pub within : class + 1 < classCount w → end ≤ at w (classesFrom + (class + 1))
+  pub next : end < most → (class + 1 < classCount w) × (at w (classesFrom + (class + 1)) ≡ end)
+
 -- the run keeps its bounds for some room
 abbrev pub SomewherePlaced : List ℕ → List ℕ → Ran → Type 0
 SomewherePlaced w u now = (room : ℕ) × Placed w u room now

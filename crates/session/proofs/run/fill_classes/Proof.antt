@@ -1,61 +1,99 @@
--- `run::fill_classes` meets its contract. The invariant: the classes of the first characters stand at their places.
--- The measure is the number of places left. Assumes nothing.
-use mathlib.Core.Path.{_≡_, refl, _∙_}
-use Prim.Native.Nat.{ℕ, _-_, _≤_, _<_}
+-- `run::fill_classes` meets its contract. The invariant: the classes of the first characters stand at their places, and the next class starts behind.
+-- The measure is the number of classes left. Assumes nothing.
+use mathlib.Core.Path.{_≡_, refl, ap, _∙_}
+use Prim.Native.Nat.{ℕ, _+_, _-_, _≤_, _<_}
 use native.Mathlib.Omega.{arith}
 use borrow.Author.Needs.{needs}
-use lib.ListN.{length, getD, length-set}
-use Rattle.session.proofs.Laws.Reading.{filled, classIn}
+use lib.ListN.{length, getD, replicate}
+use Rattle.meaning.specs.Block.{at}
+use Rattle.automaton.specs.Layout.{classesFrom}
+use Rattle.automaton.specs.Sound.{classCount}
+use Rattle.automaton.proofs.Laws.Words.{sound-header}
+use Rattle.automaton.proofs.Laws.Reading.{first-start, class-found}
+use Rattle.session.proofs.Laws.Reading.{painted, classIn}
 use Rattle.session.proofs.run.fill_classes.Statement.{statement}
 use Rattle.session.proofs.run.fill_classes.Tie as tie
 
 abbrev Inv-loop : tie.InvT-loop
-Inv-loop words classes₀ c₀ classes c =
-    (c ≤ length classes₀) × (length classes ≡ length classes₀) × ((i : ℕ) → i < c → getD classes i 0 ≡ classIn words i)
+Inv-loop words classes₀ class₀ from₀ classes class from =
+    (length classes ≡ length classes₀)
+    × (from ≤ length classes₀)
+    × (from < length classes₀ → (class < classCount words) × (at words (classesFrom + class) ≡ from))
+    × ((i : ℕ) → i < from → getD classes i 0 ≡ classIn words i)
 
 abbrev μ-loop : tie.MeasureT-loop
-μ-loop words classes₀ c₀ classes c = length classes₀ - c
+μ-loop words classes₀ class₀ from₀ classes class from = classCount words - class
 
 loop-holds : tie.Need-loop-holds Inv-loop μ-loop
-loop-holds c = (omega arith, refl, λ i h. absurd (omega arith))
+loop-holds c =
+    let s = c .before .before in
+    let w = s .args .words .now in
+    (refl, omega arith, λ _. (sound-header w (s .pre .0) .some-class, first-start w (s .pre .0)), λ i h. absurd (omega arith))
 
-cast-class-of : tie.Need-cast-class-of Inv-loop μ-loop
-cast-class-of c =
-    let s = c .before .before .before .before in
-    omega (arith, s .pre .1, c .before .loop .inv .1, c .loop-test .taken)
+-- the class to paint, and where it starts
+due : (c : tie.In-loop Inv-loop μ-loop) → let l = c .before .loop in let w = c .before .before .before .before .args .words .now in
+    (l .class < classCount w) × (at w (classesFrom + l .class) ≡ l .from)
+due c = let l = c .before .loop in l .inv .2 (omega (arith, c .loop-test .taken, l .inv .0))
 
-class-of-requires : tie.Need-class-of-requires Inv-loop μ-loop
-class-of-requires c κs = search needs
+few : (c : tie.In-loop Inv-loop μ-loop) → c .before .loop .class < 64
+few c = let s = c .before .before .before .before in omega (arith, due c .0, sound-header (s .args .words .now) (s .pre .0) .few-classes)
 
-mul-classes : tie.Need-mul-classes Inv-loop μ-loop
-mul-classes c = search needs
+class-end-requires : tie.Need-class-end-requires Inv-loop μ-loop
+class-end-requires c κs = let s = c .before .before .before .before in (s .pre .0, due c .0, omega (arith, due c .1, c .loop-test .taken))
 
-slice-write-classes : tie.Need-slice-write-classes Inv-loop μ-loop
-slice-write-classes c = c .before .loop-test .taken
+mul-paint : tie.Need-mul-paint Inv-loop μ-loop
+mul-paint c = search needs
 
-add-c : tie.Need-add-c Inv-loop μ-loop
-add-c c = search needs
+-- the class ends where it starts or later
+onward : (c : tie.After-class-end Inv-loop μ-loop) → c .before .before .loop .from ≤ c .class-end .result
+onward c = omega (arith, due (c .before) .1, c .class-end .ensures .onward)
+
+sub-paint : tie.Need-sub-paint Inv-loop μ-loop
+sub-paint c = onward c
+
+part-paint-start : tie.Need-part-paint-start Inv-loop μ-loop
+part-paint-start c = onward c
+
+part-paint-end : tie.Need-part-paint-end Inv-loop μ-loop
+part-paint-end c = c .class-end .ensures .inside
+
+cast-paint : tie.Need-cast-paint Inv-loop μ-loop
+cast-paint c = omega (arith, few (c .before .before))
+
+paint-requires : tie.Need-paint-requires Inv-loop μ-loop
+paint-requires c κs = search needs
+
+-- the turn that ends
+abbrev turn : tie.After-slice-known2 Inv-loop μ-loop → tie.After-class-end Inv-loop μ-loop
+turn c = c .before .before .before .before
+
+add-class : tie.Need-add-class Inv-loop μ-loop
+add-class c = omega (arith, few (turn c .before))
 
 loop-less : tie.Need-loop-less Inv-loop μ-loop
-loop-less c = omega (arith, c .before .before .loop .inv .1, c .before .loop-test .taken)
+loop-less c = omega (arith, due (turn c .before) .0)
 
 loop-again : tie.Need-loop-again Inv-loop μ-loop
 loop-again c =
-    let l = c .before .before .loop in
-    let w = c .before .before .before .before .before .args .words .now in
-    let t = c .before .loop-test .taken in (
-      omega (arith, t, l .inv .1),
-      length-set (l .classes) (l .c) (c .class-of .result .0) ∙ l .inv .1,
-      filled (classIn w) (l .classes) (l .c) (c .class-of .result .0) t (c .class-of .ensures) (l .inv .2),
+    let t = turn c .before in
+    let l = t .before .loop in
+    let s = t .before .before .before .before in
+    let w = s .args .words .now in
+    let p = c .before .before in
+    let e = turn c .class-end .ensures in (
+      c .before .classes .given .1 ∙ l .inv .0,
+      omega (arith, e .inside, l .inv .0),
+      λ h. e .next (omega (arith, h, l .inv .0)),
+      painted (classIn w) (l .classes) (p .paint .last .0) _ (l .from) (turn c .class-end .result) (l .class) (omega (arith, t .loop-test .taken))
+          (p .paint .ensures ∙ ap (λ n. replicate n (l .class)) (p .before .paint-arg .given .2)) (l .inv .3)
+          (λ i low high. class-found w (s .pre .0) i (l .class) (due t .0) (omega (arith, due t .1, low)) (λ more. omega (arith, high, e .within more))),
     )
 
 same-length : tie.Need-same-length Inv-loop μ-loop
-same-length c = c .before .loop .inv .1
+same-length c = c .before .loop .inv .0
 
 returns : tie.Need-returns Inv-loop μ-loop
-returns c =
-    let l = c .before .loop in
-    λ i h. l .inv .2 i (omega (arith, h, c .loop-test .left))
+returns c = let l = c .before .loop in λ i h. l .inv .3 i (omega (arith, h, c .loop-test .left))
 
 pub fill-classes-spec : {M : Type 1} → statement M
 fill-classes-spec =
@@ -64,11 +102,14 @@ fill-classes-spec =
     Inv-loop
     μ-loop
     loop-holds
-    cast-class-of
-    class-of-requires
-    mul-classes
-    slice-write-classes
-    add-c
+    class-end-requires
+    mul-paint
+    sub-paint
+    part-paint-start
+    part-paint-end
+    cast-paint
+    paint-requires
+    add-class
     loop-less
     loop-again
     same-length
