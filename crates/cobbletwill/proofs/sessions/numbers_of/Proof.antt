@@ -16,7 +16,7 @@ withStatus s n =
     record { received = s .received; tally = record { produced = s .produced; steps = s .steps }; status = n; state = s .state; «held_count» = s .count; held = s .held }
 
 returns : tie.Need-returns
-returns c = ap (withStatus (sessionOf (together (c .before .before .before .args .kept) []))) (c .status-number .ensures)
+returns c = ap (withStatus (sessionOf (together (c .before .before .args .kept) []))) (c .status-number .ensures)
 
 pub numbers-of-spec : {M : Type 1} → statement M
 numbers-of-spec = tie.close (tie.spec (λ c κs. search needs) returns)
