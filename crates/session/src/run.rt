@@ -32,7 +32,7 @@ ghost use Rattle.session.specs.Keeping.{meantStatus};
 ghost use Rattle.automaton.specs.Classes.{classOf};
 ghost use Rattle.words.specs.bridge.Readings.{wordOf};
 ghost use Rattle.session.specs.bridge.Counting.{Counted};
-ghost use Rattle.session.specs.bridge.Running.{put, firstOf, Classed, ClassEnds, SomewherePlaced, ReadsOn, lent, PassesByDefaults, Moves, Emit, Back, Between, Halted, Waits, Stands, acceptNow, Fits, Placed, Advances, Beyond, Runnable, RunsTo};
+ghost use Rattle.session.specs.bridge.Running.{put, firstOf, Classed, ClassEnds, Painted, SomewherePlaced, ReadsOn, lent, PassesByDefaults, Moves, Emit, Back, Between, Halted, Waits, Stands, acceptNow, Fits, Placed, Advances, Beyond, Runnable, RunsTo};
 
 // A run: the store is the text from `from` on and below `at`; whether it is done, and how.
 pub struct Ran {
@@ -117,16 +117,29 @@ fn class_end(words: &[u16], class: usize, most: usize) -> usize
     most
 }
 
-// The classes of the first characters, as many as there are places for: class by class, since each is a range.
-fn fill_classes(words: &[u16], classes: &mut [u16])
-    requires { ⌜ T (sound (now words)) × (length (now classes) ≤ 65536) ⌝ }
-    ensures { λ _. ⌜ Classed (now (words .entry)) (now (classes .exit)) ⌝ }
+// The places from `from` on and below `to` get the class, sixteen at a time, which takes fewer instructions than to paint a few just as far as
+// they go. Up to fifteen places behind them may be painted over.
+fn paint_range(classes: &mut [u16], from: usize, to: usize, class: u16)
+    requires { ⌜ (from ≤ to) × (to + 16 ≤ length (now classes)) ⌝ }
+    ensures { λ _. ⌜ (length (now (classes .exit)) ≡ length (now (classes .entry))) × Painted (now (classes .entry)) from to class (now (classes .exit)) ⌝ }
+{
+    let mut c = from;
+    while c < to {
+        paint(&mut classes[c..c + 16], class);
+        c += 16;
+    }
+}
+
+// The classes of the first `most` characters, class by class, since each is a range. The table has sixteen places more.
+fn fill_classes(words: &[u16], most: usize, classes: &mut [u16])
+    requires { ⌜ T (sound (now words)) × (most + 16 ≤ length (now classes)) ⌝ }
+    ensures { λ _. ⌜ (length (now (classes .exit)) ≡ length (now (classes .entry))) × Classed (now (words .entry)) (take most (now (classes .exit))) ⌝ }
 {
     let mut class: usize = 0;
     let mut from: usize = 0;
-    while from < classes.len() {
-        let to = class_end(words, class, classes.len());
-        paint(&mut classes[from..to], class as u16);
+    while from < most {
+        let to = class_end(words, class, most);
+        paint_range(classes, from, to, class as u16);
         from = to;
         class += 1;
     }
@@ -584,13 +597,12 @@ pub fn run_words<'a>(
     ensures { λ r. ⌜ RunsTo (now (words .entry)) (now (given .entry)) (now (piece .entry)) (state .0) ended
         (lent (now (output .entry)) (now (uses .entry))) r (lent (now (output .exit)) (now (uses .exit))) ⌝ }
 {
-    if piece.len() < 128 {
-        let mut table = [0u16; 64];
-        let covered = prepared(words, piece.len());
-        fill_classes(words, &mut table[..covered]);
+    if piece.len() >= 128 {
+        let mut table = [0u16; 272];
+        fill_classes(words, 256, &mut table);
         return run_from(
             words,
-            &table[..covered],
+            &table[..256],
             given,
             piece,
             state,
@@ -599,7 +611,17 @@ pub fn run_words<'a>(
             output,
         );
     }
-    let mut table = [0u16; 256];
-    fill_classes(words, &mut table);
-    run_from(words, &table, given, piece, state, ended, uses, output)
+    let mut table = [0u16; 80];
+    let covered = prepared(words, piece.len());
+    fill_classes(words, covered, &mut table);
+    run_from(
+        words,
+        &table[..covered],
+        given,
+        piece,
+        state,
+        ended,
+        uses,
+        output,
+    )
 }

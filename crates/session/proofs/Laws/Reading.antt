@@ -21,7 +21,7 @@ use Rattle.words.specs.declared.numbers.StateNo.{StateNo}
 use Rattle.automaton.proofs.Laws.Words.{sound-state, sound-class, sound-good}
 use Rattle.reckoning.specs.Uses.{useCounts}
 use Rattle.session.specs.bridge.Counting.{bumped}
-use Rattle.session.specs.bridge.Running.{put, firstOf, Placed, Lent, lent, Proceeds, Beyond, Passes, PassesByDefaults, Between, ReadsOn, readTo, Read, Back}
+use Rattle.session.specs.bridge.Running.{Painted, put, firstOf, Placed, Lent, lent, Proceeds, Beyond, Passes, PassesByDefaults, Between, ReadsOn, readTo, Read, Back}
 use Rattle.session.specs.declared.kept.Status.the-variants as Code
 use Rattle.session.specs.declared.run.Ran.{Ran}
 use Rattle.session.specs.declared.run.Ahead.{Ahead}
@@ -46,6 +46,13 @@ painted f table part rest from to x h e before here i l =
     ∙ ap (λ p. getD p (i - from) 0) e
     ∙ getD-replicate (to - from) (i - from) x 0 (omega arith)
     ∙ sym (here i b l))
+
+-- a table that is painted so, where what was before is what belongs there
+pub repainted : (f : ℕ → ℕ) (before after : List ℕ) (from to x : ℕ) → ((i : ℕ) → i < from → getD before i 0 ≡ f i) → Painted before from to x after →
+    ((i : ℕ) → from ≤ i → i < to → f i ≡ x) → (i : ℕ) → i < to → getD after i 0 ≡ f i
+repainted f before after from to x old new here i h =
+    new i h
+    ∙ of-cond (λ n. n ≡ f i) (ltb i from) (getD before i 0) x (λ t. old i (ltb→lt i from t)) (λ t. sym (here i (nltb→le i from t) h))
 
 -- The text beyond those given back is the piece's.
 

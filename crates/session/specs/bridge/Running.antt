@@ -3,7 +3,7 @@ use mathlib.Core.Bool.{Bool, true, false, _&&_, cond}
 use mathlib.Core.List.{List, [], _∷_, _++_}
 use mathlib.Core.Path.{_≡_}
 use Prim.Native.Nat.{ℕ, suc, _+_, _*_, _-_, _≤_, _<_}
-use lib.Dec.{T, eqb}
+use lib.Dec.{T, eqb, ltb}
 use lib.ListN.{length, getD, take, drop}
 use Rattle.meaning.specs.Meaning.{Emission, textOf, covered}
 use Rattle.meaning.specs.Table.{defaultNumber}
@@ -134,6 +134,10 @@ Beyond old before new after = (old .count ≤ new .count) × (drop (new .count) 
 -- the classes of the first characters, as many as there are places
 abbrev pub Classed : List ℕ → List ℕ → Type 0
 Classed w classes = (c : ℕ) → c < length classes → getD classes c 0 ≡ classOf (take (classCount w) (drop classesFrom w)) c
+
+-- the places from `from` on and below `to` have the number, and those before are as they were
+abbrev pub Painted : List ℕ → ℕ → ℕ → ℕ → List ℕ → Type 0
+Painted before from to x after = (i : ℕ) → i < to → getD after i 0 ≡ cond (ltb i from) (getD before i 0) x
 
 -- where a class ends among the first characters: at the next class's start, or past the last of them
 pub record ClassEnds (w : List ℕ) (class most end : ℕ) : Type 0 where

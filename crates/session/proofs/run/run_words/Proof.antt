@@ -1,51 +1,28 @@
 -- `run::run_words` meets its contract: with the classes of a table that was filled, however many, the run is the same.
 -- Assumes nothing.
-use mathlib.Core.Path.{_≡_, sym, ap, subst, _∙_}
-use Prim.Native.Nat.{ℕ, _≤_}
+use mathlib.Core.Path.{sym}
 use native.Mathlib.Omega.{arith}
 use borrow.Author.Needs.{needs}
-use lib.ListN.{length, take, replicate, length-append}
-use lib.Seq.{length-take-le, take-at}
-use Rattle.session.specs.bridge.Running.{Classed}
+use lib.Seq.{length-take-le}
 use Rattle.session.proofs.run.run_words.Statement.{statement}
 use Rattle.session.proofs.run.run_words.Tie as tie
 
-abbrev start : tie.After-table → tie.Start
-start c = c .before .before .before .before .before .before .before
-
-prepared-requires : tie.Need-prepared-requires
-prepared-requires c κs = search needs
-
-array-borrow-prefix-table : tie.Need-array-borrow-prefix-table
-array-borrow-prefix-table c = search needs
-
--- as many places of the short table are lent as are asked for
-lent-places : (n : ℕ) → n ≤ 64 → length {A = ℕ} (take n (replicate 64 0)) ≡ n
-lent-places n h = length-take-le n (replicate 64 0) h
-
 slice-aggregate-fill-classes : tie.Need-slice-aggregate-fill-classes
-slice-aggregate-fill-classes c = let k = c .before .prepared in sym (lent-places (k .result) (k .ensures))
+slice-aggregate-fill-classes c = search needs
 
 fill-classes-requires : tie.Need-fill-classes-requires
-fill-classes-requires c κs =
-    let k = c .before .prepared in
-    (start c .pre .0 .0, omega (arith, lent-places (k .result) (k .ensures), k .ensures))
-
--- and come back
-filled : (c : tie.After-table2) → length (c .before .fill-classes .last .1 .0) ≡ c .before .before .before .prepared .result
-filled c = let k = c .before .before .before .prepared in c .table2 .given ∙ lent-places (k .result) (k .ensures)
+fill-classes-requires c κs = (c .before .before .before .before .before .before .pre .0 .0, omega arith)
 
 array-share-prefix-table : tie.Need-array-share-prefix-table
-array-share-prefix-table c = simp length-append (omega (arith, filled c))
+array-share-prefix-table c = omega (arith, c .before .fill-classes .ensures .0)
 
 slice-aggregate-run-from : tie.Need-slice-aggregate-run-from
-slice-aggregate-run-from c = let t = c .before in sym (ap length (take-at (t .before .fill-classes .last .1 .0) _ _ (filled t)) ∙ filled t)
+slice-aggregate-run-from c =
+    let f = c .before .before .fill-classes in sym (length-take-le 256 (f .last .1 .1 .0) (omega (arith, f .ensures .0)))
 
 run-from-requires : tie.Need-run-from-requires
 run-from-requires c κs =
-    let t = c .before .before .before in
-    let s = start (t .before .before) in
-    (subst (Classed (s .args .words .now)) (sym (take-at (t .before .fill-classes .last .1 .0) _ _ (filled t))) (t .before .fill-classes .ensures), s .pre)
+    let f = c .before .before .before .before in (f .fill-classes .ensures .1, f .before .before .before .before .before .before .before .pre)
 
 same-length : tie.Need-same-length
 same-length c = search needs
@@ -53,17 +30,28 @@ same-length c = search needs
 returns : tie.Need-returns
 returns c = search needs
 
+prepared-requires : tie.Need-prepared-requires
+prepared-requires c κs = search needs
+
 slice-aggregate-fill-classes-2 : tie.Need-slice-aggregate-fill-classes-2
 slice-aggregate-fill-classes-2 c = search needs
 
 fill-classes-requires-2 : tie.Need-fill-classes-requires-2
-fill-classes-requires-2 c κs = search needs
+fill-classes-requires-2 c κs = (c .before .before .before .before .before .before .before .pre .0 .0, omega (arith, c .before .prepared .ensures))
+
+array-share-prefix-table-2 : tie.Need-array-share-prefix-table-2
+array-share-prefix-table-2 c =
+    let f = c .before in omega (arith, f .fill-classes2 .ensures .0, f .before .before .prepared .ensures)
 
 slice-aggregate-run-from-2 : tie.Need-slice-aggregate-run-from-2
-slice-aggregate-run-from-2 c = search needs
+slice-aggregate-run-from-2 c =
+    let f = c .before .before in
+    let k = f .before .before .prepared in
+    sym (length-take-le (k .result) (f .fill-classes2 .last .1 .1 .0) (omega (arith, f .fill-classes2 .ensures .0, k .ensures)))
 
 run-from-requires-2 : tie.Need-run-from-requires-2
-run-from-requires-2 c κs = search needs
+run-from-requires-2 c κs =
+    let f = c .before .before .before .before in (f .fill-classes2 .ensures .1, f .before .before .before .before .before .before .before .before .pre)
 
 same-length-2 : tie.Need-same-length-2
 same-length-2 c = search needs
@@ -75,8 +63,6 @@ pub run-words-spec : {M : Type 1} → statement M
 run-words-spec =
     tie.close
     (tie.spec
-    prepared-requires
-    array-borrow-prefix-table
     slice-aggregate-fill-classes
     fill-classes-requires
     array-share-prefix-table
@@ -84,8 +70,10 @@ run-words-spec =
     run-from-requires
     same-length
     returns
+    prepared-requires
     slice-aggregate-fill-classes-2
     fill-classes-requires-2
+    array-share-prefix-table-2
     slice-aggregate-run-from-2
     run-from-requires-2
     same-length-2
