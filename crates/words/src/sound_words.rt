@@ -1,5 +1,5 @@
 // "Sound words": the test of words before a machine runs on them, a function for each clause. It looks only at words in use.
-ghost use mathlib.Core.Bool.{cond, not};
+ghost use mathlib.Core.Bool.{not};
 ghost use mathlib.Core.List.{[], _∷_};
 ghost use mathlib.Core.Path.{_≡_};
 ghost use Prim.Native.Nat.{suc, pred, _+_, _*_, _≤_, _<_};
@@ -10,6 +10,7 @@ ghost use Rattle.meaning.specs.Table.{isShift};
 ghost use Rattle.meaning.specs.Block.{at, blockSize, entrySize};
 ghost use Rattle.automaton.specs.Sound.{stateCount, classCount, ruleCount, longestWord, expansionWord, depthWord, acceptAtEndWord, acceptWord, targetWord, blockAt, between, used, oneOnly, soundEntry, soundHeader, soundStarts, soundBlock, soundBlocks, namesRule, soundTarget, soundState, sound};
 ghost use Rattle.automaton.specs.Layout.{wordCount};
+ghost use Rattle.words.specs.bridge.Levels.{soundDepth};
 use crate::layout::BLOCKS_FROM;
 use crate::layout::WORDS;
 use crate::levels::pass_in_levels;
@@ -250,9 +251,7 @@ fn target_sound(words: &[u16], state: StateNo, target: StateNo) -> bool
 // "State 0 has depth 0, others 1 to L."
 fn depth_sound(words: &[u16], state: StateNo) -> bool
     requires { ⌜ (wordCount ≤ length (now words)) × (state .0 < 256) ⌝ }
-    ensures { λ r.
-        ⌜ r ≡ cond (eqb (state .0) 0) (eqb (depthWord (now (words .entry)) (state .0)) 0)
-        (between 1 (longestWord (now (words .entry))) (depthWord (now (words .entry)) (state .0))) ⌝ }
+    ensures { λ r. ⌜ r ≡ soundDepth (now (words .entry)) (state .0) ⌝ }
 {
     let depth = depth_word(words, state);
     if state.0 == 0 {

@@ -1,10 +1,9 @@
 -- `run::class_end` meets its contract: the next class's start is the end where it is among the characters, and is not below the class's own.
 -- Assumes nothing.
-use mathlib.Core.Path.{_≡_, sym}
-use Prim.Native.Nat.{_+_, _≤_, _<_}
+use mathlib.Core.Path.{sym}
+use Prim.Native.Nat.{_+_, _<_}
 use native.Mathlib.Omega.{arith}
 use borrow.Author.Needs.{needs}
-use Rattle.meaning.specs.Block.{at}
 use Rattle.automaton.specs.Sound.{classCount}
 use Rattle.automaton.proofs.Laws.Words.{sound-header}
 use Rattle.automaton.proofs.Laws.Reading.{starts-ordered}

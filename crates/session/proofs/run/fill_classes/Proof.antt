@@ -1,11 +1,8 @@
 -- `run::fill_classes` meets its contract. The invariant: the classes of the first characters stand at their places, and the next class starts behind.
 -- The measure is the number of classes left. Assumes nothing.
-use mathlib.Core.Bool.{cond}
-use mathlib.Core.List.{List}
-use mathlib.Core.Path.{_≡_, refl, sym, ap, _∙_}
+use mathlib.Core.Path.{_≡_, refl, _∙_}
 use Prim.Native.Nat.{ℕ, _+_, _-_, _≤_, _<_}
 use native.Mathlib.Omega.{arith}
-use borrow.Author.Needs.{needs}
 use lib.ListN.{length, getD}
 use lib.Seq.{length-take-le, getD-take}
 use Rattle.meaning.specs.Block.{at}

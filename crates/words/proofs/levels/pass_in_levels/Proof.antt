@@ -1,15 +1,14 @@
 -- `levels::pass_in_levels` meets its contract: the loop keeps that the states before the level are sound and those of the level have its depth.
 -- The measure is the number of the states that are left.
 use mathlib.Core.Bool.{true, false≢true}
-use mathlib.Core.Path.{_≡_, refl, sym, _∙_}
-use Prim.Native.Nat.{ℕ, suc, _+_, _-_, _≤_, _<_}
+use mathlib.Core.Path.{_≡_, refl}
+use Prim.Native.Nat.{ℕ, _-_, _≤_, _<_}
 use native.Mathlib.Omega.{arith}
 use denote.Ref.{now}
 use lib.Dec.{eqb→eq}
 use Rattle.lists.specs.Decide.{forBelow}
 use Rattle.lists.proofs.Laws.Tests.{to-T, of-T, passed, to-below}
 use Rattle.automaton.specs.Sound.{stateCount, depthWord, soundState}
-use Rattle.words.specs.bridge.Levels.{Above, soundDepth}
 use Rattle.words.proofs.Laws.Levels.{depth-passes, join-levels}
 use Rattle.words.proofs.levels.pass_in_levels.Statement.{statement}
 use Rattle.words.proofs.levels.pass_in_levels.Tie as tie

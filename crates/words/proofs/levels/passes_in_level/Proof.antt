@@ -1,12 +1,11 @@
 -- `levels::passes_in_level` meets its contract: past the tests of end and go, the row decides.
 -- Without a go each target lies in the interval, with one there is no target.
 use mathlib.Core.Bool.{false≢true}
-use mathlib.Core.Path.{_≡_, sym, _∙_}
+use mathlib.Core.Path.{sym, _∙_}
 use native.Mathlib.Omega.{arith}
 use denote.Ref.{now}
 use Rattle.lists.proofs.Laws.Tests.{passed}
 use Rattle.automaton.proofs.Laws.Checking.{unused}
-use borrow.Author.Needs.{needs}
 use Rattle.words.proofs.Laws.Levels.{row-passes, row-empty, state-passes}
 use Rattle.words.proofs.levels.passes_in_level.Statement.{statement}
 use Rattle.words.proofs.levels.passes_in_level.Tie as tie

@@ -4,6 +4,7 @@ use mathlib.Core.Path.{sym, _∙_}
 use Rattle.lists.proofs.Laws.Tests.{passed, failed, all-stops, all-next, all-last}
 use Rattle.automaton.specs.Sound.{soundState}
 use borrow.Author.Needs.{needs}
+use Rattle.words.specs.bridge.Levels.{soundDepth}
 use Rattle.words.proofs.sound_words.state_sound.Statement.{statement}
 use Rattle.words.proofs.sound_words.state_sound.Tie as tie
 
@@ -11,14 +12,14 @@ depth-sound-requires : tie.Need-depth-sound-requires
 depth-sound-requires c κs = search needs
 
 returns : tie.Need-returns
-unfolding soundState
+unfolding soundDepth soundState
 returns c = sym (all-stops _ (failed (c .before .depth-sound .ensures) (c .if1 .taken)))
 
 accept-at-end-sound-requires : tie.Need-accept-at-end-sound-requires
 accept-at-end-sound-requires c κs = search needs
 
 returns-2 : tie.Need-returns-2
-unfolding soundState
+unfolding soundDepth soundState
 returns-2 c =
     let e = c .before .before in
     sym (all-next _ (passed (e .before .depth-sound .ensures) (e .if1 .left)) ∙ all-stops _ (failed (c .before .accept-at-end-sound .ensures) (c .if2 .taken)))
@@ -27,7 +28,7 @@ accept-sound-requires : tie.Need-accept-sound-requires
 accept-sound-requires c κs = search needs
 
 returns-3 : tie.Need-returns-3
-unfolding soundState
+unfolding soundDepth soundState
 returns-3 c =
     let d = c .before .before in
     let e = d .before .before in
@@ -40,7 +41,7 @@ targets-sound-requires : tie.Need-targets-sound-requires
 targets-sound-requires c κs = search needs
 
 returns-4 : tie.Need-returns-4
-unfolding soundState
+unfolding soundDepth soundState
 returns-4 c =
     let b = c .before in
     let d = b .before .before in
