@@ -1,5 +1,5 @@
 pub mod Sessions
 pub mod Witness
 pub mod Claims
-pub mod Demand3
+pub mod Caller
 pub mod Lent

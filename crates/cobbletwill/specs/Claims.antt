@@ -11,6 +11,7 @@ use Rattle.automaton.specs.Sound.{expansionWord}
 use Rattle.reckoning.specs.Uses.{useCounts}
 use Rattle.reckoning.specs.Session.{Session, fresh}
 use Rattle.cobbletwill.specs.Sessions.{sessionFrom, numbersOf, CalledFace, left, feed, finish, PreviewedFace, previewed, preview}
+use Rattle.cobbletwill.specs.Caller.{caller}
 use Rattle.cobbletwill.specs.declared.sessions.SessionNumbers.{SessionNumbers}
 
 -- no rule was used, nor the default
@@ -21,8 +22,8 @@ abbrev pub zeros : SessionNumbers
 zeros = record { received = 0; tally = record { produced = 0; steps = 0 }; status = 0; state = 0; «held_count» = 0; held = pad 8 [] }
 
 pub record Faithful : Type 0 where
-  -- "Fresh: open, all 0."
-  pub zeros : sessionFrom zeros unused ≡ fresh
+  -- "Fresh: open, all 0.", under whatever words
+  pub zeros : (w : List ℕ) → caller w .Is (zeros, unused) fresh
   -- nothing is lost on the way to numbers and back, nor on the way to a session and back
   pub sessions : (s : Session) → sessionFrom (numbersOf s) (s .uses) ≡ s
   pub numbers : (n : SessionNumbers) (uses : List ℕ) → n .status ≤ 2 → numbersOf (sessionFrom n uses) ≡ n

@@ -1,7 +1,6 @@
 pub mod Face
 pub mod Witness
 pub mod Sessions
+pub mod Caller
 pub mod Claims
-pub mod Demand3
-pub mod Uses
 pub mod bridge

@@ -9,6 +9,8 @@ pub mod Meaning
 pub mod Swap
 pub mod Calls
 pub mod Demand3
+pub mod InTurn
+pub mod Serves
 pub mod Examples
 pub mod Instances
 pub mod Keeping

@@ -62,15 +62,17 @@ pub record Agrees (t : Table) (cs : List Call) (v : Served) (i : Input) (r : End
       × (meaningPlace t (i .characters ++ more) ≡ meaningPlace t (i .characters))
       × (ran t (i .characters ++ more) ended .final .steps ≡ r .final .steps)
 
+-- the same, where the input and the run are the reckoning's own
+abbrev pub Agreed : Table → List Call → Served → Type 0
+Agreed t cs v = let i = reckon t cs noInput in Agrees t cs v i (ran t (i .characters) (i .ended))
+
 -- "Take every table that keeps document 01's rules for compiling, and so compiles by demand 2, and every list of feeds and finishes of its
 -- machine from a fresh session, refused ones included, whatever the pieces and output lengths."
 unfoldable pub OutcomesAgree : Type 0
 OutcomesAgree =
     (b buffer : List ℕ) (t : Table) → KeepsCompiling b t → wordCount ≤ length buffer →
     (cs : List Call) → Each (λ c. Characters (piece c)) cs →
-    let w = compile b buffer .words in
-    let i = reckon t cs noInput in
-    Agrees t cs (serve w cs unserved) i (ran t (i .characters) (i .ended))
+    Agreed t cs (serve (compile b buffer .words) cs unserved)
 
 -- Demand 1 for a feed or finish that found the session s and the buffer, and came to o: "an accepted answer or one of the numbered
 -- refusals"; "every other refusal changes nothing. Words beyond those written stay as found."
@@ -103,9 +105,3 @@ SoundAddsUp = (w : List ℕ) (s : Session) → T (sound w) → T (soundSession w
 -- "(refusal 12)": one that does not is refused by 12
 unfoldable pub RefusesOthers : Type 0
 RefusesOthers = (w : List ℕ) (s : Session) (c : Call) → T (sound w) → (AddsUp w s → ⊥) → called w s c .answer ≡ refused 12
-
--- "After any list of feeds and finishes of one machine from a sound session", of eight places, refused calls included
-unfoldable pub CallsAddUp : Type 0
-CallsAddUp =
-    (w : List ℕ) (cs : List Call) (v : Served) → T (sound w) → T (soundSession w (v .session)) → length (v .session .held) ≡ 8 →
-    AddsUp w (serve w cs v .session)

@@ -4,6 +4,8 @@ pub mod Session
 pub mod Calls
 pub mod Reckoning
 pub mod Claims
+pub mod InTurn
+pub mod Serves
 pub mod Append
 pub mod Preview
 pub mod Examples

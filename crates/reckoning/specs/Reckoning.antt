@@ -4,6 +4,7 @@ use mathlib.Core.List.{List, [], _∷_, _++_}
 use Prim.Native.Nat.{ℕ, _+_, _-_, _*_}
 use lib.Dec.{ltb}
 use lib.ListN.{length, take}
+use Rattle.lists.specs.Lists.{foldLeft}
 use Rattle.lists.specs.Decide.{select}
 use Rattle.meaning.specs.Refusal.{Outcome, refused, accepted}
 use Rattle.meaning.specs.Table.{Table, expansion}
@@ -41,8 +42,12 @@ pub record Served : Type 0 where
   pub output : List ℕ
   pub session : Session
 
+-- no call yet
+abbrev pub before : Session → Served
+before s = record { answers = []; output = []; session = s }
+
 abbrev pub unserved : Served
-unserved = record { answers = []; output = []; session = fresh }
+unserved = before fresh
 
 abbrev pub called : List ℕ → Session → Call → CallOutcome
 called w s (ofFeed p buffer) = feed w s p buffer
@@ -53,18 +58,25 @@ abbrev pub outputBy : Outcome Answer → List ℕ → List ℕ
 outputBy (refused n) buffer = []
 outputBy (accepted a) buffer = take (a .count) buffer
 
-abbrev pub serveCall : List ℕ → Served → Call → Served
-serveCall w v c =
-    let o = called w (v .session) c in
+-- one call more, of this outcome
+abbrev pub andThen : CallOutcome → Served → Served
+andThen o v =
     record {
       answers = v .answers ++ (o .answer ∷ []);
       output = v .output ++ outputBy (o .answer) (o .output);
       session = o .session;
     }
 
+abbrev pub serveCall : List ℕ → Served → Call → Served
+serveCall w v c = andThen (called w (v .session) c) v
+
 unfoldable pub serve : List ℕ → List Call → Served → Served
 serve w [] v = v
 serve w (c ∷ cs) v = serve w cs (serveCall w v c)
+
+-- the same of calls that a caller made from the session s, and saw to have these outcomes
+abbrev pub seen : Session → List CallOutcome → Served
+seen s outcomes = foldLeft andThen outcomes (before s)
 
 -- "The accepted pieces joined"
 abbrev pub acceptedPieces : List Call → List (Outcome Answer) → List ℕ

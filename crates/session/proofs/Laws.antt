@@ -2,7 +2,7 @@ pub mod Counting
 pub mod Running
 pub mod Reading
 pub mod Turning
-pub mod InTurn
+pub mod Caller
 pub mod Resuming
 pub mod Lending
 pub mod Lent

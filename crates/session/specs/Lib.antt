@@ -1,6 +1,5 @@
 pub mod Keeping
 pub mod Contracts
-pub mod Demand3
-pub mod Uses
+pub mod Caller
 pub mod Preview
 pub mod bridge

@@ -69,7 +69,7 @@ numbers-same n uses l =
 
 pub faithful : Faithful
 unfolding fresh pad
-faithful = record { zeros = refl; sessions = sessions-same; numbers = numbers-same }
+faithful = record { zeros = λ w. (omega arith, refl); sessions = sessions-same; numbers = numbers-same }
 
 -- every answer is of the list
 

@@ -21,8 +21,8 @@ use Rattle.automaton.proofs.Laws.Words.{sound-good, sound-short}
 use Rattle.reckoning.specs.Machine.{Status, Open, Closed, Stopped}
 use Rattle.reckoning.specs.Session.{Session, store, isOpen, soundSession}
 use Rattle.reckoning.specs.Calls.{Answer, CallOutcome, admits, resumed, callBy, feed, finish}
-use Rattle.reckoning.specs.Reckoning.{Call, ofFeed, ofFinish, piece, bufferOf, room, ends, called, serveCall, serve}
-use Rattle.reckoning.specs.Claims.{CallAnswers, CallsAnswer, CallsKeep, SoundAddsUp, CallsAddUp, RefusesOthers}
+use Rattle.reckoning.specs.Reckoning.{Call, ofFeed, ofFinish, piece, bufferOf, room, ends, Served, called, serveCall, serve}
+use Rattle.reckoning.specs.Claims.{CallAnswers, CallsAnswer, CallsKeep, SoundAddsUp, RefusesOthers}
 use Rattle.reckoning.proofs.Laws.Trace.{trace, logOf, statusOf}
 use Rattle.reckoning.proofs.Laws.Rounds.{bounded, counted-most}
 use Rattle.reckoning.proofs.Laws.Kept.{trace-few, sound-facts, call-tells, kept-sound}
@@ -166,12 +166,12 @@ sound-adds-up w s W t =
     let f = sound-facts w s t .uses in
     record { sum = f .sum; lacking = f .lacking; undefaulted = λ z. f .undefaulted (omega arith) }
 
--- and of what any list of calls leaves of one
-pub calls-add-up : CallsAddUp
-unfolding CallsAddUp SoundAddsUp serve
-calls-add-up w [] v W t eight = sound-adds-up w (v .session) W t
-calls-add-up w (c ∷ cs) v W t eight =
-    let k = call-stays w (v .session) c t eight in calls-add-up w cs (serveCall w v c) W (k .0) (k .1)
+-- any list of calls leaves a sound session of eight places sound
+pub calls-stay : (w : List ℕ) (cs : List Call) (v : Served) → T (soundSession w (v .session)) → length (v .session .held) ≡ 8 →
+    T (soundSession w (serve w cs v .session))
+unfolding serve
+calls-stay w [] v t eight = t
+calls-stay w (c ∷ cs) v t eight = let k = call-stays w (v .session) c t eight in calls-stay w cs (serveCall w v c) (k .0) (k .1)
 
 -- and a session that does not add up is refused by 12
 pub refuses-others : RefusesOthers
