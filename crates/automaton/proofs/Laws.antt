@@ -1,4 +1,5 @@
 pub mod Opened
+pub mod Answered
 pub mod Good
 pub mod Inserting
 pub mod Classes

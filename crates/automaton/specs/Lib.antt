@@ -9,4 +9,5 @@ pub mod Witness
 pub mod Digits
 pub mod Starts
 pub mod AnyOrder
+pub mod Answered
 pub mod bridge

@@ -1,4 +1,5 @@
 pub mod Opened
+pub mod Answered
 pub mod Refusal
 pub mod Shape
 pub mod Groups

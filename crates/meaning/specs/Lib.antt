@@ -12,5 +12,6 @@ pub mod Direct
 pub mod Claims
 pub mod Digits
 pub mod Samples
+pub mod Answered
 pub mod AnyOrder
 pub mod bridge

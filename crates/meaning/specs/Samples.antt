@@ -11,16 +11,16 @@ characters [] = Core.[]
 characters (c ∷ s) = Core._∷_ (code c) (characters s)
 
 -- a record: bytes 0 to 3, then the numbers of bytes 4-5 and 6-7
-abbrev entry : ℕ → ℕ → ℕ → ℕ → ℕ → List ℕ
+abbrev pub entry : ℕ → ℕ → ℕ → ℕ → ℕ → List ℕ
 entry kind b c lo hi =
     Core._∷_ kind (Core._∷_ b (Core._∷_ c (Core._∷_ 0 (Core._∷_ (lo % 256) (Core._∷_ (lo / 256) (Core._∷_ (hi % 256) (Core._∷_ (hi / 256) Core.[])))))))
 
 -- a rule with K and anchored 0 or 1; a range, by its characters' numbers, of one character only; an output character of a constant, of a
 -- character; a term; a hexadecimal digit
-abbrev rule : ℕ → ℕ → List ℕ
+abbrev pub rule : ℕ → ℕ → List ℕ
 rule k a = entry 1 k a 0 0
 
-abbrev span : ℕ → ℕ → ℕ → List ℕ
+abbrev pub span : ℕ → ℕ → ℕ → List ℕ
 span p lowest highest = entry 2 p 0 lowest highest
 
 abbrev range : ℕ → Char → Char → List ℕ
@@ -29,7 +29,7 @@ range p a b = span p (code a) (code b)
 abbrev only : ℕ → Char → List ℕ
 only p c = range p c c
 
-abbrev out : ℕ → List ℕ
+abbrev pub out : ℕ → List ℕ
 out c = entry 3 0 0 (c % 65536) (c / 65536)
 
 abbrev says : Char → List ℕ

@@ -12,6 +12,7 @@ pub mod Demand3
 pub mod InTurn
 pub mod Serves
 pub mod Examples
+pub mod Answered
 pub mod Instances
 pub mod Keeping
 pub mod Admitting

@@ -9,4 +9,5 @@ pub mod Serves
 pub mod Append
 pub mod Preview
 pub mod Examples
+pub mod Answered
 pub mod Instances

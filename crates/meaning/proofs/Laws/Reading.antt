@@ -17,6 +17,7 @@ use Rattle.meaning.specs.Refusal.{Outcome, refused, accepted}
 use Rattle.meaning.specs.Table.{Range, Output, sum, digit, Group, Table, everyCharacter, isShift}
 use Rattle.meaning.specs.Record.{Record, rule, range, output, term, default, hexadecimal, decode}
 use Rattle.meaning.specs.Reader.{signed, Reading, unread, latest, repeated, ranging, unfilled, misplaced, skipping, tooMany, changeLatest, addRange, addTerm, changeRanges, changeOutputs, taken, readOne, readRecords, readEnd, readRules}
+use Rattle.meaning.specs.Answered.{EndsApart}
 use Rattle.meaning.proofs.Laws.Terms.{put-length}
 use Rattle.meaning.proofs.Laws.Refusal.{by-then, Says}
 use Rattle.meaning.proofs.Laws.Shape.{Within, ShapedGroup, ShapedDefault, Shaped}
@@ -278,6 +279,22 @@ unfolding unread
 unread-kept = record { few = omega arith; rules = tt; default = tt; ended = tt }
 
 -- the table's end
+
+-- without a rule nothing is unfilled
+unfilled-rule : (s : Reading) → KeptReading s → T (unfilled s) → 1 ≤ length (s .table .rules)
+unfolding unfilled latest
+unfilled-rule s k t = go (s .table .rules) (s .table .default) (ranging s) k t
+  where
+    go : (rs : List Group) (d : Option Group) (b : Bool) → Kept b (record { rules = rs; default = d }) →
+        T (b && ltb (length (top rs d .ranges)) (top rs d .size)) → 1 ≤ length rs
+    go (g ∷ rs) d b k t = omega arith
+    go [] d false k t = absurd t
+    go [] none true k t = absurd t
+    go [] (some g) true k t = absurd (k .ended .1)
+
+pub ends-apart : EndsApart
+unfolding EndsApart
+ends-apart b s l = unfilled-rule s (subst (Read KeptReading) (l .1) (records-kept (length b / 8) b unread unread-kept))
 
 abbrev WellRead : Table → Type 0
 WellRead t = Shaped t × Filled t

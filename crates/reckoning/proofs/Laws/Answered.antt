@@ -1,0 +1,16 @@
+-- The rows of refusals of feed, finish and preview hold: of two faults the one that is tested first is answered.
+-- They are computed.
+use lib.Dec.{T}
+use Rattle.lists.specs.Lists.{sumBelow}
+use Rattle.lists.specs.Decide.{allOf}
+use Rattle.meaning.proofs.Laws.Opened.{rules-opened}
+use Rattle.automaton.proofs.Laws.Opened.{machine-opened}
+use Rattle.reckoning.specs.Uses.{charactersUsed, soundUses}
+use Rattle.reckoning.specs.Session.{path, soundSession}
+use Rattle.reckoning.specs.Calls.{admits, feed, finish}
+use Rattle.reckoning.specs.Preview.{preview}
+use Rattle.reckoning.specs.Answered.{callOrder}
+
+pub calls-in-order : T (allOf callOrder)
+unfolding rules-opened machine-opened sumBelow charactersUsed soundUses path soundSession admits feed finish preview callOrder
+calls-in-order = tt
