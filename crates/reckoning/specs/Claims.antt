@@ -15,9 +15,10 @@ use Rattle.automaton.specs.Layout.{wordCount}
 use Rattle.automaton.specs.Sound.{ruleCount, sound}
 use Rattle.automaton.specs.Compile.{compile}
 use Rattle.automaton.specs.Claims.{KeepsCompiling}
-use Rattle.reckoning.specs.Machine.{Status, Open, Closed, Stopped, Ended}
+use Rattle.automaton.specs.Automaton.{Automaton, fromTable}
+use Rattle.reckoning.specs.Machine.{Configuration, Status, Open, Closed, Stopped, Ended}
 use Rattle.reckoning.specs.Uses.{usesOf, charactersUsed}
-use Rattle.reckoning.specs.Session.{Session, consumed, soundSession}
+use Rattle.reckoning.specs.Session.{Session, consumed, settled, soundSession}
 use Rattle.reckoning.specs.Calls.{Answer, CallOutcome, receivedBy}
 use Rattle.reckoning.specs.Reckoning.{Call, piece, bufferOf, called, acceptedPieces, Served, unserved, serve, Input, noInput, ran, ranText, reckon}
 
@@ -25,6 +26,13 @@ abbrev pub isStopped : Status → Bool
 isStopped Open = false
 isStopped Closed = false
 isStopped Stopped = true
+
+-- "No next character and no end yet: wait": nothing is unread, no default is due, and the state is none "whose go equals its end"
+pub record Waits (m : Automaton) (ended : Bool) (c : Configuration) : Type 0 where
+  pub no-end : ended ≡ false
+  pub unread : c .unread ≡ []
+  pub due : c .due ≡ false
+  pub state : settled m (c .state) ≡ false
 
 -- Demand 3: v is what the calls cs answered, wrote and left, i is the reckoning's input, r the plain machine's run over it.
 pub record Agrees (t : Table) (cs : List Call) (v : Served) (i : Input) (r : Ended) : Type 0 where
@@ -46,6 +54,8 @@ pub record Agrees (t : Table) (cs : List Call) (v : Served) (i : Input) (r : End
   -- "Demand 3's equality over lists of calls then includes all 33 counts, each the number of the plain machine's emits that wrote that
   -- group's output." (request [2])
   pub uses : v .session .uses ≡ usesOf (r .final .log)
+  -- "until it waits, closes or stops": a run that is open had no step left to take
+  pub waits : r .status ≡ Open → Waits (fromTable t) (i .ended) (r .final)
   -- "The steps are at most (L + 3) times n, plus 1, where L is the longest pattern."
   pub bound : v .session .steps ≤ (longest t + 3) * length (i .characters) + 1
   -- "Once a finish is accepted or a feed has stopped the session, the joined outputs are the text of demand 2's definition for the input."

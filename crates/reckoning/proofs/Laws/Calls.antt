@@ -29,9 +29,10 @@ use Rattle.reckoning.specs.Uses.{usesOf, usesAfter}
 use Rattle.reckoning.specs.Session.{Session, fresh, consumed, isOpen, soundSession}
 use Rattle.reckoning.specs.Calls.{Answer, CallOutcome, admits, receivedBy, resumed, later, callBy}
 use Rattle.reckoning.specs.Reckoning.{Call, piece, bufferOf, room, ends, Served, unserved, outputBy, serveCall, serve, Input, noInput, ran, ranText, reckoned, answerBy, inputBy, reckonCall, reckon}
+use Rattle.reckoning.specs.Claims.{Waits}
 use Rattle.reckoning.proofs.Laws.Trace.{Trace, trace, cost, logOf, heldOf, stateOf, statusOf}
 use Rattle.reckoning.proofs.Laws.Rounds.{Joined, trace-graft, graft-open, not-open, rests-open, trace-rests, Counted, bounded, trace-ended}
-use Rattle.reckoning.proofs.Laws.Run.{Tells, run-tells}
+use Rattle.reckoning.proofs.Laws.Run.{Tells, run-tells, run-waits}
 use Rattle.reckoning.proofs.Laws.Swap.{trace-alike, trace-emits, text-same}
 use Rattle.reckoning.proofs.Laws.Uses.{uses-append}
 use Rattle.reckoning.proofs.Laws.Kept.{fresh-sound, kept-sound, sound-facts}
@@ -158,6 +159,10 @@ module _ (t : Table) (w : List ℕ) (K : Matched t w) where
   pub ran-tells : (u : List ℕ) (e : Bool) → Tells (fromTable t) (start [] u 0) (trace (fromTable t) e 0 u) (ran t u e)
   unfolding ran after
   ran-tells u e = run-tells (fromTable t) (longest t) (length (states t)) (K .good) (K .small) e [] u 0 tt refl
+
+  pub ran-waits : (u : List ℕ) (e : Bool) → ran t u e .status ≡ Open → Waits (fromTable t) e (ran t u e .final)
+  unfolding ran after
+  ran-waits u e = run-waits (fromTable t) (longest t) (length (states t)) (K .good) (K .small) e [] u 0 tt refl
 
   pub same-trace : (u : List ℕ) (e : Bool) → Characters u → trace (fromTable t) e 0 u ≡ trace machine e 0 u
   same-trace u e c = trace-alike (fromTable t) machine (K .alike) e 0 u c

@@ -35,7 +35,7 @@ use Rattle.reckoning.specs.Claims.{isStopped, Agrees, OutcomesAgree}
 use Rattle.reckoning.proofs.Laws.Trace.{trace, cost, logOf, heldOf, statusOf}
 use Rattle.reckoning.proofs.Laws.Rounds.{NotOpen, not-open, trace-covers, held-characters, trace-graft, graft-stopped, ended-empty, Counted, Bounded, bounded}
 use Rattle.reckoning.proofs.Laws.Meaning.{ending, meaning-law}
-use Rattle.reckoning.proofs.Laws.Calls.{told, Matched, Standing, calls-stand, ran-tells, same-trace, ran-text}
+use Rattle.reckoning.proofs.Laws.Calls.{told, Matched, Standing, calls-stand, ran-tells, ran-waits, same-trace, ran-text}
 
 -- a trace that stopped without the end is the trace of every longer input, ended or not
 pub stopped-firm : (A : Automaton) (u more : List ℕ) (e : Bool) → statusOf (trace A false 0 u) ≡ Stopped → trace A e 0 (u ++ more) ≡ trace A false 0 u
@@ -161,6 +161,7 @@ module _ (t : Table) (w : List ℕ) (K : Matched t w) where
         received =
             ap (λ (z : Session). z .received) s ∙ (λ j. receivedBy (sym (tells .status) j) (length u) (covered (sym (tells .log) j)));
         uses = ap (λ (z : Session). z .uses) s ∙ ap usesOf (sym (tells .log));
+        waits = ran-waits t w K u e;
         bound = rw s (b .whole);
         text = λ h. out ∙ ap (textOf (A .write)) (tells .log ∙ log-is h) ∙ text-is (convert t u .log);
         closed = λ h. closed-iff (v .session .status) (convert t u .closed) (end-is h);

@@ -18,6 +18,7 @@ use Rattle.automaton.specs.Automaton.{Automaton}
 use Rattle.automaton.proofs.Laws.Good.{after, after-snoc, Leads, leads-snoc, Good}
 use Rattle.reckoning.specs.Machine.{Configuration, Status, Open, Closed, Stopped, Step, onward, halt, emit, read, rollBack, end, fallBack, step, Ended, follow, steps, run, start}
 use Rattle.reckoning.specs.Session.{settled}
+use Rattle.reckoning.specs.Claims.{Waits}
 use Rattle.reckoning.proofs.Laws.Trace.{Round, waits, closes, stops, accepts, defaults, back, walk, Trace, waiting, closing, stopping, accepting, defaulting, handle, trace, cost, logOf, heldOf, stateOf, statusOf}
 use Rattle.reckoning.proofs.Laws.Walk.{settled-both, Span, walk-span, walk-resume}
 use Rattle.reckoning.proofs.Laws.Rounds.{trace-round, not-open, trace-rests, rests-open, trace-ended, bounded}
@@ -357,7 +358,7 @@ module _ (A : Automaton) (L n : ℕ) (G : Good A L n) where
   pub run-tells : L ≤ 8 → (e : Bool) (w u : List ℕ) (q : ℕ) → Leads A 0 w → q ≡ after A 0 w →
       Tells A (start w u q) (trace A e 0 (w ++ u)) (run A e (start w u q))
   unfolding run
-  run-tells h e w u q ld p = fuel-tells h e w u q ld p (11 * (length w + length u + 1)) (omega arith)
+  run-tells h e w u q ld p = fuel-tells h e w u q ld p _ (omega arith)
 
   -- more fuel changes nothing
   pub fuel-enough : L ≤ 8 → (e : Bool) (w u : List ℕ) (q : ℕ) → Leads A 0 w → q ≡ after A 0 w → (m : ℕ) → 11 * (length w + length u + 1) ≤ m →
@@ -366,21 +367,19 @@ module _ (A : Automaton) (L n : ℕ) (G : Good A L n) where
       tells-unique A (start w u q) (trace A e 0 (w ++ u)) (steps A e m (start w u q)) (run A e (start w u q)) (fuel-tells h e w u q ld p m enough)
       (run-tells h e w u q ld p)
 
-  -- a run that ends open is waiting
-  pub run-waits : L ≤ 8 → (w u : List ℕ) (q : ℕ) → Leads A 0 w → q ≡ after A 0 w → run A false (start w u q) .status ≡ Open →
-      step A false (run A false (start w u q) .final) ≡ halt Open (run A false (start w u q) .final)
-  run-waits h w u q ld p o =
-      let t : Trace = trace A false 0 (w ++ u) in
-      let c : Configuration = run A false (start w u q) .final in
-      let a : Tells A (start w u q) t (run A false (start w u q)) = run-tells h false w u q ld p in
-      let rests = rests-open A t (trace-rests A L n G 0 (w ++ u)) (sym (a .status) ∙ o) in
-      let is : at (c .store) [] (c .state) (c .log) (c .steps) ≡ c =
-      λ i. record { store = c .store; unread = sym (a .unread) i; state = c .state; due = sym (a .due) i; log = c .log; steps = c .steps } in
-      subst (λ d. step A false d ≡ halt Open d) is (step-wait A (c .store) (c .state) (c .log) (c .steps) (ap (settled A) (a .state) ∙ rests .1))
-
-  -- with the end known no run ends open
-  pub run-ends : L ≤ 8 → (w u : List ℕ) (q : ℕ) → Leads A 0 w → q ≡ after A 0 w → run A true (start w u q) .status ≢ Open
-  run-ends h w u q ld p o = not-open (statusOf (trace A true 0 (w ++ u))) (trace-ended A 0 (w ++ u)) (sym (run-tells h true w u q ld p .status) ∙ o)
+  -- a run that ends open waits, and the end is not known
+  pub run-waits : L ≤ 8 → (e : Bool) (w u : List ℕ) (q : ℕ) → Leads A 0 w → q ≡ after A 0 w → run A e (start w u q) .status ≡ Open →
+      Waits A e (run A e (start w u q) .final)
+  run-waits h true w u q ld p o =
+      absurd (not-open (statusOf (trace A true 0 (w ++ u))) (trace-ended A 0 (w ++ u)) (sym (run-tells h true w u q ld p .status) ∙ o))
+  run-waits h false w u q ld p o =
+      let a = run-tells h false w u q ld p in
+      record {
+        no-end = refl;
+        unread = a .unread;
+        due = a .due;
+        state = ap (settled A) (a .state) ∙ rests-open A (trace A false 0 (w ++ u)) (trace-rests A L n G 0 (w ++ u)) (sym (a .status) ∙ o) .1;
+      }
 
 -- Before the input's end no run closes: each of its steps leads on, waits or stops.
 
@@ -412,4 +411,4 @@ steps-lead A (suc n) c = follow-leads (step A false c) (λ d. steps A false n d)
 
 pub run-unended : (A : Automaton) (c : Configuration) → NotClosed (run A false c .status)
 unfolding run
-run-unended A c = steps-lead A (11 * (length (c .store) + length (c .unread) + 1)) c
+run-unended A c = steps-lead A _ c
