@@ -1,5 +1,6 @@
 pub mod Sessions
 pub mod Witness
+pub mod Typed
 pub mod Claims
 pub mod Caller
 pub mod Lent

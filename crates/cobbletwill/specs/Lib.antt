@@ -1,5 +1,6 @@
 pub mod Face
 pub mod Witness
+pub mod Typed
 pub mod Sessions
 pub mod Caller
 pub mod Claims

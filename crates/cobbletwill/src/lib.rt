@@ -8,9 +8,9 @@ ghost use lib.ListN.{length};
 ghost use Rattle.meaning.specs.Direct.{checked, direct};
 ghost use Rattle.automaton.specs.Compile as Spec;
 ghost use Rattle.automaton.specs.Sound.{sound};
-ghost use Rattle.typed.specs.Typed.{fromText};
-ghost use Rattle.cobbletwill.specs.Face.{checkCode, codeOf, placeOf, writtenOf, typedCode, lengthOf, soundCode};
+ghost use Rattle.cobbletwill.specs.Face.{checkCode, codeOf, placeOf, writtenOf, soundCode};
 ghost use Rattle.cobbletwill.specs.Witness.{Witnessed};
+ghost use Rattle.cobbletwill.specs.Typed.{TypedFace};
 use machine::compile::Compiled;
 use machine::compile::compile;
 use rules::convert::Conversion;
@@ -130,9 +130,8 @@ pub extern "C" fn cobbletwill_witness(
 // 0 with the records of the typed text and their length in bytes set; else the number of the refusal, 16, 17, 2 to 7 or 15, and nothing changed.
 #[no_mangle]
 pub extern "C" fn cobbletwill_from_text(text: &[u16], table: &mut [u8], length: &mut u64) -> u32
-    ensures answer { λ r. ⌜ r ≡ typedCode (fromText (now (text .entry)) (now (table .entry)) .answer) ⌝ }
-    ensures table { λ _. ⌜ now (table .exit) ≡ fromText (now (text .entry)) (now (table .entry)) .table ⌝ }
-    ensures length { λ _. ⌜ now (length .exit) ≡ lengthOf (fromText (now (text .entry)) (now (table .entry)) .answer) (now (length .entry)) ⌝ }
+    ensures { λ r.
+        ⌜ TypedFace (now (text .entry)) (now (table .entry)) (now (length .entry)) r (now (table .exit)) (now (length .exit)) ⌝ }
 {
     let typed = from_text(text, table);
     match typed {

@@ -1,9 +1,9 @@
 -- Which text is which expression: the grammar as a relation, free of any reader.
 use mathlib.Core.Path.{_≡_}
-use mathlib.Core.Bool.{true}
+use mathlib.Core.Bool.{Bool, true, _&&_, _||_}
 use mathlib.Core.List.{List, [], _∷_, _++_}
 use Prim.Native.Nat.{ℕ, suc, _+_, _-_, _*_, _≤_, _<_}
-use Rattle.expression.specs.Text.{Read, Algebra, isBlank, isDigit, sum, within}
+use lib.Dec.{eqb, leb}
 
 -- an expression: "a factor is a decimal number .., `x` with a digit .., or an expression in parentheses"
 pub data Tree : Type 0 where
@@ -13,8 +13,13 @@ pub data Tree : Type 0 where
   minus : Tree → Tree → Tree
   times : Tree → Tree → Tree
 
-abbrev pub trees : Algebra Tree
-trees = record { number = number; place = place; plus = plus; minus = minus; times = times }
+-- how parts are put together
+pub record Algebra (A : Type 0) : Type 0 where
+  pub number : ℕ → A
+  pub place : ℕ → A
+  pub plus : A → A → A
+  pub minus : A → A → A
+  pub times : A → A → A
 
 -- a tree brought to anything that its parts are put together in
 unfoldable pub fold : {A : Type 0} → Algebra A → Tree → A
@@ -24,10 +29,17 @@ fold g (plus a b) = g .plus (fold g a) (fold g b)
 fold g (minus a b) = g .minus (fold g a) (fold g b)
 fold g (times a b) = g .times (fold g a) (fold g b)
 
--- blanks and line ends
+-- "Blanks (32) and line ends (10, 13)"
+abbrev pub isBlank : ℕ → Bool
+isBlank c = eqb c 32 || (eqb c 10 || eqb c 13)
+
+-- they "count for nothing between symbols"
 pub data Blanks : List ℕ → Type 0 where
   no-blanks : Blanks []
   a-blank : {c : ℕ} {b : List ℕ} → isBlank c ≡ true → Blanks b → Blanks (c ∷ b)
+
+abbrev pub isDigit : ℕ → Bool
+isDigit c = leb 48 c && leb c 57
 
 pub data Digits : List ℕ → Type 0 where
   no-digits : Digits []
@@ -61,7 +73,3 @@ pub data Reads : Level → ℕ → List ℕ → Tree → Type 0 where
 -- "an expression in parentheses, nested at most 16 deep"
 abbrev pub Expression : List ℕ → Tree → Type 0
 Expression u t = Reads aSum 16 u t
-
--- the reader of an expression's tree
-abbrev pub expressionOf : List ℕ → Read Tree
-expressionOf t = sum trees (within trees 16) t

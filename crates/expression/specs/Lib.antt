@@ -1,4 +1,3 @@
-pub mod Text
 pub mod Grammar
 pub mod Outputs
 pub mod Parts

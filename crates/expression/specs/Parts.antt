@@ -7,7 +7,7 @@ use lib.IntN.{ℤ, pos, negsuc, _+ℤ_, _-ℤ_, _*ℤ_}
 use lib.Signed.{mag}
 use lib.ListN.{getD, replicate, set}
 use Rattle.expression.specs.declared.part.Part.{Part}
-use Rattle.expression.specs.Text.{Algebra}
+use Rattle.expression.specs.Grammar.{Algebra}
 
 -- in signed 32 bits; `mag` is n for n and for -(n + 1)
 abbrev pub small : ℤ → Bool

@@ -3,8 +3,7 @@ use mathlib.Core.List.{List}
 use Prim.Native.Nat.{ℕ}
 use lib.IntN.{ℤ, pos, _+ℤ_, _-ℤ_, _*ℤ_}
 use lib.ListN.{getD}
-use Rattle.expression.specs.Text.{Algebra}
-use Rattle.expression.specs.Grammar.{Tree, fold}
+use Rattle.expression.specs.Grammar.{Algebra, Tree, fold}
 
 -- the value at a word: `x` with a digit is the character at that position
 abbrev pub numbersAt : List ℕ → Algebra ℤ

@@ -1,9 +1,9 @@
 // Expressions typed as text: sum, product and factor readers that call each other.
 ghost use Prim.Native.Nat.{_≤_};
 ghost use lib.ListN.{length, drop};
-ghost use Rattle.expression.specs.Text.{digits as digitsOf, mapRead, placeDigit, closed, atom, sum as sumOf, product as productOf, factor as factorOf, within};
-ghost use Rattle.expression.specs.Grammar.{fold, expressionOf};
+ghost use Rattle.expression.specs.Grammar.{fold};
 ghost use Rattle.expression.specs.Parts.{parts, numberPart, placePart};
+ghost use Rattle.expression.specs.bridge.Text.{digits as digitsOf, mapRead, placeDigit, closed, atom, sum as sumOf, product as productOf, factor as factorOf, within, expressionOf};
 ghost use Rattle.expression.specs.bridge.Answers.{Answers, Joins, Refuses, readOf};
 ghost use Rattle.expression.specs.bridge.Forms.{Small};
 use crate::number::digits;

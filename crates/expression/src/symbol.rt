@@ -2,7 +2,8 @@
 ghost use mathlib.Core.Path.{_≡_};
 ghost use Prim.Native.Nat.{_≤_};
 ghost use lib.ListN.{length, drop};
-ghost use Rattle.expression.specs.Text.{isBlank, isSign, isStar, first};
+ghost use Rattle.expression.specs.Grammar.{isBlank};
+ghost use Rattle.expression.specs.bridge.Text.{isSign, isStar, first};
 ghost use Rattle.expression.specs.bridge.Answers.{Skipped, Operates};
 
 // An operator's character, 0 for none, and the place behind it.

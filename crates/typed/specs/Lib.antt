@@ -1,5 +1,4 @@
 pub mod Grammar
-pub mod Reader
 pub mod Records
 pub mod Meaning
 pub mod Typed

@@ -1,2 +1,4 @@
+pub mod Reader
+pub mod Outcome
 pub mod Stream
 pub mod Answers

@@ -2,10 +2,10 @@
 ghost use mathlib.Core.Path.{_≡_};
 ghost use Prim.Native.Nat.{_≤_};
 ghost use lib.ListN.{length, drop};
-ghost use Rattle.expression.specs.Text.{mapRead};
+ghost use Rattle.expression.specs.bridge.Text.{mapRead};
 ghost use Rattle.meaning.specs.Records.{defaultRecord};
 ghost use Rattle.typed.specs.Grammar.{elseWord};
-ghost use Rattle.typed.specs.Reader.{symbol, headOf, rightOf, lineOf, endsText, linesOf};
+ghost use Rattle.typed.specs.bridge.Reader.{symbol, headOf, rightOf, lineOf, endsText, linesOf};
 ghost use Rattle.typed.specs.bridge.Stream.{Ready, feed as fed, feedHead, feedOutputs, feedLine, feedLines};
 ghost use Rattle.typed.specs.bridge.Answers.{stateOf, goesOn, Streams};
 use crate::output::feed_outputs;

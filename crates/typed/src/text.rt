@@ -2,8 +2,9 @@
 ghost use mathlib.Core.Path.{_≡_};
 ghost use lib.ListN.{length};
 ghost use Rattle.meaning.specs.Refusal.{accepted, andThen};
-ghost use Rattle.typed.specs.Typed.{textRecords, fromText};
+ghost use Rattle.typed.specs.Typed.{FromText};
 ghost use Rattle.typed.specs.Answers.{typedOf};
+ghost use Rattle.typed.specs.bridge.Outcome.{textRecords};
 ghost use Rattle.typed.specs.bridge.Answers.{freshSink, Written};
 use crate::line::feed_lines;
 use crate::sink::Sink;
@@ -71,8 +72,7 @@ fn write(text: &[u16], table: &mut [u8])
 
 // A text's table records at the start of the lent buffer, and their length in bytes; or the refusal, and nothing is written.
 pub fn from_text(text: &[u16], table: &mut [u8]) -> Typed
-    ensures answer { λ r. ⌜ typedOf r ≡ fromText (now (text .entry)) (now (table .entry)) .answer ⌝ }
-    ensures table { λ _. ⌜ now (table .exit) ≡ fromText (now (text .entry)) (now (table .entry)) .table ⌝ }
+    ensures { λ r. ⌜ FromText (now (text .entry)) (now (table .entry)) (typedOf r) (now (table .exit)) ⌝ }
 {
     let surveyed = survey(text);
     match surveyed {

@@ -8,8 +8,8 @@ use native.Mathlib.Nat.{le-refl, le-trans}
 use native.Mathlib.Omega.{arith}
 use borrow.Author.Tests.{ne-eqb, le-leb, leb-true}
 use lib.Dec.{leb}
-use Rattle.expression.specs.Text.{Read, got, mapRead, isBlank, isDigit, isStar, isSign, skip, first, behind, digits, closed, join, joined, chained, factor, product, sum, within}
-use Rattle.expression.specs.Grammar.{Tree, number, place, times, trees, Blanks, no-blanks, a-blank, Digits, no-digits, a-digit, decimal, Level, aSum, aProduct, aFactor, Reads, reads-number, reads-place, reads-parentheses, reads-one, reads-times, reads-alone, reads-plus, reads-minus}
+use Rattle.expression.specs.Grammar.{isBlank, isDigit, Tree, number, place, times, Blanks, no-blanks, a-blank, Digits, no-digits, a-digit, decimal, Level, aSum, aProduct, aFactor, Reads, reads-number, reads-place, reads-parentheses, reads-one, reads-times, reads-alone, reads-plus, reads-minus}
+use Rattle.expression.specs.bridge.Text.{Read, got, mapRead, isStar, isSign, skip, first, behind, digits, closed, join, joined, chained, factor, product, sum, within, trees}
 use Rattle.expression.specs.bridge.Forms.{Ends}
 use Rattle.expression.proofs.Laws.Chains
 use Rattle.expression.proofs.Laws.Chains.{chained-step, chained-stop, factor-shrinks, product-shrinks, within-shrinks}

@@ -5,9 +5,9 @@ use mathlib.Core.Bool.{Bool, true, false, cond}
 use mathlib.Core.List.{List}
 use Prim.Native.Nat.{ℕ, zero, suc}
 use lib.Dec.{eqb}
-use Rattle.expression.specs.Text.{Read, refused, got, mapRead, restLength, isDigit, isStar, isSign, skip, first, behind, digits, placeDigit, closed, closedBy, Algebra, join, joined, chain, chained, atom, factor, product, sum, within}
-use Rattle.expression.specs.Grammar.{Tree, trees, fold, expressionOf}
+use Rattle.expression.specs.Grammar.{isDigit, Algebra, Tree, fold}
 use Rattle.expression.specs.Parts.{parts}
+use Rattle.expression.specs.bridge.Text.{Read, refused, got, mapRead, restLength, isStar, isSign, skip, first, behind, digits, placeDigit, closed, closedBy, join, joined, chain, chained, atom, factor, product, sum, within, trees, expressionOf}
 
 -- a function at both branches
 pub through : {A B : Type 0} (f : A → B) (b : Bool) (x y : A) → f (cond b x y) ≡ cond b (f x) (f y)

@@ -7,9 +7,9 @@ use Prim.Native.Nat.{ℕ}
 use native.Mathlib.Omega.{arith}
 use borrow.Author.Tests.{eq-eqb, ne-eqb, eqb-true}
 use lib.Dec.{eqb}
-use Rattle.expression.specs.Text.{refused, got, mapRead, isBlank, isDigit, isStar, isSign, isComma, skip, first, behind, closedBy, join, chained, factor, product, sum, within}
-use Rattle.expression.specs.Grammar.{Tree, trees, expressionOf, Blanks, Expression}
-use Rattle.expression.specs.Outputs.{Items, first-item, next-item, Outputs, no-outputs, some-outputs, one, behindComma, oneItem, items, bracketed}
+use Rattle.expression.specs.Grammar.{isBlank, isDigit, Tree, Blanks, Expression}
+use Rattle.expression.specs.Outputs.{Items, first-item, next-item, Outputs, no-outputs, some-outputs}
+use Rattle.expression.specs.bridge.Text.{refused, got, mapRead, isStar, isSign, isComma, skip, first, behind, closedBy, join, chained, factor, product, sum, within, trees, expressionOf, one, behindComma, oneItem, items, bracketed}
 use Rattle.expression.specs.bridge.Forms.{Ends}
 use Rattle.expression.proofs.Laws.Chains.{Shrinks, map-rest-le, chained-stop, chained-refused, sum-shrinks, product-shrinks, factor-shrinks, within-shrinks}
 use Rattle.expression.proofs.Laws.Places.{factor-other, closed-yes}

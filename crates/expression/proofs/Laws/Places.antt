@@ -7,7 +7,8 @@ use native.Mathlib.Numerals.{add-one, sub-one}
 use native.Mathlib.Omega.{arith}
 use borrow.Author.Tests.{eq-eqb, ne-eqb}
 use lib.ListN.{length, drop, getD}
-use Rattle.expression.specs.Text.{Read, refused, got, skip, first, behind, closed, closedBy, Algebra, atom, factor, sum, within}
+use Rattle.expression.specs.Grammar.{Algebra}
+use Rattle.expression.specs.bridge.Text.{Read, refused, got, skip, first, behind, closed, closedBy, atom, factor, sum, within}
 
 pub first-at : (s : List ℕ) (j : ℕ) → first (drop j s) ≡ getD s j 0
 first-at [] zero = refl

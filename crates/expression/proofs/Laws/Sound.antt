@@ -7,8 +7,8 @@ use Prim.Native.Nat.{ℕ, zero, suc, _+_, _-_, _*_, _≤_, _<_}
 use native.Mathlib.Omega.{arith}
 use borrow.Author.Tests.{eqb-true, leb-true}
 use lib.Dec.{eqb, leb}
-use Rattle.expression.specs.Text.{Read, refused, got, mapRead, restLength, isBlank, isDigit, isStar, isSign, skip, first, behind, digits, placeDigit, closed, closedBy, join, joined, chain, chained, atom, factor, product, sum, within}
-use Rattle.expression.specs.Grammar.{Tree, number, place, trees, Blanks, no-blanks, a-blank, Digits, no-digits, a-digit, decimal, Level, aSum, aProduct, aFactor, Reads, reads-number, reads-place, reads-parentheses, reads-one, reads-times, reads-alone, reads-plus, reads-minus}
+use Rattle.expression.specs.Grammar.{isBlank, isDigit, Tree, number, place, Blanks, no-blanks, a-blank, Digits, no-digits, a-digit, decimal, Level, aSum, aProduct, aFactor, Reads, reads-number, reads-place, reads-parentheses, reads-one, reads-times, reads-alone, reads-plus, reads-minus}
+use Rattle.expression.specs.bridge.Text.{Read, refused, got, mapRead, restLength, isStar, isSign, skip, first, behind, digits, placeDigit, closed, closedBy, join, joined, chain, chained, atom, factor, product, sum, within, trees}
 use Rattle.expression.specs.bridge.Forms.{Proper}
 use Rattle.expression.proofs.Laws.Numbers.{and-left, and-right}
 

@@ -9,8 +9,8 @@ use lib.ListN.{length, drop}
 use Rattle.expression.specs.declared.part.Part.{Part}
 use Rattle.expression.specs.declared.reader.Reading.{Reading}
 use Rattle.expression.specs.declared.symbol.Operator.{Operator}
-use Rattle.expression.specs.Text.{Read, refused, got, mapRead, skip, first, behind, operator, join, joined, chained}
 use Rattle.expression.specs.Parts.{parts}
+use Rattle.expression.specs.bridge.Text.{Read, refused, got, mapRead, skip, first, behind, operator, join, joined, chained}
 use Rattle.expression.specs.bridge.Answers.{readOf, Operates, Answers, Joins, Refuses}
 use Rattle.expression.specs.bridge.Forms.{Small}
 use Rattle.expression.proofs.Laws.Chains.{Shrinks, chained-step, chained-stop, chained-refused}

@@ -11,7 +11,8 @@ use lib.ListN.{length, drop, getD}
 use lib.Seq.{drop-cons}
 use Rattle.expression.specs.declared.symbol.Operator.{Operator}
 use Rattle.expression.specs.declared.number.Number.{Number}
-use Rattle.expression.specs.Text.{refused, got, isBlank, isDigit, isSign, skip, first, behind, operator, digits, placeDigit, mapRead, Algebra, atom}
+use Rattle.expression.specs.Grammar.{isBlank, isDigit, Algebra}
+use Rattle.expression.specs.bridge.Text.{refused, got, isSign, skip, first, behind, operator, digits, placeDigit, mapRead, atom}
 use Rattle.expression.specs.bridge.Answers.{Skipped, Operates, numberOf}
 use Rattle.expression.proofs.Laws.Places.{there, behind-at}
 

@@ -8,8 +8,8 @@ use Rattle.expression.specs.declared.part.Part.{Part}
 use Rattle.expression.specs.declared.reader.Reading.{Reading}
 use Rattle.expression.specs.declared.number.Number.{Number}
 use Rattle.expression.specs.declared.symbol.Operator.{Operator}
-use Rattle.expression.specs.Text.{Read, refused, got, skip, behind, operator, digits, join}
 use Rattle.expression.specs.Parts.{parts}
+use Rattle.expression.specs.bridge.Text.{Read, refused, got, skip, behind, operator, digits, join}
 use Rattle.expression.specs.bridge.Forms.{Small}
 
 -- the place in the text s where the next symbol begins

@@ -8,8 +8,8 @@ use lib.IntN.{ℤ, pos, _+ℤ_}
 use lib.ListN.{length, getD, drop}
 use lib.Signed.{mag}
 use Rattle.meaning.specs.Value.{dot}
-use Rattle.expression.specs.Text.{isDigit, isStar, isSign, first, skip}
-use Rattle.expression.specs.Grammar.{Tree, number, place, plus, minus, times}
+use Rattle.expression.specs.Grammar.{isDigit, Tree, number, place, plus, minus, times}
+use Rattle.expression.specs.bridge.Text.{isStar, isSign, first, skip}
 
 -- each number in signed 32 bits
 pub record Small (ns : List ℤ) : Type 0 where

@@ -8,12 +8,12 @@ use native.Mathlib.Omega.{arith}
 use borrow.Author.Tests.{eqb-true}
 use lib.ListN.{length, drop}
 use Rattle.meaning.specs.Table.{Range}
-use Rattle.expression.specs.Text.{Read, refused, got, mapRead, first, behind}
+use Rattle.expression.specs.bridge.Text.{Read, refused, got, mapRead, first, behind}
 use Rattle.expression.proofs.Laws.Places.{there, behind-at}
-use Rattle.typed.specs.Reader.{thenRead, anyNumber, plain, element, endsBracket, elements}
+use Rattle.typed.specs.declared.sink.Streamed.{Streamed}
+use Rattle.typed.specs.bridge.Reader.{thenRead, anyNumber, plain, element, endsBracket, elements}
 use Rattle.typed.specs.bridge.Stream.{State, Ready, feedRange, feedRanges}
 use Rattle.typed.specs.bridge.Answers.{stateOf, readState, pastOne, Reads}
-use Rattle.typed.specs.declared.sink.Streamed.{Streamed}
 use Rattle.typed.proofs.Laws.Patterns.{element-strict}
 use Rattle.typed.proofs.Laws.Turns.{state-got, state-refused, then-refused, then-on, fedAll, one-more}
 

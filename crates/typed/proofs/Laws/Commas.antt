@@ -7,16 +7,15 @@ use Prim.Native.Nat.{ℕ, zero, suc, _≤_}
 use borrow.Author.Tests.{eq-eqb, ne-eqb}
 use lib.ListN.{length, drop}
 use Rattle.expression.specs.declared.symbol.Operator.{Operator}
-use Rattle.expression.specs.Text.{Read, refused, got, mapRead, isComma, skip, first, behind, closedBy, operator, joined, chain, chained}
-use Rattle.expression.specs.Grammar.{Tree, expressionOf}
-use Rattle.expression.specs.Outputs.{one, behindComma, oneItem, items, bracketed}
+use Rattle.expression.specs.Grammar.{Tree}
+use Rattle.expression.specs.bridge.Text.{Read, refused, got, mapRead, isComma, skip, first, behind, closedBy, operator, joined, chain, chained, expressionOf, one, behindComma, oneItem, items, bracketed}
 use Rattle.expression.specs.bridge.Answers.{Operates}
 use Rattle.expression.proofs.Laws.Chains.{chained-step, chained-stop}
 use Rattle.expression.proofs.Laws.Folds.{through, cond-both, map-map, map-closed}
 use Rattle.expression.proofs.Laws.Listed.{item-shrinks}
 use Rattle.expression.proofs.Laws.Steps.{operator-there, operator-none}
 use Rattle.typed.specs.declared.sink.Streamed.{Streamed}
-use Rattle.typed.specs.Reader.{thenRead}
+use Rattle.typed.specs.bridge.Reader.{thenRead}
 use Rattle.typed.specs.bridge.Stream.{State, Ready, feedTree, feedOutputs}
 use Rattle.typed.specs.bridge.Answers.{stateOf, readState, Streams}
 use Rattle.typed.proofs.Laws.Turns.{state-got, state-refused}

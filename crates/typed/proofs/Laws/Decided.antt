@@ -12,26 +12,19 @@ use Rattle.lists.proofs.Laws.Tests.{not-not, of-T, of-not, by-cases}
 use Rattle.meaning.specs.Refusal.{Outcome, refused, accepted, andThen}
 use Rattle.meaning.specs.Table.{Table}
 use Rattle.meaning.specs.Reader.{readTable}
-use Rattle.meaning.proofs.Laws.Refusal.{by-then, accepted-not, accepted-same}
-use Rattle.expression.specs.Text as Text
+use Rattle.meaning.proofs.Laws.Refusal.{by-then, accepted-not}
+use Rattle.expression.specs.bridge.Text as Text
 use Rattle.typed.specs.Grammar.{Line, TypedText}
-use Rattle.typed.specs.Reader.{linesOf}
 use Rattle.typed.specs.Records.{linesWithin17, records}
-use Rattle.typed.specs.Typed.{in-grammar, checkedRecords, textRecords, fitting}
-use Rattle.typed.specs.Claims.{Reckoned, Accepted}
+use Rattle.typed.specs.Typed.{Reckoned, Accepted}
+use Rattle.typed.specs.bridge.Reader.{linesOf}
+use Rattle.typed.specs.bridge.Outcome.{in-grammar, checkedRecords, textRecords, fitting}
 use Rattle.typed.proofs.Laws.Lines.{lines-sound, lines-complete}
 
--- the reading accepts lines exactly if the grammar has them
+-- the reading accepts the lines that the grammar has
 
-pub typed-read : {text : List ℕ} {ls : List Line} → TypedText text ls → in-grammar (linesOf text) ≡ accepted ls
+typed-read : {text : List ℕ} {ls : List Line} → TypedText text ls → in-grammar (linesOf text) ≡ accepted ls
 typed-read {text} {ls} d = ap in-grammar (lines-complete text ls d .1)
-
-pub read-typed : (text : List ℕ) (ls : List Line) → in-grammar (linesOf text) ≡ accepted ls → TypedText text ls
-read-typed text ls e = by (linesOf text) refl e
-  where
-    by : (r : Text.Read (List Line)) → linesOf text ≡ r → in-grammar r ≡ accepted ls → TypedText text ls
-    by Text.refused q e = absurd (accepted-not ls 16 (sym e))
-    by (Text.got ms rest) q e = lines-sound text ls rest (q ∙ ap (λ x. Text.got x rest) (accepted-same ms ls e))
 
 -- the five cases
 

@@ -10,9 +10,9 @@ use lib.Dec.{eqb}
 use lib.ListN.{length}
 use Rattle.lists.specs.Lists.{isEmpty}
 use Rattle.meaning.specs.Table.{Range}
-use Rattle.expression.specs.Text.{Read, refused, got, mapRead, first, behind}
+use Rattle.expression.specs.bridge.Text.{Read, refused, got, mapRead, first, behind}
 use Rattle.typed.specs.Grammar.{Pattern, inQuotes}
-use Rattle.typed.specs.Reader.{plain, elements, alone, item, closing}
+use Rattle.typed.specs.bridge.Reader.{plain, elements, alone, item, closing}
 use Rattle.typed.specs.bridge.Answers.{closingOf, endingOf}
 
 pub item-bracket : (t : List ℕ) → first t ≡ 91 → item t ≡ elements (behind t)

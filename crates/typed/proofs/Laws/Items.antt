@@ -12,9 +12,9 @@ use lib.ListN.{length, drop}
 use Rattle.meaning.specs.Refusal.{refused as turned-down}
 use Rattle.meaning.specs.Records.{ruleRecord, rangeRecord}
 use Rattle.meaning.specs.Table.{Range}
-use Rattle.expression.specs.Text.{Read, refused, got, mapRead}
+use Rattle.expression.specs.bridge.Text.{Read, refused, got, mapRead}
 use Rattle.expression.proofs.Laws.Sound.{map-got}
-use Rattle.typed.specs.Reader.{thenRead, several, item, endsItems, closing, patternOf}
+use Rattle.typed.specs.bridge.Reader.{thenRead, several, item, endsItems, closing, patternOf}
 use Rattle.typed.specs.bridge.Stream.{State, feed, feedRanges, feedItems, feedPattern}
 use Rattle.typed.specs.bridge.Answers.{counting, endingOf, Reads}
 use Rattle.typed.proofs.Laws.Feeding.{feed-idle}

@@ -9,14 +9,14 @@ use borrow.Author.Tests.{eq-eqb}
 use lib.Dec.{eqb}
 use lib.ListN.{length, length-append}
 use Rattle.lists.specs.Lists.{Each, isEmpty}
-use Rattle.expression.specs.Text.{refused, got, mapRead, isBlank, skip, first, behind}
-use Rattle.expression.specs.Grammar.{Tree, expressionOf, Blanks, no-blanks, a-blank}
-use Rattle.expression.specs.Outputs.{Outputs, bracketed}
+use Rattle.expression.specs.Grammar.{isBlank, Tree, Blanks, no-blanks, a-blank}
+use Rattle.expression.specs.Outputs.{Outputs}
+use Rattle.expression.specs.bridge.Text.{refused, got, mapRead, skip, first, behind, expressionOf, bracketed}
 use Rattle.expression.proofs.Laws.Sound.{Parsed, Sound, not-got, skip-split, map-got}
 use Rattle.expression.proofs.Laws.Complete.{skip-to}
 use Rattle.expression.proofs.Laws.Listed.{outputs-sound, outputs-complete}
 use Rattle.typed.specs.Grammar.{Pattern, Head, pattern, otherwise, Line, PatternText, elseWord, arrow, semicolon, HeadText, a-pattern, the-word, LineText, line, TypedText}
-use Rattle.typed.specs.Reader.{thenRead, anyNumber, patternOf, letters, symbol, headOf, rightOf, lineOf, endsText, linesOf}
+use Rattle.typed.specs.bridge.Reader.{thenRead, anyNumber, patternOf, letters, symbol, headOf, rightOf, lineOf, endsText, linesOf}
 use Rattle.typed.proofs.Laws.Several.{then-got, several-sound, any-complete, strict-by}
 use Rattle.typed.proofs.Laws.Patterns.{begins, patterns-sound, patterns-complete}
 

@@ -10,7 +10,7 @@ use lib.ListN.{length}
 use Rattle.lists.specs.Decide.{select}
 use Rattle.meaning.specs.Refusal.{Outcome, refused, accepted, andThen}
 use Rattle.meaning.proofs.Laws.Refusal.{accepted-not, accepted-same, refused-same}
-use Rattle.typed.specs.Typed.{textRecords, fitting, leaving, fromText}
+use Rattle.typed.specs.bridge.Outcome.{textRecords, fitting, leaving, fromText}
 use Rattle.typed.specs.bridge.Answers.{Written}
 use Rattle.typed.proofs.Laws.Decided.{decision}
 

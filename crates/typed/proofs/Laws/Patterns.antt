@@ -9,10 +9,10 @@ use borrow.Author.Tests.{eqb-true, ne-eqb}
 use lib.Dec.{eqb}
 use lib.ListN.{length, length-append}
 use Rattle.meaning.specs.Table.{Range}
-use Rattle.expression.specs.Text.{refused, got, mapRead, first, behind}
+use Rattle.expression.specs.bridge.Text.{refused, got, mapRead, first, behind}
 use Rattle.expression.proofs.Laws.Sound.{Parsed, Sound, not-got, first-cons, map-got}
 use Rattle.typed.specs.Grammar.{Pattern, Several, inQuotes, inBrackets, Plain, bare, escaped, range, Element, single, ranging, Item, character, bracketed, PatternText}
-use Rattle.typed.specs.Reader.{thenRead, several, anyNumber, anyCharacter, plain, element, endsBracket, elements, alone, item, endsItems, closing, patternOf}
+use Rattle.typed.specs.bridge.Reader.{thenRead, several, anyNumber, anyCharacter, plain, element, endsBracket, elements, alone, item, endsItems, closing, patternOf}
 use Rattle.typed.proofs.Laws.Several.{then-got, several-sound, several-complete, any-complete, strict-by}
 
 -- a text that begins with a character

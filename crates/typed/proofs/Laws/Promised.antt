@@ -1,4 +1,4 @@
--- Request [4]: reading is the grammar, each answer says what it should, a refused text writes nothing, and an accepted one's records mean what it means.
+-- Request [4]: what a text and a buffer come to meets the contract and is all that does, and an accepted text's records mean what it means.
 -- By the cases that are decided; the laws on records need that the text is one of characters.
 use mathlib.Core.Bool.{false}
 use mathlib.Core.List.{List, [], _∷_}
@@ -18,15 +18,16 @@ use Rattle.meaning.proofs.Laws.Refusal.{accepted-not, accepted-same, refused-sa
 use Rattle.meaning.proofs.Laws.Direct.{tableRefusals, table-refused, read-keeps, over-whole}
 use Rattle.typed.specs.Grammar.{Line, TypedText}
 use Rattle.typed.specs.Records.{linesWithin17, records}
-use Rattle.typed.specs.Typed.{leaving, fromText}
-use Rattle.typed.specs.Claims.{Reckoned, Accepted, AnswersTyped, WritesTyped, MeansTyped, TypedRules}
+use Rattle.typed.specs.Typed.{Reckoned, Accepted, AnswersTyped, WritesTyped, FromText}
+use Rattle.typed.specs.Claims.{Determined, Converted, Follows, TypedRules}
+use Rattle.typed.specs.bridge.Outcome.{leaving, fromText}
 use Rattle.typed.proofs.Laws.Lines.{one-reading}
 use Rattle.typed.proofs.Laws.Bytes.{records-bytes, never-1}
 use Rattle.typed.proofs.Laws.Tables.{never-4}
 use Rattle.typed.proofs.Laws.Meant.{meant-text, meant-place, meant-closed}
 use Rattle.typed.proofs.Laws.Values.{chosen-values}
 use Rattle.typed.proofs.Laws.Proper.{text-proper}
-use Rattle.typed.proofs.Laws.Decided.{typed-read, read-typed, Decided, outside, beyond, unfit, no-room, fit, decision, decided, case-decided}
+use Rattle.typed.proofs.Laws.Decided.{Decided, outside, beyond, unfit, no-room, fit, decision, decided, case-decided}
 
 -- what an answer says of the decision
 
@@ -103,7 +104,7 @@ module _ (text buffer : List ℕ) where
   unfolding fromText
   answered d = ap (λ o. leaving o buffer .answer) (case-decided d)
 
-  answers : AnswersTyped text buffer
+  answers : AnswersTyped text buffer (fromText text buffer .answer)
   unfolding fromText
   answers =
       record {
@@ -115,21 +116,58 @@ module _ (text buffer : List ℕ) where
           λ e. let k = some-lines n e in (k .0, k .1 .table, k .1 .fits, k .1 .long),
           λ h. ap (λ o. leaving o buffer .answer) (case-decided (fit (h .2))) ∙ ap accepted (sym (h .3)),
         );
-        numbered = λ cs. by (fromText text buffer .answer) (λ n e. of-refused n e .numbered cs);
       }
-    where
-      by : (o : Outcome ℕ) → ((n : ℕ) → o ≡ refused n → T (any (eqb n) textRefusals)) → RefusedBy textRefusals o
-      by (refused n) h = h n refl
-      by (accepted n) h = tt
 
-  writes : WritesTyped text buffer
+  writes : WritesTyped text buffer (fromText text buffer .answer) (fromText text buffer .table)
   unfolding fromText
   writes =
       record {
         unchanged = λ n e. ap (λ o. leaving o buffer .table) (left-refused (decision text buffer) buffer n e);
         written = λ n ls e d. ap (λ o. leaving o buffer .table) (of-accepted n ls e d .taken);
-        whole = kept (decided text buffer);
       }
+
+  -- what the text comes to meets the contract, and nothing else does
+
+  pub meets : {answer : Outcome ℕ} {later : List ℕ} → (answer ≡ fromText text buffer .answer) × (later ≡ fromText text buffer .table) → FromText text buffer answer later
+  meets e = rw (e .0, e .1) (record { answers = answers; writes = writes })
+
+  one-answer : {a : Outcome ℕ} {o : Outcome (List ℕ)} → AnswersTyped text buffer a → Decided text buffer o → a ≡ leaving o buffer .answer
+  one-answer k (outside h) = k .outside .1 h
+  one-answer k (beyond {ls = ls} d e) = k .beyond .1 (ls, d, e)
+  one-answer k (unfit {ls = ls} {n = n} w e) = k .table n (few n (table-refused (records ls) n e)) .1 (ls, w, e)
+    where
+      few : (n : ℕ) → T (any (eqb n) tableRefusals) → n ≤ 7
+      few = one-of (λ n. n ≤ 7) tableRefusals (omega arith, (omega arith, (omega arith, (omega arith, (omega arith, (omega arith, (omega arith, tt)))))))
+  one-answer k (no-room {ls = ls} {t = t} w e l) = k .no-room .1 (ls, t, w, e, l)
+  one-answer k (fit {ls = ls} {t = t} a) = k .taken (length (records ls)) .1 (ls, t, a, refl)
+
+  one-table : {a : Outcome ℕ} {l : List ℕ} {o : Outcome (List ℕ)} → WritesTyped text buffer a l → Decided text buffer o → a ≡ leaving o buffer .answer →
+      l ≡ leaving o buffer .table
+  one-table k (outside h) e = k .unchanged 16 e
+  one-table k (beyond d q) e = k .unchanged 17 e
+  one-table k (unfit {n = n} w q) e = k .unchanged n e
+  one-table k (no-room w q l) e = k .unchanged 15 e
+  one-table k (fit {ls = ls} a) e = k .written (length (records ls)) ls e (a .lines .grammar)
+
+  alone : (a : Outcome ℕ) (l : List ℕ) → FromText text buffer a l → (a ≡ fromText text buffer .answer) × (l ≡ fromText text buffer .table)
+  unfolding fromText
+  alone a l f = let e = one-answer (f .answers) (decided text buffer) in (e, one-table (f .writes) (decided text buffer) e)
+
+  pub determined : Determined text buffer
+  determined = record { answer = fromText text buffer .answer; later = fromText text buffer .table; meets = meets (refl, refl); alone = alone }
+
+  -- what follows
+
+  numbered : Characters text → RefusedBy textRefusals (fromText text buffer .answer)
+  numbered cs = by (fromText text buffer .answer) (λ n e. of-refused n e .numbered cs)
+    where
+      by : (o : Outcome ℕ) → ((n : ℕ) → o ≡ refused n → T (any (eqb n) textRefusals)) → RefusedBy textRefusals o
+      by (refused n) h = h n refl
+      by (accepted n) h = tt
+
+  whole : length (fromText text buffer .table) ≡ length buffer
+  unfolding fromText
+  whole = kept (decided text buffer)
     where
       kept : {o : Outcome (List ℕ)} → Decided text buffer o → length (leaving o buffer .table) ≡ length buffer
       kept (outside h) = refl
@@ -138,34 +176,31 @@ module _ (text buffer : List ℕ) where
       kept (no-room w e l) = refl
       kept (fit {ls = ls} a) = over-whole (records ls) buffer (a .room)
 
-  means : MeansTyped text buffer
-  means =
-      record {
-        meant = λ cs n ls e d.
-            let k = of-accepted n ls e d in
-            let t = k .table in
-            let check = k .fits .check in
-            let fine = k .fits .lines .within in
-            let proper = text-proper d cs in
-            let front : take n (fromText text buffer .table) ≡ records ls =
-            ap₂ take (k .long) (writes .written n ls e d) ∙ take-append-seam (records ls) (drop (length (records ls)) buffer) in (
-              t,
-              subst (λ b. Keeps b t) (sym front) (read-keeps (records ls) t (records-bytes ls proper) check),
-              λ input.
-                  record {
-                    text = meant-text ls proper fine t check input;
-                    place = meant-place ls proper fine t check input;
-                    closed = meant-closed ls proper fine t check input;
-                    values = chosen-values ls proper fine t check input;
-                  },
-            );
-      }
+  meant : Characters text → (n : ℕ) (ls : List Line) → fromText text buffer .answer ≡ accepted n → TypedText text ls →
+      (t : Table) × Keeps (take n (fromText text buffer .table)) t × ((input : List ℕ) → Converted ls t input)
+  meant cs n ls e d =
+      let k = of-accepted n ls e d in
+      let t = k .table in
+      let check = k .fits .check in
+      let fine = k .fits .lines .within in
+      let proper = text-proper d cs in
+      let front : take n (fromText text buffer .table) ≡ records ls =
+      ap₂ take (k .long) (writes .written n ls e d) ∙ take-append-seam (records ls) (drop (length (records ls)) buffer) in (
+        t,
+        subst (λ b. Keeps b t) (sym front) (read-keeps (records ls) t (records-bytes ls proper) check),
+        λ input.
+            record {
+              text = meant-text ls proper fine t check input;
+              place = meant-place ls proper fine t check input;
+              closed = meant-closed ls proper fine t check input;
+              values = chosen-values ls proper fine t check input;
+            },
+      )
+
+  follows : (answer : Outcome ℕ) (later : List ℕ) → FromText text buffer answer later → Follows text buffer answer later
+  follows answer later f =
+      let e = alone answer later f in
+      rw (e .0, e .1) (record { numbered = numbered; whole = whole; meant = meant })
 
 pub typed-rules : TypedRules
-typed-rules =
-    record {
-      reads = λ text. record { reading = λ ls. (typed-read, read-typed text ls); one-reading = one-reading text };
-      answers = answers;
-      writes = writes;
-      means = means;
-    }
+typed-rules = record { one-reading = one-reading; determined = determined; follows = follows }

@@ -9,10 +9,10 @@ use borrow.Author.Tests.{eq-eqb, ne-eqb}
 use lib.ListN.{length, drop, getD}
 use lib.Seq.{drop-cons}
 use native.Mathlib.Numerals.{add-one}
-use Rattle.expression.specs.Text.{Read, refused, got, mapRead, first, behind}
+use Rattle.expression.specs.bridge.Text.{Read, refused, got, mapRead, first, behind}
 use Rattle.expression.proofs.Laws.Symbols.{drop-past}
 use Rattle.typed.specs.Grammar.{range, inBrackets}
-use Rattle.typed.specs.Reader.{thenRead, anyCharacter, plain, element}
+use Rattle.typed.specs.bridge.Reader.{thenRead, anyCharacter, plain, element}
 use Rattle.typed.specs.bridge.Answers.{Reads}
 
 module _ {A : Type 0} {s : List ℕ} {at next : ℕ} {value : A} {d : Read A} where

@@ -7,10 +7,10 @@ use Prim.Native.Nat.{ℕ, zero, suc, _≤_, _<_, zero-le}
 use native.Mathlib.Nat.{le-refl}
 use native.Mathlib.Omega.{arith}
 use lib.ListN.{length, length-append}
-use Rattle.expression.specs.Text.{Read, refused, got, mapRead}
+use Rattle.expression.specs.bridge.Text.{Read, refused, got, mapRead}
 use Rattle.expression.proofs.Laws.Sound.{Parsed, Sound, not-got, map-got}
 use Rattle.typed.specs.Grammar.{Several}
-use Rattle.typed.specs.Reader.{thenRead, several, anyNumber, item}
+use Rattle.typed.specs.bridge.Reader.{thenRead, several, anyNumber, item}
 
 -- what is accepted was read first, and the rest of it then
 pub then-got : {A B : Type 0} (r : Read A) (f : A → List ℕ → Read B) (b : B) (u : List ℕ) → thenRead r f ≡ got b u

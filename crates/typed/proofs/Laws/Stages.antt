@@ -10,14 +10,13 @@ use lib.Dec.{ltb}
 use lib.ListN.{length, drop}
 use Rattle.lists.specs.Lists.{isEmpty}
 use Rattle.meaning.specs.Records.{defaultRecord}
-use Rattle.expression.specs.Text.{Read, refused, got, mapRead, skip, first, behind}
-use Rattle.expression.specs.Grammar.{Tree, expressionOf}
-use Rattle.expression.specs.Outputs.{bracketed}
+use Rattle.expression.specs.Grammar.{Tree}
+use Rattle.expression.specs.bridge.Text.{Read, refused, got, mapRead, skip, first, behind, expressionOf, bracketed}
 use Rattle.expression.specs.bridge.Answers.{Skipped}
 use Rattle.expression.proofs.Laws.Folds.{map-map}
 use Rattle.expression.proofs.Laws.Symbols.{at-cons, drop-past}
 use Rattle.typed.specs.Grammar.{Head, pattern, otherwise, elseWord, arrow, semicolon}
-use Rattle.typed.specs.Reader.{thenRead, patternOf, symbol, headOf, rightOf, lineOf, endsText}
+use Rattle.typed.specs.bridge.Reader.{thenRead, patternOf, symbol, headOf, rightOf, lineOf, endsText}
 use Rattle.typed.specs.bridge.Stream.{State, feed, feedPattern, feedHead, feedOutputs, feedLine}
 use Rattle.typed.specs.bridge.Answers.{Reads}
 use Rattle.typed.proofs.Laws.Readings.{read-none, read-some, refuses}

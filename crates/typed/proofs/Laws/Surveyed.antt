@@ -24,15 +24,15 @@ use Rattle.rules.proofs.Laws.Stepping.{started-fitting}
 use Rattle.rules.proofs.Laws.Flattened.{pad-zeros}
 use Rattle.rules.proofs.Laws.Loading.{records-loaded, end-needs, end-loaded}
 use Rattle.rules.proofs.Laws.Converting.{of-read, is-refused}
-use Rattle.expression.specs.Text.{Read, mapRead}
-use Rattle.expression.specs.Text as Text
+use Rattle.expression.specs.bridge.Text.{Read, mapRead}
+use Rattle.expression.specs.bridge.Text as Text
 use Rattle.expression.proofs.Laws.Sound.{map-got}
 use Rattle.typed.specs.Grammar.{Line, TypedText}
-use Rattle.typed.specs.Reader.{linesOf}
 use Rattle.typed.specs.Records.{linesWithin17, records}
-use Rattle.typed.specs.Typed.{checkedRecords, textRecords}
 use Rattle.typed.specs.declared.sink.Sink.{Sink}
 use Rattle.typed.specs.declared.sink.Streamed.{Streamed}
+use Rattle.typed.specs.bridge.Reader.{linesOf}
+use Rattle.typed.specs.bridge.Outcome.{checkedRecords, textRecords}
 use Rattle.typed.specs.bridge.Stream.{State, feedLines, nothingRead, weight, Ready}
 use Rattle.typed.specs.bridge.Answers.{stateOf, Streams, freshSink, Written}
 use Rattle.typed.proofs.Laws.Bytes.{records-whole, records-bytes}

@@ -11,9 +11,9 @@ use lib.ListN.{length, getD, drop, drop-of-length-le}
 use lib.Seq.{drop-cons}
 use Rattle.meaning.specs.Records.{outputRecord, termRecord}
 use Rattle.expression.specs.declared.part.Part.{Part}
-use Rattle.expression.specs.Text.{Read, refused, got, mapRead}
 use Rattle.expression.specs.Grammar.{Tree, fold}
 use Rattle.expression.specs.Parts.{parts, isZero}
+use Rattle.expression.specs.bridge.Text.{Read, refused, got, mapRead}
 use Rattle.expression.proofs.Laws.Folds.{map-map, map-refused}
 use Rattle.typed.specs.Records.{constant, coefficients, within17}
 use Rattle.typed.specs.bridge.Stream.{State, feed, beyond17, feedTerms, feedPart, feedTree}

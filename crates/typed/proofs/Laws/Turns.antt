@@ -7,11 +7,11 @@ use Prim.Native.Nat.{ℕ, _+_, _-_, _≤_, _<_}
 use native.Mathlib.Omega.{arith}
 use lib.ListN.{length, drop, length-drop}
 use Rattle.lists.specs.Lists.{foldLeft}
-use Rattle.expression.specs.Text.{Read, refused, got, mapRead}
-use Rattle.typed.specs.Reader.{thenRead, anyNumber}
+use Rattle.expression.specs.bridge.Text.{Read, refused, got, mapRead}
+use Rattle.typed.specs.declared.sink.Streamed.{Streamed}
+use Rattle.typed.specs.bridge.Reader.{thenRead, anyNumber}
 use Rattle.typed.specs.bridge.Stream.{State, Ready}
 use Rattle.typed.specs.bridge.Answers.{stateOf, readState, goesOn, Reads, Streams}
-use Rattle.typed.specs.declared.sink.Streamed.{Streamed}
 use Rattle.typed.proofs.Laws.Several.{any-stop, any-step}
 
 -- a reading that is not refused, and one that is

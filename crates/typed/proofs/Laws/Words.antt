@@ -8,10 +8,10 @@ use native.Mathlib.Nat.{le-trans}
 use borrow.Author.Tests.{eq-eqb, ne-eqb}
 use lib.Dec.{eqb}
 use lib.ListN.{length, drop}
-use Rattle.expression.specs.Text.{Read, refused, got, skip, first, behind}
+use Rattle.expression.specs.bridge.Text.{Read, refused, got, skip, first, behind}
 use Rattle.expression.proofs.Laws.Places.{there}
 use Rattle.typed.specs.declared.symbol.Mark.{Mark}
-use Rattle.typed.specs.Reader.{thenRead, letters, symbol}
+use Rattle.typed.specs.bridge.Reader.{thenRead, letters, symbol}
 use Rattle.typed.specs.bridge.Answers.{Marks, markOf}
 
 -- a character other than 0 stands at a place

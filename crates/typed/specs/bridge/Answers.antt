@@ -11,17 +11,17 @@ use Rattle.meaning.specs.Direct.{over}
 use Rattle.rules.specs.declared.reader.Step.the-variants.{Next}
 use Rattle.rules.specs.bridge.Summary.{started}
 use Rattle.rules.specs.bridge.Readings.{stepOf}
-use Rattle.expression.specs.Text.{Read, refused, got, mapRead, first, behind}
+use Rattle.expression.specs.bridge.Text.{Read, refused, got, mapRead, first, behind}
 use Rattle.typed.specs.Grammar.{range, inQuotes, inBrackets}
-use Rattle.typed.specs.Reader.{several, item, endsItems}
-use Rattle.typed.specs.Typed.{textRecords}
-use Rattle.typed.specs.bridge.Stream.{State, Ready, feedItems}
 use Rattle.typed.specs.declared.pattern.Found.{Found}
 use Rattle.typed.specs.declared.pattern.Between.{Between}
 use Rattle.typed.specs.declared.pattern.Counted.{Counted}
 use Rattle.typed.specs.declared.symbol.Mark.{Mark}
 use Rattle.typed.specs.declared.sink.Sink.{Sink}
 use Rattle.typed.specs.declared.sink.Streamed.{Streamed}
+use Rattle.typed.specs.bridge.Reader.{several, item, endsItems}
+use Rattle.typed.specs.bridge.Outcome.{textRecords}
+use Rattle.typed.specs.bridge.Stream.{State, Ready, feedItems}
 
 -- an answer at a place of the text s, as what a definition answers on the text from there: refused, or a value and the place behind
 pub record Reads {A : Type 0} (s : List ℕ) (at : ℕ) (no-reading : Bool) (next : ℕ) (value : A) (d : Read A) : Type 0 where

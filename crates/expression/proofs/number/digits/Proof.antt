@@ -5,7 +5,7 @@ use Prim.Native.Nat.{_≤_, _+_, _-_, _*_}
 use native.Mathlib.Omega.{arith}
 use borrow.Author.Needs.{needs}
 use lib.ListN.{length, drop}
-use Rattle.expression.specs.Text.{digits}
+use Rattle.expression.specs.bridge.Text.{digits}
 use Rattle.expression.proofs.Laws.Symbols.{digits-end, digits-stop, digits-more, digits-over, digit-low, digit-high, digit-yes}
 use Rattle.expression.proofs.number.digits.Statement.{statement}
 use Rattle.expression.proofs.number.digits.Tie as tie

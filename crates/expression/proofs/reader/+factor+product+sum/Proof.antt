@@ -6,8 +6,8 @@ use Prim.Native.Nat.{ℕ, _<_, _+_, _-_, _*_}
 use native.Mathlib.Omega.{arith}
 use lib.ListN.{length, drop}
 use borrow.Author.Needs.{needs}
-use Rattle.expression.specs.Text.{skip, behind, closed, join, chained, isSign, isStar, within, sum as sumOf, product as productOf, factor as factorOf}
 use Rattle.expression.specs.Parts.{parts}
+use Rattle.expression.specs.bridge.Text.{skip, behind, closed, join, chained, isSign, isStar, within, sum as sumOf, product as productOf, factor as factorOf}
 use Rattle.expression.proofs.Laws.Chains.{factor-shrinks, product-shrinks, within-shrinks}
 use Rattle.expression.proofs.Laws.Steps.{Going, turn, ending, refuses}
 use Rattle.expression.proofs.Laws.Places.{closed-refused, there, behind-at, factor-open, factor-other, within-none, within-deeper}

@@ -6,8 +6,8 @@ use native.Mathlib.Omega.{arith}
 use borrow.Author.Needs.{needs}
 use lib.ListN.{drop}
 use native.Mathlib.Nat.{le-refl}
-use Rattle.expression.specs.Text.{first, mapRead, placeDigit}
 use Rattle.expression.specs.Parts.{parts, placePart}
+use Rattle.expression.specs.bridge.Text.{first, mapRead, placeDigit}
 use Rattle.expression.proofs.Laws.Steps.{refuses}
 use Rattle.expression.proofs.Laws.Places.{there, behind-at}
 use Rattle.expression.proofs.Laws.Symbols.{atom-place, atom-number, atom-other, digit-low, digit-high}

@@ -6,7 +6,7 @@ use native.Mathlib.Omega.{arith}
 use borrow.Author.Needs.{needs}
 use lib.ListN.{drop}
 use native.Mathlib.Nat.{le-refl}
-use Rattle.expression.specs.Text.{skip, got, closed}
+use Rattle.expression.specs.bridge.Text.{skip, got, closed}
 use Rattle.expression.proofs.Laws.Steps.{refuses, read-got, read-refused}
 use Rattle.expression.proofs.Laws.Places.{there, behind-at, closed-refused, closed-yes, closed-no}
 use Rattle.expression.proofs.reader.closing.Statement.{statement}

@@ -5,8 +5,8 @@ use borrow.Author.Needs.{needs}
 use Prim.Native.Nat.{ℕ}
 use borrow.Author.Tests.{eq-eqb, ne-eqb}
 use Rattle.expression.specs.declared.part.Part.{Part}
-use Rattle.expression.specs.Text.{join}
 use Rattle.expression.specs.Parts.{parts, plusPart, minusPart, timesPart}
+use Rattle.expression.specs.bridge.Text.{join}
 use Rattle.expression.specs.bridge.Forms.{Small}
 use Rattle.expression.proofs.Laws.Numbers.{small-plus, small-minus, small-times}
 use Rattle.expression.proofs.reader.joined.Statement.{statement}

@@ -5,8 +5,8 @@ use Prim.Native.Nat.{_-_}
 use borrow.Author.Needs.{needs}
 use lib.ListN.{drop}
 use Rattle.expression.specs.declared.part.Part.{Part}
-use Rattle.expression.specs.Text.{got, mapRead, digits}
 use Rattle.expression.specs.Parts.{numberPart}
+use Rattle.expression.specs.bridge.Text.{got, mapRead, digits}
 use Rattle.expression.specs.bridge.Forms.{Small}
 use Rattle.expression.proofs.Laws.Steps.{refuses}
 use Rattle.expression.proofs.Laws.Symbols.{number-got, number-refused}

@@ -7,8 +7,8 @@ use borrow.Author.Needs.{needs}
 use lib.ListN.{drop}
 use native.Mathlib.Nat.{le-refl}
 use Rattle.expression.specs.declared.part.Part.{Part}
-use Rattle.expression.specs.Text.{first, got, mapRead}
 use Rattle.expression.specs.Parts.{placePart}
+use Rattle.expression.specs.bridge.Text.{first, got, mapRead}
 use Rattle.expression.specs.bridge.Forms.{Small}
 use Rattle.expression.proofs.Laws.Steps.{refuses}
 use Rattle.expression.proofs.Laws.Places.{there, behind-at}

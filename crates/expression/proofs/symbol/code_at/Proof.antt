@@ -1,7 +1,7 @@
 -- `expression::symbol::code_at` meets its contract.
 -- A place below the length has a character; past it nothing is left. Assumes nothing.
 use mathlib.Core.Path.{sym, ap}
-use Rattle.expression.specs.Text.{first}
+use Rattle.expression.specs.bridge.Text.{first}
 use Rattle.expression.proofs.Laws.Places.{first-at}
 use Rattle.expression.proofs.Laws.Symbols.{drop-past}
 use borrow.Author.Needs.{needs}

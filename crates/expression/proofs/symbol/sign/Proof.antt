@@ -6,7 +6,7 @@ use Prim.Native.Nat.{ℕ, _-_}
 use native.Mathlib.Omega.{arith}
 use borrow.Author.Needs.{needs}
 use lib.ListN.{drop}
-use Rattle.expression.specs.Text.{first, skip, operator, isSign}
+use Rattle.expression.specs.bridge.Text.{first, skip, operator, isSign}
 use Rattle.expression.proofs.Laws.Places.{there}
 use Rattle.expression.proofs.Laws.Symbols.{operator-is, operator-not, not-sign}
 use Rattle.expression.proofs.symbol.sign.Statement.{statement}

@@ -5,7 +5,7 @@ use Prim.Native.Nat.{_≤_, _-_}
 use native.Mathlib.Omega.{arith}
 use borrow.Author.Needs.{needs}
 use lib.ListN.{length, drop}
-use Rattle.expression.specs.Text.{skip}
+use Rattle.expression.specs.bridge.Text.{skip}
 use Rattle.expression.proofs.Laws.Symbols.{skip-blank, skip-stop, skip-end}
 use borrow.Author.Tests.{not-true, not-false}
 use Rattle.expression.proofs.symbol.skip.Statement.{statement}

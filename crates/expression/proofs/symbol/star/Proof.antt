@@ -7,7 +7,7 @@ use native.Mathlib.Omega.{arith}
 use borrow.Author.Needs.{needs}
 use lib.ListN.{drop}
 use borrow.Author.Tests.{ne-eqb}
-use Rattle.expression.specs.Text.{first, skip, operator, isStar}
+use Rattle.expression.specs.bridge.Text.{first, skip, operator, isStar}
 use Rattle.expression.proofs.Laws.Places.{there}
 use Rattle.expression.proofs.Laws.Symbols.{operator-is, operator-not}
 use Rattle.expression.proofs.symbol.star.Statement.{statement}

@@ -4,9 +4,9 @@ use mathlib.Core.Path.{sym, ap, _∙_}
 use native.Mathlib.Omega.{arith}
 use borrow.Author.Needs.{needs}
 use lib.ListN.{drop}
-use Rattle.expression.specs.Text.{mapRead}
+use Rattle.expression.specs.bridge.Text.{mapRead}
 use Rattle.expression.proofs.Laws.Places.{behind-at}
-use Rattle.typed.specs.Reader.{patternOf}
+use Rattle.typed.specs.bridge.Reader.{patternOf}
 use Rattle.typed.specs.bridge.Stream.{feedPattern}
 use Rattle.typed.specs.bridge.Answers.{stateOf}
 use Rattle.typed.proofs.Laws.Words.{stands}

@@ -5,8 +5,8 @@ use mathlib.Core.Path.{_≡_, refl, _∙_}
 use Prim.Native.Nat.{_+_, _-_, zero-le}
 use borrow.Author.Needs.{needs}
 use lib.ListN.{length}
-use Rattle.expression.specs.Text.{mapRead}
-use Rattle.typed.specs.Reader.{thenRead, lineOf, endsText, linesOf}
+use Rattle.expression.specs.bridge.Text.{mapRead}
+use Rattle.typed.specs.bridge.Reader.{thenRead, lineOf, endsText, linesOf}
 use Rattle.typed.specs.bridge.Stream.{feedLine}
 use Rattle.typed.specs.bridge.Answers.{readState}
 use Rattle.typed.proofs.Laws.Lines.{line-strict}

@@ -5,7 +5,7 @@ use native.Mathlib.Nat.{le-refl}
 use native.Mathlib.Omega.{arith}
 use borrow.Author.Needs.{needs}
 use lib.ListN.{drop}
-use Rattle.expression.specs.Text.{got, closedBy}
+use Rattle.expression.specs.bridge.Text.{got, closedBy}
 use Rattle.expression.proofs.Laws.Places.{behind-at, closed-refused, closed-yes, closed-no}
 use Rattle.typed.specs.bridge.Answers.{stateOf}
 use Rattle.typed.proofs.Laws.Words.{stands}

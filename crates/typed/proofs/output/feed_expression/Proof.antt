@@ -3,7 +3,7 @@
 use mathlib.Core.Path.{sym, _∙_}
 use borrow.Author.Needs.{needs}
 use lib.ListN.{drop}
-use Rattle.expression.specs.Grammar.{expressionOf}
+use Rattle.expression.specs.bridge.Text.{expressionOf}
 use Rattle.expression.proofs.Laws.Steps.{read-got, read-refused}
 use Rattle.typed.specs.bridge.Answers.{stateOf}
 use Rattle.typed.proofs.Laws.Terms.{tree-refused, tree-fed}

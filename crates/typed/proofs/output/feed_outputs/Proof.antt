@@ -5,7 +5,7 @@ use native.Mathlib.Nat.{le-trans}
 use native.Mathlib.Omega.{arith}
 use borrow.Author.Needs.{needs}
 use lib.ListN.{drop}
-use Rattle.expression.specs.Text.{skip}
+use Rattle.expression.specs.bridge.Text.{skip}
 use Rattle.expression.proofs.Laws.Places.{behind-at}
 use Rattle.typed.specs.bridge.Answers.{stateOf}
 use Rattle.typed.proofs.Laws.Words.{stands}

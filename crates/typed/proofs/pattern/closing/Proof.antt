@@ -6,7 +6,7 @@ use native.Mathlib.Nat.{le-refl}
 use native.Mathlib.Omega.{arith}
 use borrow.Author.Needs.{needs}
 use lib.ListN.{drop}
-use Rattle.expression.specs.Text.{got}
+use Rattle.expression.specs.bridge.Text.{got}
 use Rattle.expression.proofs.Laws.Places.{there, behind-at}
 use Rattle.typed.proofs.Laws.Readings.{refuses, gives}
 use Rattle.typed.proofs.Laws.Ends.{closing-empty, closing-mark, closing-other}

@@ -4,10 +4,10 @@ use mathlib.Core.Path.{_≡_, refl, sym, ap, _∙_}
 use Prim.Native.Nat.{ℕ}
 use native.Mathlib.Omega.{arith}
 use borrow.Author.Needs.{needs}
-use Rattle.expression.specs.Text.{mapRead}
+use Rattle.expression.specs.bridge.Text.{mapRead}
 use Rattle.expression.proofs.Laws.Places.{there, behind-at}
 use Rattle.typed.specs.Grammar.{range, inBrackets}
-use Rattle.typed.specs.Reader.{plain}
+use Rattle.typed.specs.bridge.Reader.{plain}
 use Rattle.typed.proofs.Laws.Readings.{read-none, read-some, refuses, gives, map-reads, element-none, element-range, element-single}
 use Rattle.typed.proofs.pattern.element.Statement.{statement}
 use Rattle.typed.proofs.pattern.element.Tie as tie

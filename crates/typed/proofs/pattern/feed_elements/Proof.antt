@@ -6,11 +6,11 @@ use Prim.Native.Nat.{_+_, _-_}
 use native.Mathlib.Omega.{arith}
 use borrow.Author.Needs.{needs}
 use lib.ListN.{length, drop}
-use Rattle.expression.specs.Text.{mapRead}
-use Rattle.typed.specs.Reader.{thenRead, element, endsBracket, elements}
+use Rattle.expression.specs.bridge.Text.{mapRead}
+use Rattle.typed.specs.declared.sink.Streamed.{Streamed}
+use Rattle.typed.specs.bridge.Reader.{thenRead, element, endsBracket, elements}
 use Rattle.typed.specs.bridge.Stream.{feedRange, feedRanges}
 use Rattle.typed.specs.bridge.Answers.{stateOf, readState, Streams}
-use Rattle.typed.specs.declared.sink.Streamed.{Streamed}
 use Rattle.typed.proofs.Laws.Patterns.{element-strict}
 use Rattle.typed.proofs.Laws.Turns.{Onward, onward-turn, onward-end, onward-stop, fedAll, none-left, one-more, falls}
 use Rattle.typed.proofs.Laws.Brackets.{elements-fed, past-reads, past-ready}

@@ -7,11 +7,11 @@ use native.Mathlib.Omega.{arith}
 use borrow.Author.Needs.{needs}
 use lib.ListN.{drop}
 use Rattle.meaning.specs.Table.{Range}
-use Rattle.expression.specs.Text.{mapRead}
+use Rattle.expression.specs.bridge.Text.{mapRead}
 use Rattle.expression.proofs.Laws.Places.{there, behind-at}
 use Rattle.expression.proofs.Laws.Folds.{map-map}
 use Rattle.typed.specs.Grammar.{inQuotes}
-use Rattle.typed.specs.Reader.{plain, elements, alone}
+use Rattle.typed.specs.bridge.Reader.{plain, elements, alone}
 use Rattle.typed.specs.bridge.Stream.{State, feedRanges}
 use Rattle.typed.specs.bridge.Answers.{stateOf}
 use Rattle.typed.proofs.Laws.Ends.{item-bracket, item-character}

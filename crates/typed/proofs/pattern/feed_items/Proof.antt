@@ -7,7 +7,7 @@ use native.Mathlib.Nat.{le-refl}
 use native.Mathlib.Omega.{arith}
 use borrow.Author.Needs.{needs}
 use lib.ListN.{length, drop}
-use Rattle.typed.specs.Reader.{thenRead, endsItems}
+use Rattle.typed.specs.bridge.Reader.{thenRead, endsItems}
 use Rattle.typed.specs.bridge.Answers.{stateOf, readState}
 use Rattle.typed.proofs.Laws.Turns.{Onward, onward-turn, onward-end, then-on, on-read}
 use Rattle.typed.proofs.Laws.Items.{itemsLeft, oneItem, items-none, items-turn, item-below, count-from}

@@ -6,8 +6,8 @@ use native.Mathlib.Nat.{le-refl}
 use borrow.Author.Needs.{needs}
 use borrow.Author.Tests.{lt-ltb, le-ltb}
 use lib.ListN.{drop}
-use Rattle.expression.specs.Text.{refused, mapRead}
-use Rattle.typed.specs.Reader.{item}
+use Rattle.expression.specs.bridge.Text.{refused, mapRead}
+use Rattle.typed.specs.bridge.Reader.{item}
 use Rattle.typed.specs.bridge.Stream.{feedRanges}
 use Rattle.typed.specs.bridge.Answers.{stateOf}
 use Rattle.typed.proofs.Laws.Readings.{refuses, fed-none}

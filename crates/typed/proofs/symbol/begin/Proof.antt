@@ -2,8 +2,8 @@
 -- Blanks are passed over. Assumes nothing.
 use mathlib.Core.Path.{ap}
 use borrow.Author.Needs.{needs}
-use Rattle.expression.specs.Text.{got}
-use Rattle.typed.specs.Reader.{letters, symbol}
+use Rattle.expression.specs.bridge.Text.{got}
+use Rattle.typed.specs.bridge.Reader.{letters, symbol}
 use Rattle.typed.proofs.symbol.begin.Statement.{statement}
 use Rattle.typed.proofs.symbol.begin.Tie as tie
 

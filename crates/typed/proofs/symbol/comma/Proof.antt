@@ -6,7 +6,7 @@ use native.Mathlib.Omega.{arith}
 use borrow.Author.Needs.{needs}
 use lib.ListN.{drop}
 use borrow.Author.Tests.{ne-eqb}
-use Rattle.expression.specs.Text.{first, skip, operator, isComma}
+use Rattle.expression.specs.bridge.Text.{first, skip, operator, isComma}
 use Rattle.expression.proofs.Laws.Symbols.{operator-is, operator-not}
 use Rattle.typed.proofs.Laws.Words.{stands}
 use Rattle.typed.proofs.symbol.comma.Statement.{statement}

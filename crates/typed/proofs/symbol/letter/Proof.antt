@@ -6,7 +6,7 @@ use native.Mathlib.Nat.{le-refl}
 use native.Mathlib.Omega.{arith}
 use borrow.Author.Needs.{needs}
 use lib.ListN.{drop}
-use Rattle.expression.specs.Text.{refused, got}
+use Rattle.expression.specs.bridge.Text.{refused, got}
 use Rattle.expression.proofs.Laws.Places.{behind-at}
 use Rattle.typed.proofs.Laws.Words.{stands, letter-refused, letter-is, letter-other}
 use Rattle.typed.proofs.symbol.letter.Statement.{statement}

@@ -1,9 +1,10 @@
 -- `text::from_text` meets its contract: the first pass refuses, or the records don't fit, or the second pass writes them.
--- By what both passes answer and leave. Assumes nothing.
+-- By what both passes answer and leave, which meets the contract. Assumes nothing.
 use mathlib.Core.Path.{sym, ap, _∙_}
 use borrow.Author.Needs.{needs}
 use Rattle.typed.specs.Answers.{typedOf}
 use Rattle.typed.proofs.Laws.Passes.{comes-refused, comes-unfit, comes-accepted}
+use Rattle.typed.proofs.Laws.Promised.{meets}
 use Rattle.typed.proofs.text.from_text.Statement.{statement}
 use Rattle.typed.proofs.text.from_text.Tie as tie
 
@@ -22,7 +23,7 @@ returns c =
     let s = k .before .before in
     let a = s .before .before .before .args in
     let n = k .surveyed2 .given in
-    comes-unfit (a .text .now) (a .table .now) (n .0 .0) (sym (ap typedOf (n .1)) ∙ s .survey .ensures) (c .if1 .taken)
+    meets (a .text .now) (a .table .now) (comes-unfit (a .text .now) (a .table .now) (n .0 .0) (sym (ap typedOf (n .1)) ∙ s .survey .ensures) (c .if1 .taken))
 
 write-requires : tie.Need-write-requires
 write-requires c κs = search needs
@@ -33,7 +34,7 @@ returns-2 c =
     let s = k .before .before in
     let a = s .before .before .before .args in
     let n = k .surveyed .given in
-    comes-refused (a .text .now) (a .table .now) (n .0 .0) (sym (ap typedOf (n .1)) ∙ s .survey .ensures)
+    meets (a .text .now) (a .table .now) (comes-refused (a .text .now) (a .table .now) (n .0 .0) (sym (ap typedOf (n .1)) ∙ s .survey .ensures))
 
 same-length : tie.Need-same-length
 same-length c = search needs
@@ -46,7 +47,8 @@ returns-3 c =
     let s = k .before .before in
     let a = s .before .before .before .args in
     let n = k .surveyed2 .given in
-    comes-accepted (a .text .now) (a .table .now) (n .0 .0) (sym (ap typedOf (n .1)) ∙ s .survey .ensures) (e .if1 .left) (w .write .ensures)
+    meets (a .text .now) (a .table .now)
+    (comes-accepted (a .text .now) (a .table .now) (n .0 .0) (sym (ap typedOf (n .1)) ∙ s .survey .ensures) (e .if1 .left) (w .write .ensures))
 
 pub from-text-spec : {M : Type 1} → statement M
 from-text-spec =

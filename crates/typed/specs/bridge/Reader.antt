@@ -1,4 +1,4 @@
--- Typed text read to its lines, or refused by 16. `Claims` says that these are the lines that the grammar gives the text, and no others.
+-- Typed text read to its lines, or refused by 16: the lines that the grammar gives the text (`lines-sound`, `lines-complete`).
 use mathlib.Core.Bool.{Bool, cond, _||_}
 use mathlib.Core.List.{List, [], _∷_}
 use Prim.Native.Nat.{ℕ, zero, suc}
@@ -6,9 +6,8 @@ use lib.Dec.{eqb}
 use lib.ListN.{length}
 use Rattle.lists.specs.Lists.{isEmpty}
 use Rattle.meaning.specs.Table.{Range}
-use Rattle.expression.specs.Text.{Read, refused, got, mapRead, skip, first, behind}
-use Rattle.expression.specs.Grammar.{Tree, expressionOf}
-use Rattle.expression.specs.Outputs.{bracketed}
+use Rattle.expression.specs.Grammar.{Tree}
+use Rattle.expression.specs.bridge.Text.{Read, refused, got, mapRead, skip, first, behind, expressionOf, bracketed}
 use Rattle.typed.specs.Grammar.{Pattern, Head, pattern, otherwise, Line, inQuotes, inBrackets, range, elseWord, arrow, semicolon}
 
 -- a refusal stays, and what was read goes on
