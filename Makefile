@@ -16,9 +16,11 @@ test:
 target/staticlib/libcobbletwill.a:
 	@bash .ci/build
 
-# The library, its header and a file for pkg-config, below $(DESTDIR)$(PREFIX).
+# The library, its header and a file for pkg-config, below $(DESTDIR)$(PREFIX). The library is the one that was proved from these sources; where it
+# is not, it is proved first.
 PREFIX ?= /usr/local
-install: target/staticlib/libcobbletwill.a
+install:
+	bash .ci/proved . target/staticlib/libcobbletwill.a || bash .ci/build
 	install -d "$(DESTDIR)$(PREFIX)/include" "$(DESTDIR)$(PREFIX)/lib/pkgconfig"
 	install -m 644 include/cobbletwill.h "$(DESTDIR)$(PREFIX)/include"
 	install -m 644 target/staticlib/libcobbletwill.a "$(DESTDIR)$(PREFIX)/lib"
