@@ -4,11 +4,14 @@
  * can be chosen, and conversion by the words, piece by piece, with a look ahead at
  * what a piece would give.
  *
- * Document 01 says what tables, characters, direct conversion, machine words and
- * sessions are, request [4] of document 02 what can be typed; docs/FORMAT.md has
- * them character by character and byte by byte. The functions are those of
- * the crate `cobbletwill`, in target/staticlib/libcobbletwill.a, which
- * `rt staticlib cobbletwill` writes for x86-64 Linux.
+ * The library is libcobbletwill.a, for x86-64 Linux. docs/FORMAT.md of its sources
+ * has tables, typed rules, machine words and sessions character by character and
+ * byte by byte. K is the length of a rule's pattern, L the greatest K of a table, and E
+ * the greatest number of output characters in a group, which is a rule or the default.
+ *
+ * Names. COBBLETWILL_REFUSED_... is the number of a refusal, COBBLETWILL_..._SIZE a
+ * number of elements, with which an array is declared, and COBBLETWILL_MAX_... a
+ * greatest number.
  *
  * Buffers. A buffer is a pointer to its first element and then its number of
  * elements. With the number 0 the pointer is not used and may be null. No other
@@ -42,45 +45,79 @@
  * layout, answers, functions. Words of 0.2, which has no digits, are not for
  * later versions, nor are sessions of 0.3, which have no counts of uses. Tables,
  * words and sessions of 0.4, which has no from_text, of 0.5, which has no preview,
- * of 0.6, which has no witness, and of 0.7, which takes terms by rising position
- * alone, stay valid. */
+ * of 0.6, which has no witness, of 0.7, which takes terms by rising position alone,
+ * and of 0.8, which has other names of refusals and sizes, stay valid. */
 #define COBBLETWILL_VERSION_MAJOR 0
-#define COBBLETWILL_VERSION_MINOR 8
+#define COBBLETWILL_VERSION_MINOR 9
 #define COBBLETWILL_VERSION_PATCH 0
-#define COBBLETWILL_VERSION "0.8.0"
+#define COBBLETWILL_VERSION "0.9.0"
+
+/* The version as one number, which rises with it; that of the library is what
+ * cobbletwill_version() answers. */
+#define COBBLETWILL_VERSION_NUMBER                                          \
+    (UINT32_C(65536) * COBBLETWILL_VERSION_MAJOR +                          \
+     UINT32_C(256) * COBBLETWILL_VERSION_MINOR + COBBLETWILL_VERSION_PATCH)
+
+/* A function whose answer has to be looked at, where the compiler can warn. */
+#if (defined(__cplusplus) && __cplusplus >= 201703L) || \
+    (defined(__STDC_VERSION__) && __STDC_VERSION__ >= 202311L)
+#define COBBLETWILL_ANSWERS [[nodiscard]]
+#elif defined(__GNUC__)
+#define COBBLETWILL_ANSWERS __attribute__((warn_unused_result))
+#else
+#define COBBLETWILL_ANSWERS
+#endif
 
 #ifdef __cplusplus
 extern "C" {
 #endif
 
-/* The most bytes of a table that is accepted: 3,377 records of 8. */
-enum { COBBLETWILL_TABLE = 27016 };
+/* Sizes and limits. */
+enum {
+    /* The bytes of a buffer for every table that is accepted: 3,377 records of 8. */
+    COBBLETWILL_TABLE_SIZE = 27016,
+    /* The machine words of a table, of 16 bits each. */
+    COBBLETWILL_WORDS_SIZE = 19961,
+    /* The characters of an input that shows a rule: those of the longest pattern,
+     * and one more. */
+    COBBLETWILL_INPUT_SIZE = 9,
+    /* The characters that a session can hold. */
+    COBBLETWILL_HELD_SIZE = 8,
+    /* The counts of uses in a session: a rule's at its number, 0 to 31, and the
+     * default's at COBBLETWILL_USES_DEFAULT. */
+    COBBLETWILL_USES_SIZE = 33,
+    COBBLETWILL_USES_DEFAULT = 32,
 
-/* The machine words of a table: 19,961 of 16 bits. */
-enum { COBBLETWILL_WORDS = 19961 };
+    /* The greatest numbers of a table and its machine: K or L, E, rules, classes of
+     * characters, states. */
+    COBBLETWILL_MAX_PATTERN = 8,
+    COBBLETWILL_MAX_EXPANSION = 8,
+    COBBLETWILL_MAX_RULES = 32,
+    COBBLETWILL_MAX_CLASSES = 64,
+    COBBLETWILL_MAX_STATES = 256
+};
 
-/* The most characters of an input that shows a rule: those of the longest pattern,
- * and one more. */
-enum { COBBLETWILL_INPUT = 9 };
-
-/* The counts of uses in a session: a rule's at its number, 0 to 31, and the
- * default's. */
-enum { COBBLETWILL_DEFAULT = 32, COBBLETWILL_USES = 33 };
+/* The most characters that a session receives and that direct conversion takes. */
+#define COBBLETWILL_MAX_CHARACTERS UINT64_C(1099511627776)
 
 /* The most stack that a call takes on x86-64, in bytes: its return address, and
- * all below but for the frames of memcpy and memset. Feed, finish and preview are
- * inline: these are the limits of the functions that they call, and a frame of
- * their own, where the compiler makes one, is the caller's. */
+ * all below but for the frames of memcpy and memset. Where these two are bound
+ * lazily, the first call of each also takes the dynamic linker's own frames, some
+ * 3,000 bytes; a program linked statically or with `-z now` has them bound before.
+ * Feed, finish and preview are inline: these are the limits of the functions that
+ * they call, and a frame of their own, where the compiler makes one, is the
+ * caller's. */
 enum {
-    COBBLETWILL_STACK_CHECK = 12288,
-    COBBLETWILL_STACK_CONVERT = 12288,
-    COBBLETWILL_STACK_FROM_TEXT = 32768,
-    COBBLETWILL_STACK_COMPILE = 14336,
-    COBBLETWILL_STACK_WITNESS = 14336,
-    COBBLETWILL_STACK_IS_SOUND = 256,
-    COBBLETWILL_STACK_FEED = 1536,
-    COBBLETWILL_STACK_FINISH = 1536,
-    COBBLETWILL_STACK_PREVIEW = 1536
+    COBBLETWILL_MAX_STACK_VERSION = 256,
+    COBBLETWILL_MAX_STACK_CHECK = 12288,
+    COBBLETWILL_MAX_STACK_CONVERT = 14336,
+    COBBLETWILL_MAX_STACK_FROM_TEXT = 32768,
+    COBBLETWILL_MAX_STACK_COMPILE = 14336,
+    COBBLETWILL_MAX_STACK_WITNESS = 14336,
+    COBBLETWILL_MAX_STACK_IS_SOUND = 256,
+    COBBLETWILL_MAX_STACK_FEED = 1536,
+    COBBLETWILL_MAX_STACK_FINISH = 1536,
+    COBBLETWILL_MAX_STACK_PREVIEW = 1536
 };
 
 /* The answers of the check, of conversion, of from_text, of compiling, of witness,
@@ -91,49 +128,49 @@ enum {
     COBBLETWILL_OK = 0,
 
     /* 1: the table's length is no multiple of 8. */
-    COBBLETWILL_TABLE_LENGTH = 1,
+    COBBLETWILL_REFUSED_TABLE_LENGTH = 1,
     /* 2: unknown kind, a field outside its own range, a byte that must be zero
      * and isn't, lowest above highest. */
-    COBBLETWILL_FIELD = 2,
+    COBBLETWILL_REFUSED_FIELD = 2,
     /* 3: a record where its kind can't come, a position not below K, ranges out
      * of order, a term's position repeated. */
-    COBBLETWILL_PLACE = 3,
+    COBBLETWILL_REFUSED_PLACE = 3,
     /* 4: a position skipped, or unfilled when the ranges end. */
-    COBBLETWILL_UNFILLED = 4,
+    COBBLETWILL_REFUSED_UNFILLED = 4,
     /* 5: no rule. */
-    COBBLETWILL_NO_RULE = 5,
+    COBBLETWILL_REFUSED_NO_RULE = 5,
     /* 6: a 33rd rule, fifth range of a position, ninth output character. */
-    COBBLETWILL_TOO_MANY = 6,
+    COBBLETWILL_REFUSED_TOO_MANY = 6,
     /* 7: an output value may leave 0 to 65535. */
-    COBBLETWILL_VALUE = 7,
+    COBBLETWILL_REFUSED_VALUE = 7,
     /* 8: a 65th class of characters (compile and witness only). */
-    COBBLETWILL_CLASSES = 8,
+    COBBLETWILL_REFUSED_CLASSES = 8,
     /* 9: a 257th state (compile and witness only). */
-    COBBLETWILL_STATES = 9,
+    COBBLETWILL_REFUSED_STATES = 9,
     /* 10: under 19,961 words for compile or witness. */
-    COBBLETWILL_SHORT_WORDS = 10,
+    COBBLETWILL_REFUSED_SHORT_WORDS = 10,
     /* 11: under 19,961 words for feed, finish or preview, or words that are not
      * sound. */
-    COBBLETWILL_UNSOUND_WORDS = 11,
+    COBBLETWILL_REFUSED_UNSOUND_WORDS = 11,
     /* 12: a session that is not sound. */
-    COBBLETWILL_UNSOUND_SESSION = 12,
+    COBBLETWILL_REFUSED_UNSOUND_SESSION = 12,
     /* 13: a session that is closed or stopped. */
-    COBBLETWILL_ENDED = 13,
+    COBBLETWILL_REFUSED_ENDED = 13,
     /* 14: an input above 1,099,511,627,776 characters; for feed and preview, the
      * characters received with those of the piece. A finish never meets it. */
-    COBBLETWILL_TOO_LONG = 14,
+    COBBLETWILL_REFUSED_TOO_LONG = 14,
     /* 15: an output buffer shorter than E times the input, E being the greatest
      * number of output characters in a group of the table; for feed, shorter than
      * E times the characters held and those of the piece; for finish, shorter
      * than E times the characters held. 8 times as many is enough for every
      * table. For from_text, a table shorter than the text's records. */
-    COBBLETWILL_SHORT_OUTPUT = 15,
+    COBBLETWILL_REFUSED_SHORT_OUTPUT = 15,
     /* 16: a text outside the grammar. */
-    COBBLETWILL_GRAMMAR = 16,
+    COBBLETWILL_REFUSED_GRAMMAR = 16,
     /* 17: a product both of whose factors have a coefficient other than 0, a
      * constant or coefficient of any part outside signed 32 bits, a final
      * coefficient outside signed 16 bits. */
-    COBBLETWILL_EXPRESSION = 17,
+    COBBLETWILL_REFUSED_EXPRESSION = 17,
 
     /* No rule fits and there is no default: the conversion or the session
      * stopped. */
@@ -146,49 +183,48 @@ enum {
 };
 
 /* Whether an answer is a refusal, which is none of 0, 64, 65 and 66: a number from
- * 1 to 63, of which 1 to 17 are in use. */
-#define COBBLETWILL_REFUSED(answer) ((answer) - UINT32_C(1) < UINT32_C(63))
+ * 1 to 63, of which 1 to 17 are in use and the others for later versions. */
+#define COBBLETWILL_IS_REFUSAL(answer) ((answer) - UINT32_C(1) < UINT32_C(63))
 
-/* A refusal in the words of documents 01 and 02; for any other answer, "no
- * refusal". */
+/* A refusal in words; for any other answer, "no refusal". */
 static inline const char *cobbletwill_refusal_text(uint32_t answer) {
     switch (answer) {
-    case COBBLETWILL_TABLE_LENGTH:
+    case COBBLETWILL_REFUSED_TABLE_LENGTH:
         return "length no multiple of 8";
-    case COBBLETWILL_FIELD:
+    case COBBLETWILL_REFUSED_FIELD:
         return "unknown kind, a field outside its own range, "
                "a byte that must be zero and isn't, lowest above highest";
-    case COBBLETWILL_PLACE:
+    case COBBLETWILL_REFUSED_PLACE:
         return "a record where its kind can't come, a position not below K, "
                "ranges out of order, a term's position repeated";
-    case COBBLETWILL_UNFILLED:
+    case COBBLETWILL_REFUSED_UNFILLED:
         return "a position skipped, or unfilled when the ranges end";
-    case COBBLETWILL_NO_RULE:
+    case COBBLETWILL_REFUSED_NO_RULE:
         return "no rule";
-    case COBBLETWILL_TOO_MANY:
+    case COBBLETWILL_REFUSED_TOO_MANY:
         return "a 33rd rule, fifth range of a position, ninth output character";
-    case COBBLETWILL_VALUE:
+    case COBBLETWILL_REFUSED_VALUE:
         return "an output value may leave 0 to 65535";
-    case COBBLETWILL_CLASSES:
+    case COBBLETWILL_REFUSED_CLASSES:
         return "a 65th class";
-    case COBBLETWILL_STATES:
+    case COBBLETWILL_REFUSED_STATES:
         return "a 257th state";
-    case COBBLETWILL_SHORT_WORDS:
+    case COBBLETWILL_REFUSED_SHORT_WORDS:
         return "under 19,961 words for compiling";
-    case COBBLETWILL_UNSOUND_WORDS:
+    case COBBLETWILL_REFUSED_UNSOUND_WORDS:
         return "under 19,961 words or not sound";
-    case COBBLETWILL_UNSOUND_SESSION:
+    case COBBLETWILL_REFUSED_UNSOUND_SESSION:
         return "session not sound";
-    case COBBLETWILL_ENDED:
+    case COBBLETWILL_REFUSED_ENDED:
         return "session closed or stopped";
-    case COBBLETWILL_TOO_LONG:
+    case COBBLETWILL_REFUSED_TOO_LONG:
         return "received plus piece (direct: input) above 1,099,511,627,776";
-    case COBBLETWILL_SHORT_OUTPUT:
+    case COBBLETWILL_REFUSED_SHORT_OUTPUT:
         return "output shorter than E times (held + piece); "
                "finish: E times held; direct: E times input; text: its records";
-    case COBBLETWILL_GRAMMAR:
+    case COBBLETWILL_REFUSED_GRAMMAR:
         return "text outside the grammar";
-    case COBBLETWILL_EXPRESSION:
+    case COBBLETWILL_REFUSED_EXPRESSION:
         return "a product both of whose factors have a coefficient other than 0, "
                "a constant or coefficient of any part outside signed 32 bits, "
                "a final coefficient outside signed 16 bits";
@@ -197,13 +233,17 @@ static inline const char *cobbletwill_refusal_text(uint32_t answer) {
     }
 }
 
+/* The version of the library, as COBBLETWILL_VERSION_NUMBER is that of this header. */
+uint32_t cobbletwill_version(void);
+
 /*
  * The table check. `table` has `table_length` bytes, in records of 8, of the kinds
  * 1 to 6.
  *
  * Answers 0 for a table that direct conversion accepts, else the first refusal
- * of 1 to 7 in document 01's order.
+ * of 1 to 7 in the order that stands at cobbletwill_compile.
  */
+COBBLETWILL_ANSWERS
 uint32_t cobbletwill_check(const uint8_t *table, size_t table_length);
 
 /*
@@ -216,9 +256,10 @@ uint32_t cobbletwill_check(const uint8_t *table, size_t table_length);
  * number of characters of the input), `*written` is the number of characters
  * written from the start of `output`, and the rest of `output` is as found.
  *
- * Else answers the first refusal of 1 to 7, 14, 15 in this order, and `output`,
- * `*place` and `*written` are as found.
+ * Else answers the first refusal of the check, then 14, 15 in this order, and
+ * `output`, `*place` and `*written` are as found.
  */
+COBBLETWILL_ANSWERS
 uint32_t cobbletwill_convert(const uint8_t *table, size_t table_length,
                              const uint16_t *input, size_t input_length,
                              uint16_t *output, size_t output_length,
@@ -230,7 +271,7 @@ uint32_t cobbletwill_convert(const uint8_t *table, size_t table_length,
  *     "&#[0-9][0-9];" ==> [10 * x2 + x3 - 528];
  *     else ==> [x0];
  *
- * `table` has room for `table_length` bytes, of which COBBLETWILL_TABLE are enough
+ * `table` has room for `table_length` bytes, of which COBBLETWILL_TABLE_SIZE are enough
  * for every text. `length` points to one number.
  *
  * Answers 0 for a text that is accepted. Then `*length` is the length in bytes of
@@ -255,13 +296,14 @@ uint32_t cobbletwill_convert(const uint8_t *table, size_t table_length,
  *   then
  *   15  `table_length` below the length of the records
  */
+COBBLETWILL_ANSWERS
 uint32_t cobbletwill_from_text(const uint16_t *text, size_t text_length,
                                uint8_t *table, size_t table_length,
                                uint64_t *length);
 
 /*
  * Compiling. `table` has `table_length` bytes, in records of 8. `words` has room
- * for `words_length` words, of which the first 19,961 (COBBLETWILL_WORDS) are
+ * for `words_length` words, of which the first 19,961 (COBBLETWILL_WORDS_SIZE) are
  * written; those beyond stay as found.
  *
  * Answers 0 for a table that is compiled; the words are then its machine words,
@@ -285,6 +327,7 @@ uint32_t cobbletwill_from_text(const uint16_t *text, size_t text_length,
  *
  * Refused by 1 to 9, the first 19,961 words are 0.
  */
+COBBLETWILL_ANSWERS
 uint32_t cobbletwill_compile(const uint8_t *table, size_t table_length,
                              uint16_t *words, size_t words_length);
 
@@ -294,7 +337,7 @@ typedef struct cobbletwill_input {
     /* How many characters it has, at most 9; 0 where no input shows the rule. */
     uint16_t length;
     /* The characters. Places from `length` on are 0. */
-    uint16_t characters[COBBLETWILL_INPUT];
+    uint16_t characters[COBBLETWILL_INPUT_SIZE];
 } cobbletwill_input;
 
 /*
@@ -313,19 +356,24 @@ typedef struct cobbletwill_input {
  * Else answers the first refusal of compiling, 10 or 1 to 9, in its order, and
  * `*input` is as found. Refused by 1 to 9, the first 19,961 words are 0.
  */
+COBBLETWILL_ANSWERS
 uint32_t cobbletwill_witness(const uint8_t *table, size_t table_length,
                              uint16_t *words, size_t words_length, uint32_t rule,
                              cobbletwill_input *input);
 
 /*
- * The test of words. `words` has `words_length` words, which are only read; at
- * most the first 19,961 are looked at, and of these only the ones in use.
+ * The test of words. `words` has `words_length` words, which are only read. Only
+ * the words in use, of the first 19,961, decide the answer: those of the states,
+ * classes, rules, default and output characters that the words have. Any of the
+ * 19,961 may be read, and none beyond them. A memory checker that knows which bytes
+ * were ever set may show a read of others; no answer depends on them.
  *
  * Answers 1 for sound words, on which a machine may run, and 0 for words that
  * are not sound or fewer than 19,961. Words that cobbletwill_compile has
  * written with the answer 0 are sound, and so are those that cobbletwill_witness has
  * written with the answer 0 or 66.
  */
+COBBLETWILL_ANSWERS
 uint32_t cobbletwill_is_sound(const uint16_t *words, size_t words_length);
 
 /* What a session has counted. */
@@ -360,12 +408,12 @@ typedef struct cobbletwill_session {
     uint16_t held_count;
     /* The characters held: received, but not decided yet. Places from
      * `held_count` on are 0. */
-    uint16_t held[8];
+    uint16_t held[COBBLETWILL_HELD_SIZE];
     /* How often each rule was used, that is, wrote its output: rule i at i, and
-     * the default at COBBLETWILL_DEFAULT. Each count times the length of its
+     * the default at COBBLETWILL_USES_DEFAULT. Each count times the length of its
      * pattern, the default's times 1, add up to the characters consumed. Counts
      * of rules or a default that the table lacks are 0. */
-    uint64_t uses[COBBLETWILL_USES];
+    uint64_t uses[COBBLETWILL_USES_SIZE];
 } cobbletwill_session;
 
 /* The value that a fresh session is initialized by. */
@@ -380,8 +428,9 @@ typedef struct cobbletwill_session {
 #define COBBLETWILL_HOLDS(condition) _Static_assert(condition, #condition)
 #endif
 #ifdef COBBLETWILL_HOLDS
-COBBLETWILL_HOLDS(COBBLETWILL_TABLE == 8 * (32 * (1 + 8 * 4 + 8 * 9) + 1 + 8 * 2));
-COBBLETWILL_HOLDS(COBBLETWILL_WORDS == 6 + 64 + 3 * 256 + 64 * 256 + 33 * (3 + 8 * 10));
+COBBLETWILL_HOLDS(COBBLETWILL_TABLE_SIZE == 8 * (32 * (1 + 8 * 4 + 8 * 9) + 1 + 8 * 2));
+COBBLETWILL_HOLDS(COBBLETWILL_WORDS_SIZE ==
+                  6 + 64 + 3 * 256 + 64 * 256 + 33 * (3 + 8 * 10));
 COBBLETWILL_HOLDS(sizeof(cobbletwill_input) == 2 + 9 * 2);
 COBBLETWILL_HOLDS(offsetof(cobbletwill_input, length) == 0);
 COBBLETWILL_HOLDS(offsetof(cobbletwill_input, characters) == 2);
@@ -396,7 +445,10 @@ COBBLETWILL_HOLDS(offsetof(cobbletwill_session, state) == 28);
 COBBLETWILL_HOLDS(offsetof(cobbletwill_session, held_count) == 30);
 COBBLETWILL_HOLDS(offsetof(cobbletwill_session, held) == 32);
 COBBLETWILL_HOLDS(offsetof(cobbletwill_session, uses) == 48);
-COBBLETWILL_HOLDS(COBBLETWILL_USES == COBBLETWILL_DEFAULT + 1);
+COBBLETWILL_HOLDS(COBBLETWILL_USES_SIZE == COBBLETWILL_USES_DEFAULT + 1);
+COBBLETWILL_HOLDS(COBBLETWILL_USES_DEFAULT == COBBLETWILL_MAX_RULES);
+COBBLETWILL_HOLDS(COBBLETWILL_HELD_SIZE == COBBLETWILL_MAX_PATTERN);
+COBBLETWILL_HOLDS(COBBLETWILL_INPUT_SIZE == COBBLETWILL_MAX_PATTERN + 1);
 #undef COBBLETWILL_HOLDS
 #endif
 
@@ -408,11 +460,13 @@ COBBLETWILL_HOLDS(COBBLETWILL_USES == COBBLETWILL_DEFAULT + 1);
  * stand and copies none. All else is as for cobbletwill_feed and
  * cobbletwill_finish.
  */
+COBBLETWILL_ANSWERS
 uint32_t cobbletwill_feed_parts(const uint16_t *words, size_t words_length,
                                 cobbletwill_session *session, uint64_t *uses,
                                 const uint16_t *piece, size_t piece_length,
                                 uint16_t *output, size_t output_length,
                                 uint64_t *written);
+COBBLETWILL_ANSWERS
 uint32_t cobbletwill_finish_parts(const uint16_t *words, size_t words_length,
                                   cobbletwill_session *session, uint64_t *uses,
                                   uint16_t *output, size_t output_length,
@@ -422,6 +476,7 @@ uint32_t cobbletwill_finish_parts(const uint16_t *words, size_t words_length,
  * Preview of a session that is lent in two parts, likewise: the session and its
  * counts of uses, which are only read, and the later session and its counts.
  */
+COBBLETWILL_ANSWERS
 uint32_t cobbletwill_preview_parts(const uint16_t *words, size_t words_length,
                                    const cobbletwill_session *session,
                                    const uint64_t *uses, const uint16_t *piece,
@@ -429,8 +484,119 @@ uint32_t cobbletwill_preview_parts(const uint16_t *words, size_t words_length,
                                    uint64_t *later_uses, uint64_t *written);
 
 /*
- * Feed. `words` has `words_length` words, which are only read; at most the first
- * 19,961 are looked at. `session` points to one session. `piece` has
+ * What machine words say of their table, and the output that a call needs. These
+ * functions are safe on any words and sessions. They look at the first six of the
+ * words alone, and answer 0 where these can't be sound or there are fewer than
+ * 19,961: so for erased memory, all 0 or all 65535. They don't say that words are
+ * sound; the call itself does.
+ */
+
+/* Whether the first six words are within the limits of sound words: 1 or 0. Words of
+ * which this is 0 are not sound; cobbletwill_is_sound tests the others. */
+static inline uint32_t cobbletwill_may_be_sound(const uint16_t *words,
+                                                size_t words_length) {
+    return words_length >= COBBLETWILL_WORDS_SIZE && words[0] >= 1 &&
+           words[0] <= COBBLETWILL_MAX_STATES && words[1] >= 1 &&
+           words[1] <= COBBLETWILL_MAX_CLASSES && words[2] >= 1 &&
+           words[2] <= COBBLETWILL_MAX_PATTERN && words[3] <= COBBLETWILL_MAX_EXPANSION &&
+           words[4] >= 1 && words[4] <= COBBLETWILL_MAX_RULES && words[5] <= 1;
+}
+
+/* L, 1 to 8. */
+static inline uint32_t cobbletwill_longest_pattern(const uint16_t *words,
+                                                   size_t words_length) {
+    if (!cobbletwill_may_be_sound(words, words_length)) {
+        return 0;
+    }
+    return words[2];
+}
+
+/* E, 0 to 8. Sound words have 0 too, where no group writes anything: a room is
+ * divided by E in cobbletwill_longest_piece. */
+static inline uint32_t cobbletwill_expansion(const uint16_t *words,
+                                             size_t words_length) {
+    if (!cobbletwill_may_be_sound(words, words_length)) {
+        return 0;
+    }
+    return words[3];
+}
+
+/* The number of rules, 1 to 32. */
+static inline uint32_t cobbletwill_rule_count(const uint16_t *words,
+                                              size_t words_length) {
+    if (!cobbletwill_may_be_sound(words, words_length)) {
+        return 0;
+    }
+    return words[4];
+}
+
+/* 1 where there is a default. */
+static inline uint32_t cobbletwill_has_default(const uint16_t *words,
+                                               size_t words_length) {
+    if (!cobbletwill_may_be_sound(words, words_length)) {
+        return 0;
+    }
+    return words[5];
+}
+
+/*
+ * The characters of output that a feed of a piece of `piece_length` needs: E times
+ * (held plus `piece_length`). Where that is more than a size_t holds, the greatest
+ * size_t; a feed of so long a piece is refused by 14.
+ *
+ * 0 for words or a session that can't be sound, with a `held_count` above 8. Make the
+ * call with that room too: it is refused by 11 or 12.
+ */
+static inline size_t cobbletwill_feed_room(const uint16_t *words, size_t words_length,
+                                           const cobbletwill_session *session,
+                                           size_t piece_length) {
+    const size_t expansion = cobbletwill_expansion(words, words_length);
+    const size_t greatest = (size_t)-1;
+    if (expansion == 0 || session->held_count > COBBLETWILL_HELD_SIZE) {
+        return 0;
+    }
+    if (piece_length > greatest / COBBLETWILL_MAX_EXPANSION - COBBLETWILL_HELD_SIZE) {
+        return greatest;
+    }
+    return expansion * (session->held_count + piece_length);
+}
+
+/* The characters of output that a finish needs: E times held. 0 as for a feed. */
+static inline size_t cobbletwill_finish_room(const uint16_t *words, size_t words_length,
+                                             const cobbletwill_session *session) {
+    return cobbletwill_feed_room(words, words_length, session, 0);
+}
+
+/*
+ * The longest piece of which a feed into `room` characters of output is refused
+ * neither by 14 nor by 15. With an E of 0 the room doesn't matter.
+ *
+ * 0 for words or a session that can't be sound, and where the room is too short for
+ * the characters held alone: then a feed of an empty piece says by its refusal which
+ * it is.
+ */
+static inline size_t cobbletwill_longest_piece(const uint16_t *words,
+                                               size_t words_length,
+                                               const cobbletwill_session *session,
+                                               size_t room) {
+    const size_t expansion = cobbletwill_expansion(words, words_length);
+    if (!cobbletwill_may_be_sound(words, words_length) ||
+        session->held_count > COBBLETWILL_HELD_SIZE ||
+        session->received > COBBLETWILL_MAX_CHARACTERS) {
+        return 0;
+    }
+    const size_t left = (size_t)(COBBLETWILL_MAX_CHARACTERS - session->received);
+    if (expansion == 0) {
+        return left;
+    }
+    const size_t whole = room / expansion;
+    const size_t fitting = whole < session->held_count ? 0 : whole - session->held_count;
+    return fitting < left ? fitting : left;
+}
+
+/*
+ * Feed. `words` has `words_length` words, which are only read, as for
+ * cobbletwill_is_sound. `session` points to one session. `piece` has
  * `piece_length` characters of 16 bits: what follows those received so far.
  * `output` has room for `output_length` characters. `written` points to one
  * number.
@@ -448,9 +614,10 @@ uint32_t cobbletwill_preview_parts(const uint16_t *words, size_t words_length,
  *   12  a session that is not sound for these words, a status above 2 included
  *   13  a session that is closed or stopped
  *   14  received plus `piece_length` above 1,099,511,627,776
- *   15  `output_length` below E times (held plus `piece_length`); E, the greatest
- *       number of output characters in a group, is words[3]
+ *   15  `output_length` below cobbletwill_feed_room, which is E times (held plus
+ *       `piece_length`)
  */
+COBBLETWILL_ANSWERS
 static inline uint32_t cobbletwill_feed(const uint16_t *words, size_t words_length,
                                         cobbletwill_session *session,
                                         const uint16_t *piece, size_t piece_length,
@@ -474,8 +641,9 @@ static inline uint32_t cobbletwill_feed(const uint16_t *words, size_t words_leng
  *   11  fewer than 19,961 words, or words that are not sound
  *   12  a session that is not sound for these words, a status above 2 included
  *   13  a session that is closed or stopped
- *   15  `output_length` below E times held
+ *   15  `output_length` below cobbletwill_finish_room, which is E times held
  */
+COBBLETWILL_ANSWERS
 static inline uint32_t cobbletwill_finish(const uint16_t *words, size_t words_length,
                                           cobbletwill_session *session,
                                           uint16_t *output, size_t output_length,
@@ -501,6 +669,7 @@ static inline uint32_t cobbletwill_finish(const uint16_t *words, size_t words_le
  *   13  a session that is closed or stopped
  *   14  received plus `piece_length` above 1,099,511,627,776
  */
+COBBLETWILL_ANSWERS
 static inline uint32_t cobbletwill_preview(const uint16_t *words, size_t words_length,
                                            const cobbletwill_session *session,
                                            const uint16_t *piece, size_t piece_length,
@@ -509,6 +678,8 @@ static inline uint32_t cobbletwill_preview(const uint16_t *words, size_t words_l
     return cobbletwill_preview_parts(words, words_length, session, session->uses, piece,
                                      piece_length, later, later->uses, written);
 }
+
+#undef COBBLETWILL_ANSWERS
 
 #ifdef __cplusplus
 }

@@ -11,7 +11,7 @@ use reference::witness::{input_of, witness as witness_by_reference};
 use reference::words::{Words, WORDS};
 
 use crate::cases::{pattern, Case};
-use crate::face::{self, Input, DEAD, INPUT, OK, STOPPED};
+use crate::face::{self, Input, DEAD, INPUT_SIZE, OK, STOPPED};
 
 /// What a direct conversion answers and leaves.
 #[derive(Debug, PartialEq, Eq)]
@@ -194,7 +194,7 @@ fn compare_witness(
     }
     let length = usize::from(input.length);
     assert!(
-        length <= INPUT && (length > 0) == (code == OK),
+        length <= INPUT_SIZE && (length > 0) == (code == OK),
         "{}",
         shown()
     );

@@ -2,7 +2,7 @@
 //! them beside each other: the functions of `include/cobbletwill.h`, safe to call, each
 //! by a pointer. `build.rs` links both, under names that begin with the build's.
 
-use crate::face::{Input, Session, USES};
+use crate::face::{Input, Session, USES_SIZE};
 
 /// Declares the functions of both builds, and gathers those of each.
 macro_rules! functions {
@@ -75,7 +75,7 @@ functions! {
         words: *const u16,
         words_length: usize,
         session: *mut Session,
-        uses: *mut [u64; USES],
+        uses: *mut [u64; USES_SIZE],
         piece: *const u16,
         piece_length: usize,
         output: *mut u16,
@@ -87,7 +87,7 @@ functions! {
         words: *const u16,
         words_length: usize,
         session: *mut Session,
-        uses: *mut [u64; USES],
+        uses: *mut [u64; USES_SIZE],
         output: *mut u16,
         output_length: usize,
         written: *mut u64,
@@ -97,11 +97,11 @@ functions! {
         words: *const u16,
         words_length: usize,
         session: *const Session,
-        uses: *const [u64; USES],
+        uses: *const [u64; USES_SIZE],
         piece: *const u16,
         piece_length: usize,
         later: *mut Session,
-        later_uses: *mut [u64; USES],
+        later_uses: *mut [u64; USES_SIZE],
         written: *mut u64,
     );
 }

@@ -162,7 +162,7 @@ impl Seen {
             state: 0x0d0e,
             held_count: 0x0f10,
             held: [0x1112; 8],
-            uses: [0x1314_1516_1718_191a; face::USES],
+            uses: [0x1314_1516_1718_191a; face::USES_SIZE],
         },
         count: u64::MAX - 1,
     };

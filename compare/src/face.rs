@@ -3,7 +3,7 @@
 
 pub use cobbletwill::raw::{
     check, compile, convert, feed, finish, from_text, is_sound, preview, witness, Input, DEAD,
-    DEFAULT, INPUT, OK, OPEN, STOPPED, TABLE, USES,
+    INPUT_SIZE, OK, OPEN, STOPPED, TABLE_SIZE, USES_DEFAULT, USES_SIZE,
 };
 pub use cobbletwill::{Session, Tally};
 use reference::direct::Conversion;

@@ -7,7 +7,7 @@
 use reference::refusal::Refusal;
 use reference::words::Words;
 
-use crate::face::{Session, DEFAULT, USES};
+use crate::face::{Session, USES_DEFAULT, USES_SIZE};
 
 /// Characters of the piece that are looked at beside those held: more than the 8
 /// that a round may read and the one after them.
@@ -170,7 +170,7 @@ impl Fast {
         text: &[u16],
         until: usize,
         place: &mut Place,
-        uses: &mut [u64; USES],
+        uses: &mut [u64; USES_SIZE],
         output: &mut [u16],
     ) {
         let mut now = *place;
@@ -201,7 +201,7 @@ impl Fast {
         &self,
         text: &[u16],
         now: &mut Place,
-        uses: &mut [u64; USES],
+        uses: &mut [u64; USES_SIZE],
         output: &mut [u16],
     ) {
         let Some(DefaultOutput::One {
@@ -223,7 +223,7 @@ impl Fast {
         now.at = now.from;
         now.count += count;
         now.steps = now.steps.wrapping_add(3 * count as u64);
-        uses[DEFAULT] += count as u64;
+        uses[USES_DEFAULT] += count as u64;
     }
 
     /// Reads while the states lead on; what to do then, or none at the text's end.
@@ -247,7 +247,7 @@ impl Fast {
 
     /// At the input's end, with the text read: the end rule, the default or a
     /// stop where there is a store, else the close.
-    fn end(&self, text: &[u16], now: &mut Place, uses: &mut [u64; USES], output: &mut [u16]) {
+    fn end(&self, text: &[u16], now: &mut Place, uses: &mut [u64; USES_SIZE], output: &mut [u16]) {
         if let Some(rule) = self.ends[usize::from(now.state) / 64] {
             self.emit(rule, text, now, uses, output);
         } else if now.from < now.at {
@@ -265,7 +265,7 @@ impl Fast {
         rule: u8,
         text: &[u16],
         now: &mut Place,
-        uses: &mut [u64; USES],
+        uses: &mut [u64; USES_SIZE],
         output: &mut [u16],
     ) {
         let store = &text[now.from..now.at];
@@ -282,7 +282,7 @@ impl Fast {
 
     /// Gives the store back and writes the default's output, or stops.
     #[inline(always)]
-    fn back(&self, text: &[u16], now: &mut Place, uses: &mut [u64; USES], output: &mut [u16]) {
+    fn back(&self, text: &[u16], now: &mut Place, uses: &mut [u64; USES_SIZE], output: &mut [u16]) {
         let reads = (now.at - now.from) as u64;
         if let Some(default) = &self.default {
             let store = &text[now.from..=now.from];
@@ -299,7 +299,7 @@ impl Fast {
             };
             now.from += 1;
             now.steps = now.steps.wrapping_add(reads + 3);
-            uses[DEFAULT] += 1;
+            uses[USES_DEFAULT] += 1;
         } else {
             now.steps = now.steps.wrapping_add(reads + 2);
             now.status = 2;

@@ -6,7 +6,7 @@ use reference::random::Random;
 use reference::table::{Table, MAX_LENGTH, MAX_RULES};
 
 use crate::cases::rules_apart;
-use crate::face::{Session, DEFAULT};
+use crate::face::{Session, USES_DEFAULT};
 
 /// The tables that a seed gives, without end: every second has 32 rules, the
 /// others 1 to 32, of lengths 1 to 8, and every second has a default. Each group
@@ -34,7 +34,7 @@ pub fn groups(words: &[u16]) -> Vec<(usize, u64)> {
     let rules = 0..usize::from(words[4]);
     let rules = rules.map(|rule| (rule, u64::from(words[17222 + 83 * rule])));
     rules
-        .chain((words[5] == 1).then_some((DEFAULT, 1)))
+        .chain((words[5] == 1).then_some((USES_DEFAULT, 1)))
         .collect()
 }
 

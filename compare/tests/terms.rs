@@ -6,7 +6,7 @@ use std::collections::BTreeMap;
 
 use compare::both::{compile, convert, from_text};
 use compare::cases::{self, chooses, large_table, pattern, sound_tables, Case};
-use compare::face::{OK, STOPPED, TABLE};
+use compare::face::{OK, STOPPED, TABLE_SIZE};
 use compare::terms::{by_position, damaged, shuffled, tables, Damage};
 use compare::typed::longest_text;
 use reference::builder::TableBuilder;
@@ -195,8 +195,8 @@ fn each_damage_to_terms() {
 /// The longest table, whose 256 sums of rules have eight terms each.
 #[test]
 fn the_longest_table_in_any_order() {
-    let (code, table) = from_text(&longest_text(), TABLE);
-    assert_eq!((code, table.len()), (OK, TABLE));
+    let (code, table) = from_text(&longest_text(), TABLE_SIZE);
+    assert_eq!((code, table.len()), (OK, TABLE_SIZE));
     let read = Table::read(&table).expect("accepted");
     let mut random = Random::new(SEED + 6);
     for _ in 0..20 {

@@ -6,7 +6,7 @@ use std::collections::BTreeMap;
 
 use compare::both::from_text;
 use compare::cases::tables;
-use compare::face::{OK, TABLE};
+use compare::face::{OK, TABLE_SIZE};
 use compare::terms::by_position;
 use compare::typed::{damaged, longest_text, texts, without_digits, MARKS};
 use reference::builder::{characters, encode};
@@ -174,7 +174,7 @@ fn two_thousand_lines_with_the_refusal_at_the_end() {
 fn the_longest_table() {
     let text = longest_text();
     let (code, records) = read(&text);
-    assert_eq!((code, records.len()), (OK, TABLE));
+    assert_eq!((code, records.len()), (OK, TABLE_SIZE));
     let one_more = characters("\"a\"==>[];");
     assert_eq!(read(&[&one_more[..], &text].concat()).0, 6);
     assert_eq!(read(&[&text[..], &one_more].concat()).0, 3);

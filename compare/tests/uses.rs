@@ -4,7 +4,7 @@
 use std::collections::BTreeMap;
 
 use compare::calls::{compare, random_call, roomy_feed, Left, ROOMY_FINISH};
-use compare::face::{compile, Session, DEFAULT, OK, OPEN, STOPPED, USES};
+use compare::face::{compile, Session, OK, OPEN, STOPPED, USES_DEFAULT, USES_SIZE};
 use compare::lists::{assert_used, Called, Compiled};
 use compare::uses::{tables, taken, used_more, Damage};
 use reference::builder::{characters, TableBuilder};
@@ -33,7 +33,7 @@ fn session(random: &mut Random, machine: &Compiled) -> Session {
 #[test]
 fn lists_of_calls_from_sound_sessions() {
     let mut random = Random::new(SEED + 1);
-    let mut gained = [0; USES];
+    let mut gained = [0; USES_SIZE];
     for machine in tables(SEED).filter_map(Compiled::of).take(LISTS) {
         let (words, input) = (&machine.words, machine.input(&mut random));
         let (mut session, mut unread) = (session(&mut random, &machine), &input[..]);
@@ -58,7 +58,7 @@ fn lists_of_calls_from_sound_sessions() {
 
 /// Every count of the 33 with every way to damage it.
 fn damages() -> impl Iterator<Item = (Damage, usize)> {
-    (0..USES).flat_map(|place| Damage::ALL.map(|damage| (damage, place)))
+    (0..USES_SIZE).flat_map(|place| Damage::ALL.map(|damage| (damage, place)))
 }
 
 #[test]
@@ -99,9 +99,9 @@ fn assert_each_way(made: &BTreeMap<(Damage, usize), usize>) {
     for (damage, place) in damages() {
         let least = match (damage, place) {
             (Damage::More | Damage::Less, _) => MACHINES - times(Damage::Lacking, place),
-            (Damage::Lacking | Damage::MovedToLacking, DEFAULT) => MACHINES / 6,
+            (Damage::Lacking | Damage::MovedToLacking, USES_DEFAULT) => MACHINES / 6,
             (Damage::Lacking | Damage::MovedToLacking, rule) => rule * MACHINES / 192,
-            (Damage::Wrapping, DEFAULT) => 0,
+            (Damage::Wrapping, USES_DEFAULT) => 0,
             _ => MACHINES / 12,
         };
         let times = times(damage, place);
@@ -150,7 +150,11 @@ fn two_to_the_61_uses_of_a_rule_of_eight() {
     session.uses[0] = 0;
     let fed = compare(&words, session, &roomy_feed(&characters("abcdefghabc")));
     assert_eq!(
-        (fed.code, fed.session.uses[0], fed.session.uses[DEFAULT]),
+        (
+            fed.code,
+            fed.session.uses[0],
+            fed.session.uses[USES_DEFAULT]
+        ),
         (OPEN, 1, 0)
     );
     let closed = compare(&words, fed.session, &ROOMY_FINISH);
@@ -158,7 +162,7 @@ fn two_to_the_61_uses_of_a_rule_of_eight() {
         (
             closed.code,
             closed.session.uses[0],
-            closed.session.uses[DEFAULT]
+            closed.session.uses[USES_DEFAULT]
         ),
         (OK, 1, 3)
     );

@@ -15,16 +15,13 @@
 
 #include "cobbletwill.h"
 
-/* The most bytes of a table that any accepted one has: 32 rules of a record, 32
- * ranges and 8 output characters of 9 records, and a default of 17. */
-enum { TABLE = 8 * (32 * (1 + 32 + 8 * 9) + 17) };
-
 /* The most bytes that are read at once, and the output that a feed of them and
  * 8 held characters asks for under any table. */
-enum { PIECE = 4096, ROOM = 8 * (8 + PIECE) };
+enum { PIECE = 4096, ROOM = COBBLETWILL_MAX_EXPANSION * (COBBLETWILL_HELD_SIZE + PIECE) };
 
-static uint8_t table[TABLE + 8];
-static uint16_t words[COBBLETWILL_WORDS];
+/* One record more than any accepted table has, so that a longer one is refused. */
+static uint8_t table[COBBLETWILL_TABLE_SIZE + 8];
+static uint16_t words[COBBLETWILL_WORDS_SIZE];
 static uint16_t piece[PIECE];
 static uint16_t output[ROOM];
 
@@ -42,8 +39,8 @@ static bool compile(const char *path) {
     }
     size_t length = fread(table, 1, sizeof table, file);
     fclose(file);
-    uint32_t answer = cobbletwill_compile(table, length, words, COBBLETWILL_WORDS);
-    if (COBBLETWILL_REFUSED(answer)) {
+    uint32_t answer = cobbletwill_compile(table, length, words, COBBLETWILL_WORDS_SIZE);
+    if (COBBLETWILL_IS_REFUSAL(answer)) {
         report_refusal(answer);
     }
     return answer == COBBLETWILL_OK;
@@ -78,7 +75,7 @@ static bool print_text(uint64_t written) {
 /* The counts, with the steps beside their bound. */
 static void report(const cobbletwill_session *session, uint32_t answer, uint64_t fed) {
     uint64_t consumed = session->received - session->held_count;
-    uint64_t longest = words[2];
+    uint64_t longest = cobbletwill_longest_pattern(words, COBBLETWILL_WORDS_SIZE);
     fprintf(stderr, "%s: %" PRIu64 " characters fed, %" PRIu64 " consumed, %" PRIu64 " produced\n",
             answer == COBBLETWILL_STOPPED ? "stopped" : "closed", fed, consumed, session->tally.produced);
     fprintf(stderr, "%" PRIu64 " steps, at most (%" PRIu64 " + 3) * %" PRIu64 " + 1 = %" PRIu64 "\n",
@@ -92,7 +89,7 @@ struct statement {
 };
 
 /* One more than any table has, so that too many are noticed. */
-enum { STATEMENTS = COBBLETWILL_USES + 1 };
+enum { STATEMENTS = COBBLETWILL_USES_SIZE + 1 };
 
 /* Finds the statements of a source, each up to its semicolon or the end of its first
  * line; their number. A line that begins with # is a comment, and in quotes a
@@ -145,7 +142,8 @@ static const char *read_source(const char *table_path) {
  * it has the same rules and default as the table. */
 static void report_uses(const cobbletwill_session *session, const char *source) {
     struct statement statements[STATEMENTS];
-    int rules = words[4], groups = rules + words[5];
+    const int rules = (int)cobbletwill_rule_count(words, COBBLETWILL_WORDS_SIZE);
+    const int groups = rules + (int)cobbletwill_has_default(words, COBBLETWILL_WORDS_SIZE);
     bool known = find_statements(source, statements) == groups;
     for (int i = 0; i < groups && known; i++) {
         known = statements[i].text[0] == (i < rules ? '"' : 'e');
@@ -155,7 +153,7 @@ static void report_uses(const cobbletwill_session *session, const char *source) 
         if (i < rules) {
             fprintf(stderr, "%7d %13" PRIu64, i, session->uses[i]);
         } else {
-            fprintf(stderr, "default %13" PRIu64, session->uses[COBBLETWILL_DEFAULT]);
+            fprintf(stderr, "default %13" PRIu64, session->uses[COBBLETWILL_USES_DEFAULT]);
         }
         if (known) {
             fprintf(stderr, " %5d  %.*s", statements[i].line, statements[i].length, statements[i].text);
@@ -179,16 +177,16 @@ int main(int argc, char **argv) {
         uint64_t written = 0;
         size_t length = read_piece();
         if (length == 0) {
-            answer = cobbletwill_finish(words, COBBLETWILL_WORDS, &session, output, ROOM, &written);
+            answer = cobbletwill_finish(words, COBBLETWILL_WORDS_SIZE, &session, output, ROOM, &written);
         } else {
-            answer = cobbletwill_feed(words, COBBLETWILL_WORDS, &session, piece, length, output, ROOM, &written);
+            answer = cobbletwill_feed(words, COBBLETWILL_WORDS_SIZE, &session, piece, length, output, ROOM, &written);
         }
         fed += length;
         if (!print_text(written)) {
             return 1;
         }
     }
-    if (COBBLETWILL_REFUSED(answer)) {
+    if (COBBLETWILL_IS_REFUSAL(answer)) {
         report_refusal(answer);
         return 1;
     }

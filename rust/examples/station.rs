@@ -37,7 +37,7 @@ fn station() -> Result<Status, Box<dyn Error>> {
     let status = loop {
         let length = io::stdin().read(&mut bytes)?;
         let piece: Vec<u16> = bytes[..length].iter().copied().map(u16::from).collect();
-        let mut output = vec![0; session.room(&machine, length)];
+        let mut output = vec![0; session.feed_room(&machine, length)];
         let Progress { written, status } = match length {
             0 => session.finish(&machine, &mut output)?,
             _ => session.feed(&machine, &piece, &mut output)?,
@@ -71,7 +71,7 @@ fn report(machine: &Machine, session: &Session, status: Status, fed: u64) {
         Status::Stopped => "stopped",
         Status::Open | Status::Closed => "closed",
     };
-    let (longest, most) = (machine.longest(), machine.most_steps(fed));
+    let (longest, most) = (machine.longest_pattern(), machine.most_steps(fed));
     eprintln!("{ending}: {fed} characters fed, {consumed} consumed, {produced} produced");
     eprintln!("{steps} steps, at most ({longest} + 3) * {fed} + 1 = {most}");
 }
@@ -79,7 +79,7 @@ fn report(machine: &Machine, session: &Session, status: Status, fed: u64) {
 /// How often each rule and the default were used, with their lines of the source
 /// if it has the same rules and default as the table.
 fn report_uses(machine: &Machine, session: &Session, source: &str) {
-    let rules = usize::from(machine.rules());
+    let rules = usize::from(machine.rule_count());
     let named = (0..rules).map(|rule| (rule.to_string(), session.uses(rule), '"'));
     let default = ("default".to_owned(), session.default_uses(), 'e');
     let groups: Vec<_> = named

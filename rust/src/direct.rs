@@ -35,7 +35,7 @@ pub fn check(table: &[u8]) -> Result<(), Refusal> {
 /// Converts a whole input under a table, by Definition 7; the rest of the output
 /// stays as found. Refused by 1 to 7, 14 or 15, with nothing changed.
 ///
-/// [`MOST_OUTPUTS`](crate::MOST_OUTPUTS) times the input is room enough.
+/// [`MAX_EXPANSION`](crate::MAX_EXPANSION) times the input is room enough.
 pub fn convert(table: &[u8], input: &[u16], output: &mut [u16]) -> Result<Conversion, Refusal> {
     let (mut place, mut written) = (0, 0);
     let ending = match raw::convert(table, input, output, &mut place, &mut written) {

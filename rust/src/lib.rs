@@ -37,6 +37,7 @@
 //!   makes all calls
 //! - [`Refusal`]: the numbered refusals
 //! - [`record`]: writing a table's records
+//! - [`version`]: the version of the library that is linked
 //! - [`raw`]: the functions of the header as they are, on any words and sessions
 
 #![deny(unsafe_code)]
@@ -52,11 +53,10 @@ mod typed;
 
 pub use direct::{check, convert, Conversion, Ending};
 pub use machine::{witness, Machine};
-pub use raw::{Session, Tally, INPUT, TABLE, WORDS};
+pub use raw::{
+    version, Session, Tally, HELD_SIZE, INPUT_SIZE, MAX_CHARACTERS, MAX_EXPANSION, TABLE_SIZE,
+    WORDS_SIZE,
+};
 pub use refusal::Refusal;
 pub use session::{run, Preview, Progress, Status};
 pub use typed::Table;
-
-/// The most output characters that a group has, so that so many times the input
-/// is room enough under every table.
-pub const MOST_OUTPUTS: usize = 8;

@@ -2,7 +2,7 @@
 
 use std::fmt;
 
-use crate::raw::{self, Input, INPUT, WORDS};
+use crate::raw::{self, Input, INPUT_SIZE, WORDS_SIZE};
 use crate::refusal::Refusal;
 
 /// A machine: sound words, compiled from a table or tested.
@@ -14,7 +14,7 @@ pub struct Machine {
 impl Machine {
     /// Compiles a table; refused by the first of 1 to 9 in document 01's order.
     pub fn compile(table: &[u8]) -> Result<Machine, Refusal> {
-        let mut words = vec![0; WORDS].into_boxed_slice();
+        let mut words = vec![0; WORDS_SIZE].into_boxed_slice();
         match raw::compile(table, &mut words) {
             raw::OK => Ok(Machine { words }),
             number => Err(Refusal::answered(number)),
@@ -24,7 +24,7 @@ impl Machine {
     /// A machine of words that came from elsewhere; refused by 11 where they are
     /// under 19,961 or not sound. Words beyond are left out.
     pub fn from_words(words: &[u16]) -> Result<Machine, Refusal> {
-        let words = words.get(..WORDS).ok_or(Refusal::UnsoundWords)?;
+        let words = words.get(..WORDS_SIZE).ok_or(Refusal::UnsoundWords)?;
         match raw::is_sound(words) {
             0 => Err(Refusal::UnsoundWords),
             _ => Ok(Machine {
@@ -39,27 +39,28 @@ impl Machine {
     }
 
     /// The number of states.
-    pub fn states(&self) -> u16 {
+    pub fn state_count(&self) -> u16 {
         self.words[0]
     }
 
     /// The number of classes.
-    pub fn classes(&self) -> u16 {
+    pub fn class_count(&self) -> u16 {
         self.words[1]
     }
 
     /// L, the greatest length of a pattern.
-    pub fn longest(&self) -> u16 {
+    pub fn longest_pattern(&self) -> u16 {
         self.words[2]
     }
 
-    /// E, the greatest number of output characters in a group.
-    pub fn most_outputs(&self) -> u16 {
+    /// E, the greatest number of output characters in a group: 0 where no group writes any.
+    /// [`Session::longest_piece`](crate::Session::longest_piece) divides a room by it.
+    pub fn expansion(&self) -> u16 {
         self.words[3]
     }
 
     /// The number of rules.
-    pub fn rules(&self) -> u16 {
+    pub fn rule_count(&self) -> u16 {
         self.words[4]
     }
 
@@ -71,7 +72,7 @@ impl Machine {
     /// The most steps for an input of so many characters: (L + 3) times them,
     /// plus 1.
     pub fn most_steps(&self, characters: u64) -> u64 {
-        let most_a_character = u64::from(self.longest()) + 3;
+        let most_a_character = u64::from(self.longest_pattern()) + 3;
         characters
             .saturating_mul(most_a_character)
             .saturating_add(1)
@@ -81,18 +82,18 @@ impl Machine {
 impl fmt::Debug for Machine {
     fn fmt(&self, f: &mut fmt::Formatter<'_>) -> fmt::Result {
         f.debug_struct("Machine")
-            .field("states", &self.states())
-            .field("classes", &self.classes())
-            .field("longest", &self.longest())
-            .field("most_outputs", &self.most_outputs())
-            .field("rules", &self.rules())
+            .field("state_count", &self.state_count())
+            .field("class_count", &self.class_count())
+            .field("longest_pattern", &self.longest_pattern())
+            .field("expansion", &self.expansion())
+            .field("rule_count", &self.rule_count())
             .field("has_default", &self.has_default())
             .finish_non_exhaustive()
     }
 }
 
 /// Whether a rule of a table can be chosen: for a live rule an input of at most
-/// [`INPUT`] characters on which it is the first choice, for a dead one none. A rule is
+/// [`INPUT_SIZE`] characters on which it is the first choice, for a dead one none. A rule is
 /// dead exactly when no input has Definition 7 choose it anywhere, and a number that no
 /// rule has is dead. Refused as [`Machine::compile`].
 ///
@@ -108,10 +109,10 @@ impl fmt::Debug for Machine {
 /// # Ok::<(), cobbletwill::Refusal>(())
 /// ```
 pub fn witness(table: &[u8], rule: u32) -> Result<Option<Vec<u16>>, Refusal> {
-    let mut words = vec![0; WORDS];
+    let mut words = vec![0; WORDS_SIZE];
     let mut input = Input {
         length: 0,
-        characters: [0; INPUT],
+        characters: [0; INPUT_SIZE],
     };
     match raw::witness(table, &mut words, rule, &mut input) {
         raw::OK => {

@@ -7,20 +7,26 @@
 
 use std::mem::offset_of;
 
-/// The most bytes of a table that is accepted: 3,377 records of 8.
-pub const TABLE: usize = 27_016;
-
+/// The bytes of a buffer for every table that is accepted: 3,377 records of 8.
+pub const TABLE_SIZE: usize = 27_016;
 /// The machine words of a table: 19,961 of 16 bits.
-pub const WORDS: usize = 19_961;
+pub const WORDS_SIZE: usize = 19_961;
+/// The characters of an input that shows a rule: those of the longest pattern, and one
+/// more.
+pub const INPUT_SIZE: usize = 9;
 
+/// The characters that a session can hold.
+pub const HELD_SIZE: usize = 8;
 /// The counts of uses in a session: a rule's at its number, and the default's.
-pub const USES: usize = 33;
+pub const USES_SIZE: usize = 33;
 /// The place of the default's count.
-pub const DEFAULT: usize = 32;
+pub const USES_DEFAULT: usize = 32;
 
-/// The most characters of an input that shows a rule: those of the longest pattern,
-/// and one more.
-pub const INPUT: usize = 9;
+/// The most output characters of a group, so that so many times the input is room enough
+/// under every table.
+pub const MAX_EXPANSION: usize = 8;
+/// The most characters that a session receives and that direct conversion takes.
+pub const MAX_CHARACTERS: u64 = 1_099_511_627_776;
 
 /// The answer for a table or a typed text that is accepted, for a table that is
 /// compiled, for a rule that is live, and for a conversion or a session that closed.
@@ -58,10 +64,10 @@ pub struct Session {
     /// How many characters are held.
     pub held_count: u16,
     /// The characters held; places from `held_count` on are 0.
-    pub held: [u16; 8],
+    pub held: [u16; HELD_SIZE],
     /// How often each rule was used, at its number, and the default, at
-    /// [`DEFAULT`].
-    pub uses: [u64; USES],
+    /// [`USES_DEFAULT`].
+    pub uses: [u64; USES_SIZE],
 }
 
 impl Session {
@@ -75,8 +81,8 @@ impl Session {
         status: 0,
         state: 0,
         held_count: 0,
-        held: [0; 8],
-        uses: [0; USES],
+        held: [0; HELD_SIZE],
+        uses: [0; USES_SIZE],
     };
 }
 
@@ -87,7 +93,7 @@ pub struct Input {
     /// How many characters it has; 0 where no input shows the rule.
     pub length: u16,
     /// The characters; places from `length` on are 0.
-    pub characters: [u16; INPUT],
+    pub characters: [u16; INPUT_SIZE],
 }
 
 // The header's layout, which has no padding.
@@ -110,9 +116,11 @@ const _: () = {
 
 /// The declarations, as C has them.
 mod c {
-    use super::{Input, Session, USES};
+    use super::{Input, Session, USES_SIZE};
 
     extern "C" {
+        pub fn cobbletwill_version() -> u32;
+
         pub fn cobbletwill_check(table: *const u8, table_length: usize) -> u32;
 
         pub fn cobbletwill_convert(
@@ -156,7 +164,7 @@ mod c {
             words: *const u16,
             words_length: usize,
             session: *mut Session,
-            uses: *mut [u64; USES],
+            uses: *mut [u64; USES_SIZE],
             piece: *const u16,
             piece_length: usize,
             output: *mut u16,
@@ -168,7 +176,7 @@ mod c {
             words: *const u16,
             words_length: usize,
             session: *mut Session,
-            uses: *mut [u64; USES],
+            uses: *mut [u64; USES_SIZE],
             output: *mut u16,
             output_length: usize,
             written: *mut u64,
@@ -178,14 +186,21 @@ mod c {
             words: *const u16,
             words_length: usize,
             session: *const Session,
-            uses: *const [u64; USES],
+            uses: *const [u64; USES_SIZE],
             piece: *const u16,
             piece_length: usize,
             later: *mut Session,
-            later_uses: *mut [u64; USES],
+            later_uses: *mut [u64; USES_SIZE],
             written: *mut u64,
         ) -> u32;
     }
+}
+
+/// The version of the library that is linked: 65,536 times the first of its three numbers,
+/// 256 times the second, and the third, so that 0.9.0 is 2,304.
+pub fn version() -> u32 {
+    // SAFETY: the function takes nothing.
+    unsafe { c::cobbletwill_version() }
 }
 
 /// The table check: 0, or the number of a refusal.
@@ -344,7 +359,7 @@ pub fn preview(
 }
 
 /// A session and its counts, the two parts that it is lent in.
-fn parts(session: &mut Session) -> (*mut Session, *mut [u64; USES]) {
+fn parts(session: &mut Session) -> (*mut Session, *mut [u64; USES_SIZE]) {
     let session: *mut Session = session;
     // SAFETY: the pointer is that of a session.
     (session, unsafe { &raw mut (*session).uses })
@@ -355,7 +370,7 @@ fn parts(session: &mut Session) -> (*mut Session, *mut [u64; USES]) {
 mod tests {
     use std::ptr::{null, null_mut};
 
-    use super::{c, parts, Input, Session, WORDS};
+    use super::{c, parts, Input, Session, WORDS_SIZE};
 
     /// One rule without output, which takes `a`.
     const TABLE: [u8; 16] = [1, 1, 0, 0, 0, 0, 0, 0, 2, 0, 0, 0, 97, 0, 97, 0];
@@ -366,7 +381,7 @@ mod tests {
             length: 17,
             characters: [19; 9],
         };
-        let (mut words, mut input) = (vec![7; WORDS], found);
+        let (mut words, mut input) = (vec![7; WORDS_SIZE], found);
         let (room, to) = (words.as_mut_ptr(), &mut input);
         // SAFETY: with the length 0 a pointer is not used; the others are those of the
         // words and of an input borrowed for this call alone.
@@ -374,7 +389,10 @@ mod tests {
             assert_eq!(c::cobbletwill_check(null(), 0), 5);
             assert_eq!(c::cobbletwill_compile(null(), 0, null_mut(), 0), 10);
             assert_eq!(c::cobbletwill_witness(null(), 0, null_mut(), 0, 0, to), 10);
-            assert_eq!(c::cobbletwill_witness(null(), 0, room, WORDS, 0, to), 5);
+            assert_eq!(
+                c::cobbletwill_witness(null(), 0, room, WORDS_SIZE, 0, to),
+                5
+            );
             assert_eq!(c::cobbletwill_is_sound(null(), 0), 0);
         }
         assert_eq!(input, found);
@@ -421,7 +439,7 @@ mod tests {
 
     #[test]
     fn empty_pieces_and_outputs_of_a_session() {
-        let mut words = vec![0; WORDS];
+        let mut words = vec![0; WORDS_SIZE];
         assert_eq!(super::compile(&TABLE, &mut words), 0);
         let (words, length) = (words.as_ptr(), words.len());
         let (mut session, mut later, mut written) = (Session::FRESH, Session::FRESH, 19);

@@ -1,7 +1,7 @@
 //! Sessions, feed, finish and preview.
 
 use crate::machine::Machine;
-use crate::raw::{self, Session, DEFAULT};
+use crate::raw::{self, Session, HELD_SIZE, MAX_CHARACTERS, USES_DEFAULT};
 use crate::refusal::Refusal;
 
 /// The status of a session.
@@ -49,19 +49,47 @@ impl Session {
     /// How often a rule was used, that is, wrote its output. A rule that the machine
     /// lacks, and any number above 31, was never used: 0.
     pub fn uses(&self, rule: usize) -> u64 {
-        self.uses[..DEFAULT].get(rule).copied().unwrap_or(0)
+        self.uses[..USES_DEFAULT].get(rule).copied().unwrap_or(0)
     }
 
     /// How often the default was used; 0 where the machine has none.
     pub fn default_uses(&self) -> u64 {
-        self.uses[DEFAULT]
+        self.uses[USES_DEFAULT]
     }
 
-    /// The output room that a feed of so many characters asks for, a finish with
-    /// 0: E times (held + piece).
-    pub fn room(&self, machine: &Machine, piece_length: usize) -> usize {
+    /// The output that a feed of so many characters needs: E times (held + piece). The
+    /// greatest number stands for a greater one; 14 refuses so long a piece. 0 for a
+    /// session that can't be sound, with more than [`HELD_SIZE`] characters held; 12
+    /// refuses it.
+    pub fn feed_room(&self, machine: &Machine, piece_length: usize) -> usize {
+        match usize::from(self.held_count) {
+            held @ 0..=HELD_SIZE => {
+                usize::from(machine.expansion()).saturating_mul(held.saturating_add(piece_length))
+            }
+            _ => 0,
+        }
+    }
+
+    /// The output that a finish needs: E times held; 0 as for a feed.
+    pub fn finish_room(&self, machine: &Machine) -> usize {
+        self.feed_room(machine, 0)
+    }
+
+    /// The longest piece of which a feed into so much output is refused neither by 14 nor
+    /// by 15. 0 too for a session that can't be sound, and where the output is too short
+    /// for the characters held alone.
+    pub fn longest_piece(&self, machine: &Machine, room: usize) -> usize {
         let held = usize::from(self.held_count);
-        usize::from(machine.most_outputs()).saturating_mul(held.saturating_add(piece_length))
+        if held > HELD_SIZE {
+            return 0;
+        }
+        let left = MAX_CHARACTERS.saturating_sub(self.received);
+        let left = usize::try_from(left).unwrap_or(usize::MAX);
+        // Where nothing is written, any output is long enough.
+        match room.checked_div(usize::from(machine.expansion())) {
+            Some(fitting) => left.min(fitting.saturating_sub(held)),
+            None => left,
+        }
     }
 
     /// Feeds a piece: the output is written from the buffer's start. Refused by
@@ -106,14 +134,14 @@ pub fn run<'a>(
 ) -> Result<(Vec<u16>, Session), Refusal> {
     let (mut session, mut text) = (Session::fresh(), Vec::new());
     for piece in pieces {
-        let mut output = vec![0; session.room(machine, piece.len())];
+        let mut output = vec![0; session.feed_room(machine, piece.len())];
         let fed = session.feed(machine, piece, &mut output)?;
         text.extend(&output[..fed.written]);
         if fed.status == Status::Stopped {
             return Ok((text, session));
         }
     }
-    let mut output = vec![0; session.room(machine, 0)];
+    let mut output = vec![0; session.finish_room(machine)];
     let finished = session.finish(machine, &mut output)?;
     text.extend(&output[..finished.written]);
     Ok((text, session))

@@ -2,7 +2,7 @@
 
 use std::ops::Deref;
 
-use crate::raw::{self, TABLE};
+use crate::raw::{self, TABLE_SIZE};
 use crate::refusal::Refusal;
 
 /// A table's records, as bytes.
@@ -15,7 +15,7 @@ impl Table {
     /// 5, 6 or 7 as [`check`](crate::check) refuses the records. There is room for every
     /// table, so that 15 doesn't occur.
     pub fn from_text(text: &[u16]) -> Result<Table, Refusal> {
-        let (mut table, mut length) = (vec![0; TABLE], 0);
+        let (mut table, mut length) = (vec![0; TABLE_SIZE], 0);
         match raw::from_text(text, &mut table, &mut length) {
             raw::OK => {
                 // It is not above the length of the slice.

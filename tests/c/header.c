@@ -1,6 +1,7 @@
 /*
  * The header by itself, in C99 and later and in C++98 and later: a fresh session,
- * an input, the test for refusals, the version, and the texts, which it prints.
+ * an input, the test for refusals, the version, what is said of words that can't be
+ * sound, and the texts of refusals, which it prints.
  */
 #include <string.h>
 
@@ -20,29 +21,113 @@ static void test_fresh(void) {
 static void test_input(void) {
     cobbletwill_input input = {0, {0}};
     EXPECT(sizeof input == 20);
-    EXPECT((char *)&input.characters[COBBLETWILL_INPUT - 1] - (char *)&input.length == 18);
+    EXPECT((char *)&input.characters[COBBLETWILL_INPUT_SIZE - 1] - (char *)&input.length == 18);
 }
 
+/* Answers up to 63 are refusals, of later versions too. */
 static void test_refused(void) {
     uint32_t answer = COBBLETWILL_OK;
-    EXPECT(!COBBLETWILL_REFUSED(COBBLETWILL_OK));
-    EXPECT(!COBBLETWILL_REFUSED(COBBLETWILL_STOPPED));
-    EXPECT(!COBBLETWILL_REFUSED(COBBLETWILL_OPEN));
-    EXPECT(!COBBLETWILL_REFUSED(COBBLETWILL_DEAD));
-    EXPECT(!COBBLETWILL_REFUSED(answer++));
+    EXPECT(!COBBLETWILL_IS_REFUSAL(COBBLETWILL_OK));
+    EXPECT(!COBBLETWILL_IS_REFUSAL(COBBLETWILL_STOPPED));
+    EXPECT(!COBBLETWILL_IS_REFUSAL(COBBLETWILL_OPEN));
+    EXPECT(!COBBLETWILL_IS_REFUSAL(COBBLETWILL_DEAD));
+    EXPECT(!COBBLETWILL_IS_REFUSAL(answer++));
     EXPECT(answer == 1);
-    for (; answer <= COBBLETWILL_EXPRESSION; answer++) {
-        EXPECT(COBBLETWILL_REFUSED(answer));
+    for (; answer <= COBBLETWILL_REFUSED_EXPRESSION; answer++) {
+        EXPECT(COBBLETWILL_IS_REFUSAL(answer));
         printf("refused %u: %s\n", (unsigned)answer, cobbletwill_refusal_text(answer));
     }
+    for (; answer <= 63; answer++) {
+        EXPECT(COBBLETWILL_IS_REFUSAL(answer));
+        EXPECT(strcmp(cobbletwill_refusal_text(answer), "no refusal") == 0);
+    }
     EXPECT(strcmp(cobbletwill_refusal_text(COBBLETWILL_OK), "no refusal") == 0);
-    EXPECT(strcmp(cobbletwill_refusal_text(18), "no refusal") == 0);
+    EXPECT(strcmp(cobbletwill_refusal_text(COBBLETWILL_STOPPED), "no refusal") == 0);
 }
 
 static void test_version(void) {
     const char *parts =
         VERSION_OF(COBBLETWILL_VERSION_MAJOR, COBBLETWILL_VERSION_MINOR, COBBLETWILL_VERSION_PATCH);
     EXPECT(strcmp(COBBLETWILL_VERSION, parts) == 0);
+    EXPECT(COBBLETWILL_VERSION_NUMBER % 256 == COBBLETWILL_VERSION_PATCH);
+    EXPECT(COBBLETWILL_VERSION_NUMBER / 256 % 256 == COBBLETWILL_VERSION_MINOR);
+    EXPECT(COBBLETWILL_VERSION_NUMBER / 65536 == COBBLETWILL_VERSION_MAJOR);
+}
+
+static uint16_t words[COBBLETWILL_WORDS_SIZE];
+
+/* Nothing is said of words that can't be sound, whatever the session is. */
+static void nothing_said(const uint16_t *of, size_t length) {
+    cobbletwill_session session;
+    const int bytes[] = {0, 1, 255};
+    EXPECT(cobbletwill_may_be_sound(of, length) == 0);
+    EXPECT(cobbletwill_longest_pattern(of, length) == 0);
+    EXPECT(cobbletwill_expansion(of, length) == 0);
+    EXPECT(cobbletwill_rule_count(of, length) == 0);
+    EXPECT(cobbletwill_has_default(of, length) == 0);
+    for (int i = 0; i < 3; i++) {
+        memset(&session, bytes[i], sizeof session);
+        EXPECT(cobbletwill_feed_room(of, length, &session, 4096) == 0);
+        EXPECT(cobbletwill_feed_room(of, length, &session, (size_t)-1) == 0);
+        EXPECT(cobbletwill_finish_room(of, length, &session) == 0);
+        EXPECT(cobbletwill_longest_piece(of, length, &session, 4096) == 0);
+        EXPECT(cobbletwill_longest_piece(of, length, &session, (size_t)-1) == 0);
+    }
+}
+
+/* Erased memory, too few words, and each header word one beyond its limits and at the
+ * greatest number, the others as in words that may be sound. */
+static void test_erased(void) {
+    static const uint16_t least[] = {1, 1, 1, 0, 1, 0}, greatest[] = {256, 64, 8, 8, 32, 1};
+    memset(words, 0, sizeof words);
+    nothing_said(words, COBBLETWILL_WORDS_SIZE);
+    memset(words, 255, sizeof words);
+    nothing_said(words, COBBLETWILL_WORDS_SIZE);
+    nothing_said(NULL, 0);
+    for (int place = 0; place < 6; place++) {
+        memcpy(words, greatest, sizeof greatest);
+        EXPECT(cobbletwill_may_be_sound(words, COBBLETWILL_WORDS_SIZE) == 1);
+        nothing_said(words, COBBLETWILL_WORDS_SIZE - 1);
+        nothing_said(words, 6);
+        words[place] = (uint16_t)(greatest[place] + 1);
+        nothing_said(words, COBBLETWILL_WORDS_SIZE);
+        words[place] = 65535;
+        nothing_said(words, COBBLETWILL_WORDS_SIZE);
+        memcpy(words, least, sizeof least);
+        EXPECT(cobbletwill_may_be_sound(words, COBBLETWILL_WORDS_SIZE) == 1);
+        if (least[place] > 0) {
+            words[place] = 0;
+            nothing_said(words, COBBLETWILL_WORDS_SIZE);
+        }
+    }
+}
+
+/* Of words that may be sound: rooms too long for a size_t, and sessions that can't be sound. */
+static void test_rooms(void) {
+    static const uint16_t header[] = {2, 3, 5, 7, 4, 1};
+    cobbletwill_session session = COBBLETWILL_FRESH;
+    const size_t length = COBBLETWILL_WORDS_SIZE, all = (size_t)-1;
+    memcpy(words, header, sizeof header);
+    EXPECT(cobbletwill_longest_pattern(words, length) == 5);
+    EXPECT(cobbletwill_expansion(words, length) == 7);
+    EXPECT(cobbletwill_rule_count(words, length) == 4);
+    EXPECT(cobbletwill_has_default(words, length) == 1);
+    session.held_count = 8;
+    EXPECT(cobbletwill_finish_room(words, length, &session) == 56);
+    EXPECT(cobbletwill_feed_room(words, length, &session, 100) == 756);
+    for (size_t piece = all; piece > all / 2; piece -= all / 16) {
+        EXPECT(cobbletwill_feed_room(words, length, &session, piece) == all);
+    }
+    EXPECT(cobbletwill_longest_piece(words, length, &session, 755) == 99);
+    EXPECT(cobbletwill_longest_piece(words, length, &session, 55) == 0);
+    EXPECT(cobbletwill_longest_piece(words, length, &session, all) == COBBLETWILL_MAX_CHARACTERS);
+    session.received = COBBLETWILL_MAX_CHARACTERS + 1;
+    EXPECT(cobbletwill_longest_piece(words, length, &session, 756) == 0);
+    session.received = 9;
+    session.held_count = 9;
+    EXPECT(cobbletwill_feed_room(words, length, &session, 100) == 0);
+    EXPECT(cobbletwill_finish_room(words, length, &session) == 0);
+    EXPECT(cobbletwill_longest_piece(words, length, &session, 756) == 0);
 }
 
 int main(void) {
@@ -50,5 +135,8 @@ int main(void) {
     test_input();
     test_refused();
     test_version();
+    test_erased();
+    test_rooms();
+    REPORT("header");
     return 0;
 }

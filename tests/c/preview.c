@@ -17,7 +17,7 @@ enum { PIECE = 64, ROOM = 8 * (8 + PIECE), FOUND = 0x5a };
 struct lent {
     cobbletwill_session session;
     uint16_t piece[PIECE];
-    uint16_t words[COBBLETWILL_WORDS];
+    uint16_t words[COBBLETWILL_WORDS_SIZE];
 };
 
 static struct lent *lent;
@@ -28,13 +28,15 @@ static uint32_t see(const char *text, cobbletwill_session session, cobbletwill_s
     lent->session = session;
     memset(later, FOUND, sizeof *later);
     EXPECT(mprotect(lent, sizeof *lent, PROT_READ) == 0);
-    uint32_t answer = cobbletwill_preview(lent->words, COBBLETWILL_WORDS, &lent->session, length > 0 ? lent->piece : NULL,
-                                          length, later, written);
+    const uint16_t *piece = length > 0 ? lent->piece : NULL;
+    uint32_t answer =
+        cobbletwill_preview(lent->words, COBBLETWILL_WORDS_SIZE, &lent->session, piece, length, later, written);
     EXPECT(mprotect(lent, sizeof *lent, PROT_READ | PROT_WRITE) == 0);
 
     uint16_t output[ROOM];
     uint64_t fed;
-    EXPECT(cobbletwill_feed(lent->words, COBBLETWILL_WORDS, &session, lent->piece, length, output, ROOM, &fed) == answer);
+    EXPECT(cobbletwill_feed(lent->words, COBBLETWILL_WORDS_SIZE, &session, lent->piece, length, output, ROOM, &fed) ==
+           answer);
     EXPECT(fed == *written && memcmp(&session, later, sizeof session) == 0);
     return answer;
 }
@@ -47,7 +49,7 @@ static const uint8_t table[] = {
 };
 
 static void compile(size_t length) {
-    EXPECT(cobbletwill_compile(table, length, lent->words, COBBLETWILL_WORDS) == COBBLETWILL_OK);
+    EXPECT(cobbletwill_compile(table, length, lent->words, COBBLETWILL_WORDS_SIZE) == COBBLETWILL_OK);
 }
 
 static const cobbletwill_session fresh = COBBLETWILL_FRESH;
@@ -61,7 +63,7 @@ static void test_pieces(void) {
     EXPECT(memcmp(&later, &fresh, sizeof fresh) == 0);
     EXPECT(see("zaba", fresh, &later, &written) == COBBLETWILL_OPEN && written == 3);
     EXPECT(later.received == 4 && later.tally.produced == 3 && later.held_count == 1 && later.held[0] == 'a');
-    EXPECT(later.uses[0] == 1 && later.uses[1] == 0 && later.uses[COBBLETWILL_DEFAULT] == 1);
+    EXPECT(later.uses[0] == 1 && later.uses[1] == 0 && later.uses[COBBLETWILL_USES_DEFAULT] == 1);
     /* From the session that was seen, as from that of the feed. */
     EXPECT(see("ccac", later, &last, &written) == COBBLETWILL_OPEN && written == 0);
     EXPECT(last.received == 8 && last.held_count == 2 && last.uses[1] == 1);
@@ -79,16 +81,17 @@ static void test_stop(void) {
 /* Counts that stand elsewhere than in the sessions, whose own are then not touched. */
 static void test_parts(void) {
     cobbletwill_session later;
-    uint64_t uses[COBBLETWILL_USES] = {0}, later_uses[COBBLETWILL_USES], written;
+    uint64_t uses[COBBLETWILL_USES_SIZE] = {0}, later_uses[COBBLETWILL_USES_SIZE], written;
     compile(sizeof table);
     size_t length = put_text(lent->piece, "zz");
     lent->session = fresh;
     lent->session.uses[5] = 17;
     memset(&later, FOUND, sizeof later);
     const cobbletwill_session found = later;
-    EXPECT(cobbletwill_preview_parts(lent->words, COBBLETWILL_WORDS, &lent->session, uses, lent->piece, length, &later,
-                                     later_uses, &written) == COBBLETWILL_OPEN);
-    EXPECT(written == 2 && later_uses[COBBLETWILL_DEFAULT] == 2 && later_uses[5] == 0 && uses[COBBLETWILL_DEFAULT] == 0);
+    EXPECT(cobbletwill_preview_parts(lent->words, COBBLETWILL_WORDS_SIZE, &lent->session, uses, lent->piece, length,
+                                     &later, later_uses, &written) == COBBLETWILL_OPEN);
+    EXPECT(written == 2 && later_uses[COBBLETWILL_USES_DEFAULT] == 2 && later_uses[5] == 0);
+    EXPECT(uses[COBBLETWILL_USES_DEFAULT] == 0);
     EXPECT(memcmp(later.uses, found.uses, sizeof found.uses) == 0);
 }
 
@@ -98,5 +101,6 @@ int main(void) {
     test_pieces();
     test_stop();
     test_parts();
+    REPORT("preview");
     return 0;
 }

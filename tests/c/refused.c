@@ -22,9 +22,9 @@ struct lent {
     cobbletwill_session session, later;
     cobbletwill_input shown;
     uint64_t place, written, length;
-    uint8_t records[COBBLETWILL_TABLE];
+    uint8_t records[COBBLETWILL_TABLE_SIZE];
     uint16_t output[ROOM];
-    uint16_t words[COBBLETWILL_WORDS + BEYOND];
+    uint16_t words[COBBLETWILL_WORDS_SIZE + BEYOND];
     uint8_t after[8];
 };
 
@@ -95,22 +95,22 @@ static void on_fault(int signal) {
 /* All of it 0x5a, but for the words of the table and a session. */
 static void lend(cobbletwill_session session) {
     memset(lent, 0x5a, sizeof *lent);
-    EXPECT(cobbletwill_compile(table, sizeof table, lent->words, COBBLETWILL_WORDS) == COBBLETWILL_OK);
+    EXPECT(cobbletwill_compile(table, sizeof table, lent->words, COBBLETWILL_WORDS_SIZE) == COBBLETWILL_OK);
     lent->session = session;
 }
 
 static const cobbletwill_session fresh = COBBLETWILL_FRESH;
 static const uint16_t text[] = {'z', 'z', 'a'};
-static const struct call feed = {FEED, NULL, 0, text, 3, ROOM, COBBLETWILL_WORDS};
-static const struct call finish = {FINISH, NULL, 0, NULL, 0, ROOM, COBBLETWILL_WORDS};
-static const struct call preview = {PREVIEW, NULL, 0, text, 3, 0, COBBLETWILL_WORDS};
+static const struct call feed = {FEED, NULL, 0, text, 3, ROOM, COBBLETWILL_WORDS_SIZE};
+static const struct call finish = {FINISH, NULL, 0, NULL, 0, ROOM, COBBLETWILL_WORDS_SIZE};
+static const struct call preview = {PREVIEW, NULL, 0, text, 3, 0, COBBLETWILL_WORDS_SIZE};
 
 /* The session after a feed of `zza`: two characters written by the default, one held. */
 static cobbletwill_session fed(void) {
     lend(fresh);
     EXPECT(make(&feed) == COBBLETWILL_OPEN);
     EXPECT(lent->written == 2 && lent->session.received == 3 && lent->session.held_count == 1);
-    EXPECT(lent->session.uses[COBBLETWILL_DEFAULT] == 2);
+    EXPECT(lent->session.uses[COBBLETWILL_USES_DEFAULT] == 2);
     return lent->session;
 }
 
@@ -127,7 +127,7 @@ static void all_refused(cobbletwill_session session, uint32_t number) {
 static void test_unsound_sessions(void) {
     const cobbletwill_session sound = fed();
     cobbletwill_session session;
-#define UNSOUND(change) (session = sound, change, all_refused(session, COBBLETWILL_UNSOUND_SESSION))
+#define UNSOUND(change) (session = sound, change, all_refused(session, COBBLETWILL_REFUSED_UNSOUND_SESSION))
     UNSOUND(session.received = UINT64_C(1099511627777));
     UNSOUND(session.received = 0);
     UNSOUND(session.tally.produced = 2 * 2 + 1);
@@ -145,21 +145,21 @@ static void test_unsound_sessions(void) {
     UNSOUND(session.held[1] = 1);
     UNSOUND(session.held[7] = 1);
     /* The rules have K 2 and 3, and there are no others. 2^63 uses of the first add 0 modulo 2^64. */
-    for (int i = 0; i < COBBLETWILL_USES; i++) {
+    for (int i = 0; i < COBBLETWILL_USES_SIZE; i++) {
         UNSOUND(session.uses[i] += 1);
         UNSOUND(session.uses[i] -= 1);
         UNSOUND(session.uses[i] += UINT64_C(1) << 63);
     }
-    UNSOUND((session.uses[1] = 1, session.uses[COBBLETWILL_DEFAULT] = 0));
-    UNSOUND((session.uses[0] = 1, session.uses[COBBLETWILL_DEFAULT] = 1));
+    UNSOUND((session.uses[1] = 1, session.uses[COBBLETWILL_USES_DEFAULT] = 0));
+    UNSOUND((session.uses[0] = 1, session.uses[COBBLETWILL_USES_DEFAULT] = 1));
 #undef UNSOUND
     /* Two uses of the default are as many characters as one of the first rule. */
     session = sound;
     session.uses[0] = 1;
-    session.uses[COBBLETWILL_DEFAULT] = 0;
+    session.uses[COBBLETWILL_USES_DEFAULT] = 0;
     lend(session);
     EXPECT(make(&finish) == COBBLETWILL_OK);
-    EXPECT(lent->session.uses[0] == 1 && lent->session.uses[COBBLETWILL_DEFAULT] == 1);
+    EXPECT(lent->session.uses[0] == 1 && lent->session.uses[COBBLETWILL_USES_DEFAULT] == 1);
 }
 
 /* Counts that stand elsewhere than in the session, whose own are then not touched. */
@@ -167,13 +167,13 @@ static void test_parts(void) {
     lend(fresh);
     static const unsigned char found[sizeof fresh.uses] = {1, 2, 3};
     memcpy(lent->session.uses, found, sizeof found);
-    uint64_t uses[COBBLETWILL_USES] = {0};
-    EXPECT(cobbletwill_feed_parts(lent->words, COBBLETWILL_WORDS, &lent->session, uses, text, 3, lent->output, ROOM,
-                                  &lent->written) == COBBLETWILL_OPEN);
-    EXPECT(uses[COBBLETWILL_DEFAULT] == 2);
-    EXPECT(cobbletwill_finish_parts(lent->words, COBBLETWILL_WORDS, &lent->session, uses, lent->output, ROOM,
+    uint64_t uses[COBBLETWILL_USES_SIZE] = {0};
+    EXPECT(cobbletwill_feed_parts(lent->words, COBBLETWILL_WORDS_SIZE, &lent->session, uses, text, 3, lent->output,
+                                  ROOM, &lent->written) == COBBLETWILL_OPEN);
+    EXPECT(uses[COBBLETWILL_USES_DEFAULT] == 2);
+    EXPECT(cobbletwill_finish_parts(lent->words, COBBLETWILL_WORDS_SIZE, &lent->session, uses, lent->output, ROOM,
                                     &lent->written) == COBBLETWILL_OK);
-    EXPECT(uses[COBBLETWILL_DEFAULT] == 3 && uses[0] == 0 && uses[1] == 0);
+    EXPECT(uses[COBBLETWILL_USES_DEFAULT] == 3 && uses[0] == 0 && uses[1] == 0);
     EXPECT(memcmp(lent->session.uses, found, sizeof found) == 0);
 }
 
@@ -191,16 +191,16 @@ static void test_unsound_digits(void) {
     for (size_t i = 0; i < sizeof damages / sizeof damages[0]; i++) {
         lend(fresh);
         lent->words[damages[i].at] = damages[i].word;
-        EXPECT(cobbletwill_is_sound(lent->words, COBBLETWILL_WORDS) == 0);
-        refused(&feed, COBBLETWILL_UNSOUND_WORDS);
-        refused(&finish, COBBLETWILL_UNSOUND_WORDS);
-        refused(&preview, COBBLETWILL_UNSOUND_WORDS);
+        EXPECT(cobbletwill_is_sound(lent->words, COBBLETWILL_WORDS_SIZE) == 0);
+        refused(&feed, COBBLETWILL_REFUSED_UNSOUND_WORDS);
+        refused(&finish, COBBLETWILL_REFUSED_UNSOUND_WORDS);
+        refused(&preview, COBBLETWILL_REFUSED_UNSOUND_WORDS);
     }
     /* Coefficients from K on and entries beyond the output count are not looked at. */
     lend(fresh);
     lent->words[POSITION_2] = 1;
     lent->words[UNUSED] = 2;
-    EXPECT(cobbletwill_is_sound(lent->words, COBBLETWILL_WORDS) == 1);
+    EXPECT(cobbletwill_is_sound(lent->words, COBBLETWILL_WORDS_SIZE) == 1);
 }
 
 static void test_sessions(void) {
@@ -208,35 +208,35 @@ static void test_sessions(void) {
 
     struct call short_words = feed, short_output = feed;
     lend(open);
-    short_words.words_length = COBBLETWILL_WORDS - 1;
-    refused(&short_words, COBBLETWILL_UNSOUND_WORDS);
+    short_words.words_length = COBBLETWILL_WORDS_SIZE - 1;
+    refused(&short_words, COBBLETWILL_REFUSED_UNSOUND_WORDS);
     short_words.of = FINISH;
-    refused(&short_words, COBBLETWILL_UNSOUND_WORDS);
+    refused(&short_words, COBBLETWILL_REFUSED_UNSOUND_WORDS);
     short_words.of = PREVIEW;
-    refused(&short_words, COBBLETWILL_UNSOUND_WORDS);
+    refused(&short_words, COBBLETWILL_REFUSED_UNSOUND_WORDS);
     lent->words[0] = 0;
-    refused(&feed, COBBLETWILL_UNSOUND_WORDS);
-    refused(&finish, COBBLETWILL_UNSOUND_WORDS);
-    refused(&preview, COBBLETWILL_UNSOUND_WORDS);
+    refused(&feed, COBBLETWILL_REFUSED_UNSOUND_WORDS);
+    refused(&finish, COBBLETWILL_REFUSED_UNSOUND_WORDS);
+    refused(&preview, COBBLETWILL_REFUSED_UNSOUND_WORDS);
 
     cobbletwill_session ended = {3, {2, 7}, 1, 0, 0, {0}, {0}};
-    ended.uses[COBBLETWILL_DEFAULT] = 3;
-    all_refused(ended, COBBLETWILL_ENDED);
+    ended.uses[COBBLETWILL_USES_DEFAULT] = 3;
+    all_refused(ended, COBBLETWILL_REFUSED_ENDED);
     ended.status = 2;
-    all_refused(ended, COBBLETWILL_ENDED);
+    all_refused(ended, COBBLETWILL_REFUSED_ENDED);
 
     cobbletwill_session full = COBBLETWILL_FRESH;
-    full.received = full.uses[COBBLETWILL_DEFAULT] = UINT64_C(1099511627776) - 2;
+    full.received = full.uses[COBBLETWILL_USES_DEFAULT] = UINT64_C(1099511627776) - 2;
     lend(full);
-    refused(&feed, COBBLETWILL_TOO_LONG);
-    refused(&preview, COBBLETWILL_TOO_LONG);
+    refused(&feed, COBBLETWILL_REFUSED_TOO_LONG);
+    refused(&preview, COBBLETWILL_REFUSED_TOO_LONG);
 
     lend(open);
     short_output.output_length = 2 * (1 + 3) - 1;
-    refused(&short_output, COBBLETWILL_SHORT_OUTPUT);
+    refused(&short_output, COBBLETWILL_REFUSED_SHORT_OUTPUT);
     short_output.of = FINISH;
     short_output.output_length = 2 * 1 - 1;
-    refused(&short_output, COBBLETWILL_SHORT_OUTPUT);
+    refused(&short_output, COBBLETWILL_REFUSED_SHORT_OUTPUT);
 }
 
 /* A table that check and convert refuse by a number, and compile and witness too, leaving their words 0. */
@@ -245,21 +245,21 @@ static void table_refused(const uint8_t *bytes, size_t length, uint32_t number) 
     const struct call check = {CHECK, bytes, length, NULL, 0, 0, 0};
     const struct call convert = {CONVERT, bytes, length, text, 3, ROOM, 0};
     struct call compiles[] = {
-        {COMPILE, bytes, length, NULL, 0, 0, COBBLETWILL_WORDS - 1},
-        {WITNESS, bytes, length, NULL, 0, 0, COBBLETWILL_WORDS - 1},
+        {COMPILE, bytes, length, NULL, 0, 0, COBBLETWILL_WORDS_SIZE - 1},
+        {WITNESS, bytes, length, NULL, 0, 0, COBBLETWILL_WORDS_SIZE - 1},
     };
-    if (number < COBBLETWILL_CLASSES) {
+    if (number < COBBLETWILL_REFUSED_CLASSES) {
         refused(&check, number);
         refused(&convert, number);
     }
     for (size_t i = 0; i < sizeof compiles / sizeof compiles[0]; i++) {
         lend(fresh);
-        refused(&compiles[i], COBBLETWILL_SHORT_WORDS);
+        refused(&compiles[i], COBBLETWILL_REFUSED_SHORT_WORDS);
 
         static struct lent found;
         memcpy(&found, lent, sizeof found);
-        memset(found.words, 0, COBBLETWILL_WORDS * sizeof found.words[0]);
-        compiles[i].words_length = COBBLETWILL_WORDS + BEYOND;
+        memset(found.words, 0, COBBLETWILL_WORDS_SIZE * sizeof found.words[0]);
+        compiles[i].words_length = COBBLETWILL_WORDS_SIZE + BEYOND;
         EXPECT(make(&compiles[i]) == number);
         EXPECT(memcmp(&found, lent, sizeof found) == 0);
     }
@@ -283,22 +283,22 @@ static void test_tables(void) {
         RULE(1, 0),  RANGE(0, 'a', 'a'), OUTPUT(1),   DIGIT(0, 4), DIGIT(0, 0), OUTPUT(4),
         DIGIT(0, 8), DIGIT(0, 12),       DIGIT(0, 4), OUTPUT(8),   DIGIT(0, 0),
     };
-    table_refused(table, sizeof table - 1, COBBLETWILL_TABLE_LENGTH);
-    table_refused(field, sizeof field, COBBLETWILL_FIELD);
-    table_refused(place, sizeof place, COBBLETWILL_PLACE);
-    table_refused(unfilled, sizeof unfilled, COBBLETWILL_UNFILLED);
-    table_refused(no_rule, sizeof no_rule, COBBLETWILL_NO_RULE);
-    table_refused(too_many, sizeof too_many, COBBLETWILL_TOO_MANY);
-    table_refused(value, sizeof value, COBBLETWILL_VALUE);
-    table_refused(shift, sizeof shift, COBBLETWILL_FIELD);
-    table_refused(digit_place, sizeof digit_place, COBBLETWILL_PLACE);
-    table_refused(digit_term, sizeof digit_term, COBBLETWILL_PLACE);
-    table_refused(digit_unfilled, sizeof digit_unfilled, COBBLETWILL_UNFILLED);
-    table_refused(digits, sizeof digits, COBBLETWILL_TOO_MANY);
+    table_refused(table, sizeof table - 1, COBBLETWILL_REFUSED_TABLE_LENGTH);
+    table_refused(field, sizeof field, COBBLETWILL_REFUSED_FIELD);
+    table_refused(place, sizeof place, COBBLETWILL_REFUSED_PLACE);
+    table_refused(unfilled, sizeof unfilled, COBBLETWILL_REFUSED_UNFILLED);
+    table_refused(no_rule, sizeof no_rule, COBBLETWILL_REFUSED_NO_RULE);
+    table_refused(too_many, sizeof too_many, COBBLETWILL_REFUSED_TOO_MANY);
+    table_refused(value, sizeof value, COBBLETWILL_REFUSED_VALUE);
+    table_refused(shift, sizeof shift, COBBLETWILL_REFUSED_FIELD);
+    table_refused(digit_place, sizeof digit_place, COBBLETWILL_REFUSED_PLACE);
+    table_refused(digit_term, sizeof digit_term, COBBLETWILL_REFUSED_PLACE);
+    table_refused(digit_unfilled, sizeof digit_unfilled, COBBLETWILL_REFUSED_UNFILLED);
+    table_refused(digits, sizeof digits, COBBLETWILL_REFUSED_TOO_MANY);
 
     uint8_t large[LARGE_MOST];
-    table_refused(large, put_large(large, 1, 7), COBBLETWILL_CLASSES);
-    table_refused(large, put_large(large, 0, 8), COBBLETWILL_STATES);
+    table_refused(large, put_large(large, 1, 7), COBBLETWILL_REFUSED_CLASSES);
+    table_refused(large, put_large(large, 0, 8), COBBLETWILL_REFUSED_STATES);
 }
 
 /* Terms in any order are not refused, and the words are the same. A position that is repeated is, whatever stands
@@ -309,23 +309,23 @@ static void test_terms(void) {
     static const uint8_t apart[] = {T1_WITH(TERM(2, 10), TERM(3, 1), TERM(2, 10))};
     static const uint8_t first[] = {T1_WITH(TERM(0, 1), TERM(1, 1), TERM(2, 1), TERM(3, 1), TERM(4, 1), TERM(0, 1))};
     static const uint8_t last[] = {T1_WITH(TERM(4, 1), TERM(3, 1), TERM(2, 1), TERM(1, 1), TERM(0, 1), TERM(4, 1))};
-    static uint16_t words[COBBLETWILL_WORDS];
+    static uint16_t words[COBBLETWILL_WORDS_SIZE];
     EXPECT(cobbletwill_check(falling, sizeof falling) == COBBLETWILL_OK);
-    EXPECT(cobbletwill_compile(rising, sizeof rising, words, COBBLETWILL_WORDS) == COBBLETWILL_OK);
+    EXPECT(cobbletwill_compile(rising, sizeof rising, words, COBBLETWILL_WORDS_SIZE) == COBBLETWILL_OK);
     lend(fresh);
-    EXPECT(cobbletwill_compile(falling, sizeof falling, lent->words, COBBLETWILL_WORDS) == COBBLETWILL_OK);
+    EXPECT(cobbletwill_compile(falling, sizeof falling, lent->words, COBBLETWILL_WORDS_SIZE) == COBBLETWILL_OK);
     EXPECT(memcmp(words, lent->words, sizeof words) == 0);
-    table_refused(beside, sizeof beside, COBBLETWILL_PLACE);
-    table_refused(apart, sizeof apart, COBBLETWILL_PLACE);
-    table_refused(first, sizeof first, COBBLETWILL_PLACE);
-    table_refused(last, sizeof last, COBBLETWILL_PLACE);
+    table_refused(beside, sizeof beside, COBBLETWILL_REFUSED_PLACE);
+    table_refused(apart, sizeof apart, COBBLETWILL_REFUSED_PLACE);
+    table_refused(first, sizeof first, COBBLETWILL_REFUSED_PLACE);
+    table_refused(last, sizeof last, COBBLETWILL_REFUSED_PLACE);
 }
 
 /* Refusal 14 takes an input of 2 TiB: addresses without memory, which are not read. */
 static void test_inputs(void) {
     const struct call short_output = {CONVERT, table, sizeof table, text, 3, 2 * 3 - 1, 0};
     lend(fresh);
-    refused(&short_output, COBBLETWILL_SHORT_OUTPUT);
+    refused(&short_output, COBBLETWILL_REFUSED_SHORT_OUTPUT);
 
     const size_t length = (size_t)UINT64_C(1099511627777);
     void *addresses = mmap(NULL, 2 * length, PROT_NONE, MAP_PRIVATE | MAP_ANONYMOUS | MAP_NORESERVE, -1, 0);
@@ -334,7 +334,7 @@ static void test_inputs(void) {
         return;
     }
     const struct call long_input = {CONVERT, table, sizeof table, addresses, length, ROOM, 0};
-    refused(&long_input, COBBLETWILL_TOO_LONG);
+    refused(&long_input, COBBLETWILL_REFUSED_TOO_LONG);
     munmap(addresses, 2 * length);
 }
 
@@ -353,30 +353,30 @@ static void test_typed(void) {
         const char *typed;
         uint32_t number;
     } texts[] = {
-        {"a", COBBLETWILL_GRAMMAR},
-        {"\"a\" ==> [x0 * x0]; \"b\" ==> []", COBBLETWILL_GRAMMAR},
-        {"\"a\" ==> [65535 * 65535, hex(x0, 4)];", COBBLETWILL_GRAMMAR},
-        {"\"[b-a]\" ==> []; \"a\" ==> [x0 * x0];", COBBLETWILL_EXPRESSION},
-        {"else ==> [65535 * 65535 - 65535 * 65535];", COBBLETWILL_EXPRESSION},
-        {"\"a\" ==> [32768 * x1];", COBBLETWILL_EXPRESSION},
-        {"\"[b-a]\" ==> []; \"[ba]\" ==> [];", COBBLETWILL_FIELD},
-        {"\"[ba]\" ==> [0 - 1]; \"[b-a]\" ==> [];", COBBLETWILL_PLACE},
-        {"\"a\" ==> [x1];", COBBLETWILL_PLACE},
-        {"else ==> []; \"[acegi]\" ==> [];", COBBLETWILL_PLACE},
-        {"", COBBLETWILL_NO_RULE},
-        {"\n", COBBLETWILL_NO_RULE},
-        {"else ==> [x0 + 1];", COBBLETWILL_NO_RULE},
-        {"\"[acegi]\" ==> []; \"[b-a]\" ==> [];", COBBLETWILL_TOO_MANY},
-        {"\"a\" ==> [1, 2, 3, 4, 5, 6, 7, 8, 0 - 9];", COBBLETWILL_TOO_MANY},
-        {"\"[0-9]\" ==> [x0 - 49];", COBBLETWILL_VALUE},
-        {"\"a\" ==> [65]; else ==> [x0 + 1];", COBBLETWILL_VALUE},
+        {"a", COBBLETWILL_REFUSED_GRAMMAR},
+        {"\"a\" ==> [x0 * x0]; \"b\" ==> []", COBBLETWILL_REFUSED_GRAMMAR},
+        {"\"a\" ==> [65535 * 65535, hex(x0, 4)];", COBBLETWILL_REFUSED_GRAMMAR},
+        {"\"[b-a]\" ==> []; \"a\" ==> [x0 * x0];", COBBLETWILL_REFUSED_EXPRESSION},
+        {"else ==> [65535 * 65535 - 65535 * 65535];", COBBLETWILL_REFUSED_EXPRESSION},
+        {"\"a\" ==> [32768 * x1];", COBBLETWILL_REFUSED_EXPRESSION},
+        {"\"[b-a]\" ==> []; \"[ba]\" ==> [];", COBBLETWILL_REFUSED_FIELD},
+        {"\"[ba]\" ==> [0 - 1]; \"[b-a]\" ==> [];", COBBLETWILL_REFUSED_PLACE},
+        {"\"a\" ==> [x1];", COBBLETWILL_REFUSED_PLACE},
+        {"else ==> []; \"[acegi]\" ==> [];", COBBLETWILL_REFUSED_PLACE},
+        {"", COBBLETWILL_REFUSED_NO_RULE},
+        {"\n", COBBLETWILL_REFUSED_NO_RULE},
+        {"else ==> [x0 + 1];", COBBLETWILL_REFUSED_NO_RULE},
+        {"\"[acegi]\" ==> []; \"[b-a]\" ==> [];", COBBLETWILL_REFUSED_TOO_MANY},
+        {"\"a\" ==> [1, 2, 3, 4, 5, 6, 7, 8, 0 - 9];", COBBLETWILL_REFUSED_TOO_MANY},
+        {"\"[0-9]\" ==> [x0 - 49];", COBBLETWILL_REFUSED_VALUE},
+        {"\"a\" ==> [65]; else ==> [x0 + 1];", COBBLETWILL_REFUSED_VALUE},
     };
     for (size_t i = 0; i < sizeof texts / sizeof texts[0]; i++) {
-        typed_refused(texts[i].typed, COBBLETWILL_TABLE, texts[i].number);
+        typed_refused(texts[i].typed, COBBLETWILL_TABLE_SIZE, texts[i].number);
         typed_refused(texts[i].typed, 0, texts[i].number);
     }
     for (size_t length = 0; length < 3 * RECORD; length++) {
-        typed_refused("\"a\" ==> [65];", length, COBBLETWILL_SHORT_OUTPUT);
+        typed_refused("\"a\" ==> [65];", length, COBBLETWILL_REFUSED_SHORT_OUTPUT);
     }
 }
 
@@ -393,6 +393,7 @@ int main(void) {
     test_parts();
     test_unsound_digits();
     test_typed();
-    printf("refused: %d calls\n", made);
+    EXPECT(made > 1000);
+    REPORT("refused");
     return 0;
 }

@@ -25,8 +25,8 @@ static uint8_t table[LARGE_MOST + 9 * RECORD];
 static size_t table_length;
 static uint16_t rules[LONGEST_MOST];
 static size_t rules_length;
-static uint8_t records[COBBLETWILL_TABLE];
-static uint16_t words[COBBLETWILL_WORDS];
+static uint8_t records[COBBLETWILL_TABLE_SIZE];
+static uint16_t words[COBBLETWILL_WORDS_SIZE];
 static uint16_t text[PIECE];
 static uint16_t output[ROOM];
 static uint64_t place, written, length;
@@ -69,47 +69,49 @@ static size_t depth(void (*work)(void)) {
 
 #pragma GCC diagnostic push
 #pragma GCC diagnostic ignored "-Wunused-parameter"
+SUBJECT(version, (void), ())
 SUBJECT(check, (const uint8_t *t, size_t tl), (table, table_length))
 SUBJECT(convert,
         (const uint8_t *t, size_t tl, const uint16_t *i, size_t il, uint16_t *o, size_t ol, uint64_t *p, uint64_t *w),
         (table, table_length, text, PIECE, output, ROOM, &place, &written))
 SUBJECT(from_text, (const uint16_t *t, size_t tl, uint8_t *r, size_t rl, uint64_t *n),
-        (rules, rules_length, records, COBBLETWILL_TABLE, &length))
+        (rules, rules_length, records, COBBLETWILL_TABLE_SIZE, &length))
 SUBJECT(compile, (const uint8_t *t, size_t tl, uint16_t *w, size_t wl),
-        (table, table_length, words, COBBLETWILL_WORDS))
+        (table, table_length, words, COBBLETWILL_WORDS_SIZE))
 SUBJECT(witness, (const uint8_t *t, size_t tl, uint16_t *w, size_t wl, uint32_t r, cobbletwill_input *i),
-        (table, table_length, words, COBBLETWILL_WORDS, rule, &input))
-SUBJECT(is_sound, (const uint16_t *w, size_t wl), (words, COBBLETWILL_WORDS))
+        (table, table_length, words, COBBLETWILL_WORDS_SIZE, rule, &input))
+SUBJECT(is_sound, (const uint16_t *w, size_t wl), (words, COBBLETWILL_WORDS_SIZE))
 SUBJECT(feed_parts,
         (const uint16_t *w, size_t wl, cobbletwill_session *s, uint64_t *u, const uint16_t *p, size_t pl, uint16_t *o,
          size_t ol, uint64_t *n),
-        (words, COBBLETWILL_WORDS, &session, session.uses, text, PIECE, output, ROOM, &written))
+        (words, COBBLETWILL_WORDS_SIZE, &session, session.uses, text, PIECE, output, ROOM, &written))
 SUBJECT(finish_parts,
         (const uint16_t *w, size_t wl, cobbletwill_session *s, uint64_t *u, uint16_t *o, size_t ol, uint64_t *n),
-        (words, COBBLETWILL_WORDS, &session, session.uses, output, ROOM, &written))
+        (words, COBBLETWILL_WORDS_SIZE, &session, session.uses, output, ROOM, &written))
 SUBJECT(preview_parts,
         (const uint16_t *w, size_t wl, const cobbletwill_session *s, const uint64_t *u, const uint16_t *p, size_t pl,
          cobbletwill_session *l, uint64_t *lu, uint64_t *n),
-        (words, COBBLETWILL_WORDS, &session, session.uses, text, PIECE, &later, later.uses, &written))
+        (words, COBBLETWILL_WORDS_SIZE, &session, session.uses, text, PIECE, &later, later.uses, &written))
 #pragma GCC diagnostic pop
+
+enum { VERSION, CHECK, CONVERT, FROM_TEXT, COMPILE, WITNESS, IS_SOUND, FEED, FINISH, PREVIEW, SUBJECTS };
 
 /* A function's name, the stack that it may take, and the most that was measured. */
 static struct subject {
     const char *name;
     size_t limit, measured;
-} subjects[] = {
-    {"cobbletwill_check", COBBLETWILL_STACK_CHECK, 0},
-    {"cobbletwill_convert", COBBLETWILL_STACK_CONVERT, 0},
-    {"cobbletwill_from_text", COBBLETWILL_STACK_FROM_TEXT, 0},
-    {"cobbletwill_compile", COBBLETWILL_STACK_COMPILE, 0},
-    {"cobbletwill_witness", COBBLETWILL_STACK_WITNESS, 0},
-    {"cobbletwill_is_sound", COBBLETWILL_STACK_IS_SOUND, 0},
-    {"cobbletwill_feed_parts", COBBLETWILL_STACK_FEED, 0},
-    {"cobbletwill_finish_parts", COBBLETWILL_STACK_FINISH, 0},
-    {"cobbletwill_preview_parts", COBBLETWILL_STACK_PREVIEW, 0},
+} subjects[SUBJECTS] = {
+    [VERSION] = {"cobbletwill_version", COBBLETWILL_MAX_STACK_VERSION, 0},
+    [CHECK] = {"cobbletwill_check", COBBLETWILL_MAX_STACK_CHECK, 0},
+    [CONVERT] = {"cobbletwill_convert", COBBLETWILL_MAX_STACK_CONVERT, 0},
+    [FROM_TEXT] = {"cobbletwill_from_text", COBBLETWILL_MAX_STACK_FROM_TEXT, 0},
+    [COMPILE] = {"cobbletwill_compile", COBBLETWILL_MAX_STACK_COMPILE, 0},
+    [WITNESS] = {"cobbletwill_witness", COBBLETWILL_MAX_STACK_WITNESS, 0},
+    [IS_SOUND] = {"cobbletwill_is_sound", COBBLETWILL_MAX_STACK_IS_SOUND, 0},
+    [FEED] = {"cobbletwill_feed_parts", COBBLETWILL_MAX_STACK_FEED, 0},
+    [FINISH] = {"cobbletwill_finish_parts", COBBLETWILL_MAX_STACK_FINISH, 0},
+    [PREVIEW] = {"cobbletwill_preview_parts", COBBLETWILL_MAX_STACK_PREVIEW, 0},
 };
-
-enum { SUBJECTS = sizeof subjects / sizeof subjects[0] };
 
 static void note(int subject, size_t bytes, uint32_t expected) {
     EXPECT(answer == expected);
@@ -122,15 +124,16 @@ static void note(int subject, size_t bytes, uint32_t expected) {
 static void measure(void) {
     const cobbletwill_session fresh = COBBLETWILL_FRESH;
     session = fresh;
-    note(0, depth_check(), COBBLETWILL_OK);
-    note(1, depth_convert(), COBBLETWILL_OK);
-    note(3, depth_compile(), COBBLETWILL_OK);
-    note(5, depth_is_sound(), 1);
-    note(8, depth_preview_parts(), COBBLETWILL_OPEN);
+    note(VERSION, depth_version(), COBBLETWILL_VERSION_NUMBER);
+    note(CHECK, depth_check(), COBBLETWILL_OK);
+    note(CONVERT, depth_convert(), COBBLETWILL_OK);
+    note(COMPILE, depth_compile(), COBBLETWILL_OK);
+    note(IS_SOUND, depth_is_sound(), 1);
+    note(PREVIEW, depth_preview_parts(), COBBLETWILL_OPEN);
     EXPECT(session.received == 0 && later.held_count > 0);
-    note(6, depth_feed_parts(), COBBLETWILL_OPEN);
+    note(FEED, depth_feed_parts(), COBBLETWILL_OPEN);
     EXPECT(session.held_count > 0);
-    note(7, depth_finish_parts(), COBBLETWILL_OK);
+    note(FINISH, depth_finish_parts(), COBBLETWILL_OK);
 }
 
 /* 64 classes and 256 states, and a default that writes eight characters, four of them digits. */
@@ -149,17 +152,17 @@ static void put_table(void) {
 /* Typed rules: the longest ones, and sums within each other up to 16 deep and beyond. */
 static void measure_typed(void) {
     rules_length = put_longest(rules);
-    note(2, depth_from_text(), COBBLETWILL_OK);
+    note(FROM_TEXT, depth_from_text(), COBBLETWILL_OK);
     for (int depth = 1; depth < 100; depth++) {
         rules_length = put_nested(rules, depth);
-        note(2, depth_from_text(), depth <= 16 ? COBBLETWILL_OK : COBBLETWILL_GRAMMAR);
+        note(FROM_TEXT, depth_from_text(), depth <= 16 ? COBBLETWILL_OK : COBBLETWILL_REFUSED_GRAMMAR);
     }
 }
 
 /* Every rule of the table, which all are live, and a number that none has. */
 static void measure_rules(void) {
     for (rule = 0; rule <= LARGE_RULES; rule++) {
-        note(4, depth_witness(), rule < LARGE_RULES ? COBBLETWILL_OK : COBBLETWILL_DEAD);
+        note(WITNESS, depth_witness(), rule < LARGE_RULES ? COBBLETWILL_OK : COBBLETWILL_DEAD);
     }
 }
 
@@ -188,7 +191,7 @@ int main(int argc, char **argv) {
     bool held = true;
     for (int i = 0; i < SUBJECTS; i++) {
         printf("%s: %zu bytes of stack, at most %zu\n", subjects[i].name, subjects[i].measured, subjects[i].limit);
-        held = held && subjects[i].measured <= subjects[i].limit;
+        held = held && subjects[i].measured > 0 && subjects[i].measured <= subjects[i].limit;
     }
     EXPECT(argc == 1 + 2 * SUBJECTS);
     for (int i = 1; i < argc; i += 2) {

@@ -11,7 +11,7 @@ enum { FOUND = 0x5a, BEYOND = 16 };
 
 static uint16_t text[LONGEST_MOST];
 static size_t text_length;
-static uint8_t table[COBBLETWILL_TABLE + BEYOND];
+static uint8_t table[COBBLETWILL_TABLE_SIZE + BEYOND];
 static uint64_t length;
 
 /* Reads the text into so many bytes; nothing is written beyond them. */
@@ -62,22 +62,22 @@ static void test_characters(void) {
     expect_records(records, sizeof records);
 }
 
-/* The longest table has COBBLETWILL_TABLE bytes, and doesn't fit in one less. */
+/* The longest table has COBBLETWILL_TABLE_SIZE bytes, and doesn't fit in one less. */
 static void test_longest(void) {
     text_length = put_longest(text);
-    EXPECT(read_into(sizeof table) == COBBLETWILL_OK && length == COBBLETWILL_TABLE);
+    EXPECT(read_into(sizeof table) == COBBLETWILL_OK && length == COBBLETWILL_TABLE_SIZE);
     EXPECT(cobbletwill_check(table, length) == COBBLETWILL_OK);
-    EXPECT(read_into(COBBLETWILL_TABLE) == COBBLETWILL_OK && length == COBBLETWILL_TABLE);
-    EXPECT(read_into(COBBLETWILL_TABLE - 1) == COBBLETWILL_SHORT_OUTPUT);
+    EXPECT(read_into(COBBLETWILL_TABLE_SIZE) == COBBLETWILL_OK && length == COBBLETWILL_TABLE_SIZE);
+    EXPECT(read_into(COBBLETWILL_TABLE_SIZE - 1) == COBBLETWILL_REFUSED_SHORT_OUTPUT);
 }
 
 /* "With the number 0 the pointer is not used and may be null." */
 static void test_null(void) {
     length = FOUND;
-    EXPECT(cobbletwill_from_text(NULL, 0, NULL, 0, &length) == COBBLETWILL_NO_RULE);
-    EXPECT(cobbletwill_from_text(NULL, 0, table, sizeof table, &length) == COBBLETWILL_NO_RULE);
+    EXPECT(cobbletwill_from_text(NULL, 0, NULL, 0, &length) == COBBLETWILL_REFUSED_NO_RULE);
+    EXPECT(cobbletwill_from_text(NULL, 0, table, sizeof table, &length) == COBBLETWILL_REFUSED_NO_RULE);
     text_length = put_text(text, "\"a\" ==> [];");
-    EXPECT(cobbletwill_from_text(text, text_length, NULL, 0, &length) == COBBLETWILL_SHORT_OUTPUT);
+    EXPECT(cobbletwill_from_text(text, text_length, NULL, 0, &length) == COBBLETWILL_REFUSED_SHORT_OUTPUT);
     EXPECT(length == FOUND);
 }
 
@@ -86,5 +86,6 @@ int main(void) {
     test_characters();
     test_longest();
     test_null();
+    REPORT("typed");
     return 0;
 }

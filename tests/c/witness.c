@@ -8,7 +8,7 @@
 #include "expect.h"
 #include "tables.h"
 
-enum { FOUND = 0x5a, BEYOND = 3, ROOM = COBBLETWILL_WORDS + BEYOND };
+enum { FOUND = 0x5a, BEYOND = 3, ROOM = COBBLETWILL_WORDS_SIZE + BEYOND };
 
 static uint16_t words[ROOM], compiled[ROOM];
 static cobbletwill_input input;
@@ -27,8 +27,8 @@ static uint32_t witness(const uint8_t *table, size_t table_length, uint32_t rule
 /* A rule is live; its input has 1 to 9 characters, and places not in use are 0. */
 static void live(const uint8_t *table, size_t table_length, uint32_t rule) {
     EXPECT(witness(table, table_length, rule) == COBBLETWILL_OK);
-    EXPECT(input.length >= 1 && input.length <= COBBLETWILL_INPUT);
-    for (int i = input.length; i < COBBLETWILL_INPUT; i++) {
+    EXPECT(input.length >= 1 && input.length <= COBBLETWILL_INPUT_SIZE);
+    for (int i = input.length; i < COBBLETWILL_INPUT_SIZE; i++) {
         EXPECT(input.characters[i] == 0);
     }
 }
@@ -139,5 +139,6 @@ int main(void) {
     test_t3();
     test_nine();
     test_large();
+    REPORT("witness");
     return 0;
 }

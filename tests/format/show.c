@@ -19,10 +19,10 @@
 #include "cobbletwill.h"
 
 static uint8_t bytes[32768];
-static uint16_t words[COBBLETWILL_WORDS];
+static uint16_t words[COBBLETWILL_WORDS_SIZE];
 
 static void show_words(void) {
-    for (int place = 0; place < COBBLETWILL_WORDS; place++) {
+    for (int place = 0; place < COBBLETWILL_WORDS_SIZE; place++) {
         if (words[place] != 0) {
             printf("%d %u\n", place, (unsigned)words[place]);
         }
@@ -32,20 +32,22 @@ static void show_words(void) {
 /* How often a rule is used on an input. */
 static uint64_t uses_on(const cobbletwill_input *input, uint32_t rule) {
     cobbletwill_session session = COBBLETWILL_FRESH;
-    uint16_t output[8 * COBBLETWILL_INPUT];
+    uint16_t output[8 * COBBLETWILL_INPUT_SIZE];
     uint64_t written;
-    if (cobbletwill_feed(words, COBBLETWILL_WORDS, &session, input->characters, input->length, output,
-                         8 * COBBLETWILL_INPUT, &written) == COBBLETWILL_OPEN) {
-        cobbletwill_finish(words, COBBLETWILL_WORDS, &session, output, 8 * COBBLETWILL_INPUT, &written);
+    const size_t room = sizeof output / sizeof output[0];
+    uint32_t answer = cobbletwill_feed(words, COBBLETWILL_WORDS_SIZE, &session, input->characters, input->length,
+                                       output, room, &written);
+    if (answer == COBBLETWILL_OPEN) {
+        answer = cobbletwill_finish(words, COBBLETWILL_WORDS_SIZE, &session, output, room, &written);
     }
-    return session.uses[rule];
+    return COBBLETWILL_IS_REFUSAL(answer) ? 0 : session.uses[rule];
 }
 
 static void show_rules(size_t length) {
-    const uint32_t rules = words[4];
+    const uint32_t rules = cobbletwill_rule_count(words, COBBLETWILL_WORDS_SIZE);
     cobbletwill_input input;
     for (uint32_t rule = 0; rule <= rules; rule++) {
-        uint32_t answer = cobbletwill_witness(bytes, length, words, COBBLETWILL_WORDS, rule, &input);
+        uint32_t answer = cobbletwill_witness(bytes, length, words, COBBLETWILL_WORDS_SIZE, rule, &input);
         if (answer == COBBLETWILL_OK) {
             printf("%" PRIu32 " %s\n", rule, uses_on(&input, rule) > 0 ? "live" : "not used on its input");
         } else {
@@ -71,8 +73,9 @@ static void show_session(const char *text) {
     for (size_t i = 0; i < length; i++) {
         piece[i] = (uint8_t)text[i];
     }
-    uint32_t seen = cobbletwill_preview(words, COBBLETWILL_WORDS, &session, piece, length, &later, &foreseen);
-    uint32_t answer = cobbletwill_feed(words, COBBLETWILL_WORDS, &session, piece, length, output, 8 * 64, &written);
+    uint32_t seen = cobbletwill_preview(words, COBBLETWILL_WORDS_SIZE, &session, piece, length, &later, &foreseen);
+    uint32_t answer =
+        cobbletwill_feed(words, COBBLETWILL_WORDS_SIZE, &session, piece, length, output, 8 * 64, &written);
     printf("%" PRIu32 "\n", answer);
     if (seen != answer || foreseen != written || memcmp(&session, &later, sizeof session) != 0) {
         puts("a preview saw something else");
@@ -81,7 +84,7 @@ static void show_session(const char *text) {
     for (size_t place = 0; place < uses; place += 8) {
         show_eight((const char *)&session + place);
     }
-    for (size_t i = 0; i < COBBLETWILL_USES; i++) {
+    for (size_t i = 0; i < COBBLETWILL_USES_SIZE; i++) {
         if (session.uses[i] != 0) {
             printf("%zu: ", uses + 8 * i);
             show_eight(&session.uses[i]);
@@ -91,13 +94,13 @@ static void show_session(const char *text) {
 
 static void show_records(size_t text_length) {
     static uint16_t text[sizeof bytes];
-    static uint8_t table[COBBLETWILL_TABLE];
+    static uint8_t table[COBBLETWILL_TABLE_SIZE];
     uint64_t length;
     for (size_t i = 0; i < text_length; i++) {
         text[i] = bytes[i];
     }
     uint32_t answer = cobbletwill_from_text(text, text_length, table, sizeof table, &length);
-    if (COBBLETWILL_REFUSED(answer)) {
+    if (COBBLETWILL_IS_REFUSAL(answer)) {
         printf("refused %" PRIu32 "\n", answer);
         return;
     }
@@ -118,8 +121,8 @@ int main(int argc, char **argv) {
         show_records(length);
         return 0;
     }
-    uint32_t answer = cobbletwill_compile(bytes, length, words, COBBLETWILL_WORDS);
-    if (COBBLETWILL_REFUSED(answer)) {
+    uint32_t answer = cobbletwill_compile(bytes, length, words, COBBLETWILL_WORDS_SIZE);
+    if (COBBLETWILL_IS_REFUSAL(answer)) {
         printf("refused %" PRIu32 "\n", answer);
         return 1;
     }

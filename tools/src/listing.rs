@@ -142,8 +142,12 @@ fn measures(machine: &Machine) -> String {
         true => "a default",
         false => "no default",
     };
-    let (rules, classes, states) = (machine.rules(), machine.classes(), machine.states());
-    let (longest, most_outputs) = (machine.longest(), machine.most_outputs());
+    let (rules, classes, states) = (
+        machine.rule_count(),
+        machine.class_count(),
+        machine.state_count(),
+    );
+    let (longest, most_outputs) = (machine.longest_pattern(), machine.expansion());
     format!(
         "accepted: rules {rules}, {default}, classes {classes}, states {states}, \
          L {longest}, E {most_outputs}\n"

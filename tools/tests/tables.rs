@@ -5,7 +5,7 @@ use std::collections::BTreeSet;
 use std::fs;
 use std::path::{Path, PathBuf};
 
-use cobbletwill::{convert, run, Ending, Machine, Table, MOST_OUTPUTS};
+use cobbletwill::{convert, run, Ending, Machine, Table, MAX_EXPANSION};
 use tools::{source, typed};
 
 /// The tables of river stations, whose numbers are kept.
@@ -41,7 +41,7 @@ fn machine(name: &str) -> Machine {
 
 /// The text that direct conversion gives for an input, to whose end it comes.
 fn direct(table: &[u8], input: &[u16]) -> Vec<u16> {
-    let mut output = vec![0; MOST_OUTPUTS * input.len()];
+    let mut output = vec![0; MAX_EXPANSION * input.len()];
     let answer = convert(table, input, &mut output).expect("accepted");
     assert_eq!((answer.ending, answer.place), (Ending::Closed, input.len()));
     output.truncate(answer.written);
@@ -100,10 +100,10 @@ fn every_table_compiles_with_the_measures_that_its_page_names() {
         let machine = machine(name);
         let measures = format!(
             "Measures: {} classes, {} states, L {}, E {}.",
-            machine.classes(),
-            machine.states(),
-            machine.longest(),
-            machine.most_outputs()
+            machine.class_count(),
+            machine.state_count(),
+            machine.longest_pattern(),
+            machine.expansion()
         );
         let page = String::from_utf8(file(name, "README.md")).expect("UTF-8");
         assert!(page.contains(&measures), "{name}: {measures}");

@@ -3,7 +3,7 @@
 //! likewise, with answers from the source's Examples 2 and 3 or worked out by hand.
 
 use crate::tables::{four_digits, mixed, t1, t1_with, t2, t3, t3_with, two_digits, units};
-use cobbletwill::{check, convert, run, Ending, Machine, Refusal, Session, Status, MOST_OUTPUTS};
+use cobbletwill::{check, convert, run, Ending, Machine, Refusal, Session, Status, MAX_EXPANSION};
 
 /// An input in every two pieces, and one by one.
 fn splits(input: &[u16]) -> Vec<Vec<&[u16]>> {
@@ -15,7 +15,7 @@ fn splits(input: &[u16]) -> Vec<Vec<&[u16]>> {
 /// after so many steps.
 fn expect(table: &[u8], input: &str, text: &str, ending: Ending, place: usize, steps: u64) {
     let (input, text) = (units(input), units(text));
-    let mut output = vec![0; MOST_OUTPUTS * input.len()];
+    let mut output = vec![0; MAX_EXPANSION * input.len()];
     let direct = convert(table, &input, &mut output).expect("accepted");
     assert_eq!((direct.ending, direct.place), (ending, place));
     assert_eq!(output[..direct.written], text);
@@ -131,9 +131,9 @@ fn uses_of_rules_and_of_the_default() {
 fn t1_has_28_records_10_classes_and_9_states() {
     assert_eq!(t1().len(), 28 * 8);
     let machine = Machine::compile(&t1()).expect("compiles");
-    assert_eq!((machine.classes(), machine.states()), (10, 9));
-    assert_eq!((machine.longest(), machine.most_outputs()), (5, 5));
-    assert_eq!((machine.rules(), machine.has_default()), (3, true));
+    assert_eq!((machine.class_count(), machine.state_count()), (10, 9));
+    assert_eq!((machine.longest_pattern(), machine.expansion()), (5, 5));
+    assert_eq!((machine.rule_count(), machine.has_default()), (3, true));
     assert_eq!(machine.most_steps(13), 105);
 }
 

@@ -2,7 +2,7 @@
 
 use crate::tables::{default, mixed, plain, t1, t2};
 use cobbletwill::record::{digit, output, range, rule, term, Record, DEFAULT};
-use cobbletwill::{check, convert, raw, witness, Machine, Refusal, Session, Status, WORDS};
+use cobbletwill::{check, convert, raw, witness, Machine, Refusal, Session, Status, WORDS_SIZE};
 
 /// A rule that takes any characters, of a first character and a length.
 fn long(first: u16, length: u8) -> Vec<Record> {
@@ -166,7 +166,7 @@ fn damaged_digits_by_11() {
 #[test]
 fn compiling_by_8_and_9_at_one_beyond_the_limits() {
     let machine = Machine::compile(&large(0, 7)).expect("at the limits");
-    assert_eq!((machine.classes(), machine.states()), (64, 256));
+    assert_eq!((machine.class_count(), machine.state_count()), (64, 256));
     assert_eq!(Machine::compile(&large(1, 7)), Err(Refusal::Classes));
     assert_eq!(Machine::compile(&large(0, 8)), Err(Refusal::States));
     assert_eq!(witness(&large(1, 7), 0), Err(Refusal::Classes));
@@ -176,11 +176,14 @@ fn compiling_by_8_and_9_at_one_beyond_the_limits() {
 
 #[test]
 fn words_by_10_and_11() {
-    let mut short = vec![7; WORDS - 1];
+    let mut short = vec![7; WORDS_SIZE - 1];
     assert_eq!(raw::compile(&t1(), &mut short), 10);
     assert!(short.iter().all(|&word| word == 7));
     assert_eq!(Machine::from_words(&short), Err(Refusal::UnsoundWords));
-    assert_eq!(Machine::from_words(&[0; WORDS]), Err(Refusal::UnsoundWords));
+    assert_eq!(
+        Machine::from_words(&[0; WORDS_SIZE]),
+        Err(Refusal::UnsoundWords)
+    );
     let machine = Machine::compile(&t1()).expect("compiles");
     let longer = [machine.words(), &[7; 3]].concat();
     assert_eq!(Machine::from_words(&longer), Ok(machine));
@@ -229,7 +232,7 @@ fn sessions_by_12_to_15() {
     refused(with(|session| session.status = 1), &[], 9, Refusal::Ended);
     refused(with(|session| session.status = 2), &[], 9, Refusal::Ended);
     refused(
-        with(|session| (session.received, session.uses[raw::DEFAULT]) = (1 << 40, 1 << 40)),
+        with(|session| (session.received, session.uses[raw::USES_DEFAULT]) = (1 << 40, 1 << 40)),
         &[97],
         9,
         Refusal::TooLong,
@@ -244,7 +247,7 @@ fn uses_that_do_not_add_up_by_12() {
     let mut session = Session::fresh();
     session.received = 1;
     refused(session, &[], 9, Refusal::UnsoundSession);
-    for place in 0..raw::USES {
+    for place in 0..raw::USES_SIZE {
         let mut session = Session::fresh();
         session.uses[place] = 1;
         refused(session, &[], 9, Refusal::UnsoundSession);

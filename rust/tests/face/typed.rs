@@ -2,7 +2,7 @@
 //! lent buffer.
 
 use crate::tables::{t1, t2, t3, t3_with, units};
-use cobbletwill::{check, raw, Machine, Refusal, Table, TABLE};
+use cobbletwill::{check, raw, Machine, Refusal, Table, TABLE_SIZE};
 
 /// T1, with a sum for its second rule.
 fn t1_typed(sum: &str) -> String {
@@ -34,7 +34,7 @@ fn the_tables_of_document_01() {
 /// A text is refused so, into a buffer of any length, which is left as found.
 fn refused(text: &str, refusal: Refusal) {
     assert_eq!(Table::from_text(&units(text)), Err(refusal), "{text}");
-    for room in [0, TABLE] {
+    for room in [0, TABLE_SIZE] {
         let (mut table, mut length) = (vec![7; room], 19);
         let answer = raw::from_text(&units(text), &mut table, &mut length);
         assert_eq!((answer, length), (refusal.number(), 19), "{text}");
@@ -85,6 +85,6 @@ fn the_longest_table() {
     let rule = format!("\"{pattern}\"==>[{}];", [sum; 8].join(","));
     let text = rule.repeat(32) + &format!("else==>[{}];", ["x0"; 8].join(","));
     let table = Table::from_text(&units(&text)).expect("accepted");
-    assert_eq!((table.len(), check(&table)), (TABLE, Ok(())));
+    assert_eq!((table.len(), check(&table)), (TABLE_SIZE, Ok(())));
     assert!(Machine::compile(&table).is_ok());
 }

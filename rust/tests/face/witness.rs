@@ -3,13 +3,13 @@
 
 use crate::tables::{plain, t1, t2, t3, units};
 use cobbletwill::raw::{self, Input};
-use cobbletwill::{convert, witness, Machine, INPUT, MOST_OUTPUTS, WORDS};
+use cobbletwill::{convert, witness, Machine, INPUT_SIZE, MAX_EXPANSION, WORDS_SIZE};
 
 /// A rule is live; its input, for which direct conversion first writes a text.
 fn live(table: &[u8], rule: u32, text: &str) -> Vec<u16> {
     let input = witness(table, rule).expect("compiles").expect("live");
-    assert!((1..=INPUT).contains(&input.len()), "{input:?}");
-    let mut output = vec![0; MOST_OUTPUTS * input.len()];
+    assert!((1..=INPUT_SIZE).contains(&input.len()), "{input:?}");
+    let mut output = vec![0; MAX_EXPANSION * input.len()];
     convert(table, &input, &mut output).expect("accepted");
     assert!(output.starts_with(&units(text)), "{input:?} {output:?}");
     input
@@ -62,7 +62,7 @@ fn nine_characters() {
     let table = [at_end, before].concat().concat();
     assert_eq!(live(&table, 0, "1"), units("highflow"));
     let input = live(&table, 1, "2");
-    assert!(input.len() == INPUT && input.starts_with(&units("highflow")));
+    assert!(input.len() == INPUT_SIZE && input.starts_with(&units("highflow")));
 }
 
 /// The words are those of compiling, and words beyond are as found; by 10 nothing is
@@ -71,12 +71,12 @@ fn nine_characters() {
 fn words_and_short_words() {
     let found = Input {
         length: 17,
-        characters: [19; INPUT],
+        characters: [19; INPUT_SIZE],
     };
     let machine = Machine::compile(&t3()).expect("compiles");
     let expected = [machine.words(), &[7; 3]].concat();
     for (rule, answer) in [(0, raw::OK), (1, raw::DEAD), (2, raw::DEAD)] {
-        let (mut words, mut input) = (vec![7; WORDS + 3], found);
+        let (mut words, mut input) = (vec![7; WORDS_SIZE + 3], found);
         let answered = raw::witness(&t3(), &mut words, rule, &mut input);
         assert_eq!(answered, answer);
         assert!(words == expected);
@@ -84,7 +84,7 @@ fn words_and_short_words() {
         assert!(input.characters[length..].iter().all(|&unit| unit == 0));
         assert_eq!(length == 0, answer == raw::DEAD);
     }
-    let (mut words, mut input) = (vec![7; WORDS - 1], found);
+    let (mut words, mut input) = (vec![7; WORDS_SIZE - 1], found);
     assert_eq!(raw::witness(&t3(), &mut words, 0, &mut input), 10);
     assert_eq!(input, found);
     assert!(words.iter().all(|&word| word == 7));

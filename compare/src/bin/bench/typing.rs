@@ -3,7 +3,7 @@
 use std::hint::black_box;
 use std::time::Duration;
 
-use compare::face::TABLE;
+use compare::face::TABLE_SIZE;
 use compare::typed::longest_text;
 use reference::builder::characters;
 use reference::typed::from_text;
@@ -23,7 +23,7 @@ pub fn print() {
     println!("## Reading typed rules");
     println!();
     println!(
-        "In nanoseconds a character, best of {RUNS} runs. All write into one buffer of {TABLE} bytes, which is filled before each run, \
+        "In nanoseconds a character, best of {RUNS} runs. All write into one buffer of {TABLE_SIZE} bytes, which is filled before each run, \
          outside the time."
     );
     println!();
@@ -59,7 +59,7 @@ fn refused_at_end() -> Vec<u16> {
 /// What a text is answered, and the best times of all, whose answers and buffers are
 /// compared.
 fn times(text: &[u16]) -> (u32, Vec<Duration>) {
-    let mut table = [FILL; TABLE];
+    let mut table = [FILL; TABLE_SIZE];
     let answer = read(Version::Independent, text, &mut table);
     let expected = table;
     let times = best(RUNS, &Version::ALL, |version| {

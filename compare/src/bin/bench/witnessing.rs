@@ -5,7 +5,7 @@ use std::hint::black_box;
 use std::time::Duration;
 
 use compare::cases::large_table;
-use compare::face::{Input, INPUT, OK};
+use compare::face::{Input, INPUT_SIZE, OK};
 use reference::compile::compiled;
 use reference::samples::t1;
 use reference::witness;
@@ -62,7 +62,7 @@ fn is_live(version: Version, rules: &[u8], words: &mut [u16], rule: u32) -> bool
         Version::Library(build) => {
             let mut input = Input {
                 length: FILL,
-                characters: [FILL; INPUT],
+                characters: [FILL; INPUT_SIZE],
             };
             let answer = build.witness(rules, words, rule, &mut input);
             black_box(input);
