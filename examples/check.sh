@@ -30,14 +30,21 @@ expect_uses() {
     done
 }
 
-# Beside comments and empty lines each line of a source is a rule or the default.
+# Beside comments and empty lines each line of a source is a rule or the default, and has a row of the uses.
+tables=0
 for folder in tables/*/; do
+    { [ -s "$folder/input.txt" ] && [ -s "$folder/expected.txt" ]; } || { echo "$folder: no input or no text" >&2; exit 1; }
     expect "$folder" 0 "$folder/rules.tab" "$folder/input.txt" "$folder/expected.txt" 'closed: '
+    rows=0
     while IFS=: read -r line rule; do
         row=$(printf ' %5d  %s' "$line" "$rule")
         expect "$folder" 0 "$folder/rules.tab" "$folder/input.txt" "$folder/expected.txt" "$row"
+        rows=$((rows + 1))
     done < <(grep -nv -e '^#' -e '^$' "$folder/rules.txt")
+    { [ "$rows" -gt 0 ] && [ "$(tail -n +4 "$out/counts" | wc -l)" = "$rows" ]; } || { echo "$folder: the uses are not those of $rows rules" >&2; exit 1; }
+    tables=$((tables + 1))
 done
+[ "$tables" -ge 7 ] || { echo "only $tables tables are found" >&2; exit 1; }
 
 # Document 01: T2 on `ab` writes Y, stopped at 1, 4 steps.
 printf '"a$" ==> [88]; "a" ==> [89];' > "$out/t2.txt"
@@ -96,6 +103,7 @@ expect high 1 "$out/high.tab" "$out/input" "$out/empty" 'an output character abo
 
 make --no-print-directory demo > "$out/demo"
 awk '/^-- counts/ { shown = 0 } shown; /^-- output/ { shown = 1 }' "$out/demo" > "$out/text"
+[ -s "$out/text" ] || { echo "demo: shows no output" >&2; exit 1; }
 for name in html-decimal sdi12; do cat "tables/$name/expected.txt"; echo; done | cmp - "$out/text"
 # The demo shows both tables' uses: in the sample of sdi12 seven values begin with a plus sign and six with a minus sign.
 for uses in '      1             5     7  "&#[0-9][0-9];" ' '      0             7     4  "+[.0-9]" ' '      1             6     7  "-[.0-9]" '; do
@@ -103,4 +111,4 @@ for uses in '      1             5     7  "&#[0-9][0-9];" ' '      0            
 done
 tail -n 1 "$out/demo" | grep -qF 'not proved. `make build` proves' || { echo "demo: the last line does not say that nothing is proved" >&2; exit 1; }
 
-echo "stations and demo: all tables as expected"
+echo "stations and demo: $tables tables as expected"

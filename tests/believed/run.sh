@@ -33,17 +33,20 @@ entry_points() {
     done
 }
 
-checked=0
+checked=0 looked_for=0
 while read -r file name; do
     head=$(contract "$file" "$name")
     case $head in *ensures*) ;; *) fail "$file: no contract of $name is found" ;; esac
-    names=$(sed -n 's/^ghost use .*specs\.bridge\.[A-Za-z]*\.{\(.*\)};$/\1/p' "$file" | tr -d ' ' | tr ',' '\n')
-    for cited in $names; do
+    names=$(sed -n 's/^ghost use .*specs\.bridge\.[A-Za-z]*\.{\(.*\)};$/\1 ;/p' "$file" | tr -d ' ' | tr ',' '\n')
+    [ "$(grep -c 'specs\.bridge' "$file")" = "$(grep -c ';$' <<<"$names")" ] || fail "$file: not every use of a bridge can be read"
+    for cited in ${names//;/}; do
+        looked_for=$((looked_for + 1))
         if grep -qwF -- "$cited" <<<"$head"; then fail "the contract of $name in $file cites $cited of a bridge"; fi
     done
     checked=$((checked + 1))
 done < <(entry_points)
-[ "$checked" -ge 26 ] || fail "only $checked entry points are found"
+[ "$checked" -ge 27 ] || fail "only $checked entry points are found"
+[ "$looked_for" -gt 0 ] || fail "no name of a bridge was looked for"
 
 total=0
 for file in crates/*/specs/[A-Z]*.antt; do
@@ -52,5 +55,5 @@ for file in crates/*/specs/[A-Z]*.antt; do
     total=$((total + lines))
     grep -qF "](../$file) | $lines |" docs/PROMISES.md || fail "docs/PROMISES.md does not list $file with its $lines lines"
 done
-grep -qF "$total lines" README.md || fail "README does not say that $total lines have to be believed"
+grep -qwF "$total lines" README.md || fail "README does not say that $total lines have to be believed"
 echo "believed: $total lines, $checked contracts, no bridge cited"

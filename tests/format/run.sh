@@ -61,10 +61,10 @@ awk -v out="$out" '
     }
 ' "$page"
 
-examples=0
+examples=0 kinds=
 for block in "$out"/[0-9]*/; do
     if [ -e "$block/hex" ]; then
-        for byte in $(cat "$block/hex"); do printf "\\x$byte"; done > "$block/rules.tab"
+        printf '%b' "$(sed 's/\(..\) */\\x\1/g' "$block/hex" | tr -d '\n')" > "$block/rules.tab"
     fi
     for command in "$block"/*.command; do
         { read -r kind; IFS= read -r text; } < "$command"
@@ -80,10 +80,13 @@ for block in "$out"/[0-9]*/; do
             text) "$out/show" text "${command%.command}.text" > "$found" ;;
         esac
         diff "${command%.command}.lines" "$found" || { echo "format: example $(basename "$block") of $page, $kind $text: expected and found differ" >&2; exit 1; }
-        examples=$((examples + 1))
+        [ -s "$found" ] || { echo "format: example $(basename "$block") of $page, $kind $text: nothing is expected" >&2; exit 1; }
+        examples=$((examples + 1)) kinds="$kinds $kind"
     done
 done
 
-# Every marked block was run, with something to expect.
-[ "$(grep -c '^```example$' "$page")" = "$(find "$out" -name 1.lines -size +0 | wc -l)" ] || { echo "format: a block of $page expects nothing" >&2; exit 1; }
+# Every marked block was run, every kind of example was met, and there are as many as ever.
+[ "$(grep -c '^```example$' "$page")" = "$(find "$out" -name 1.lines | wc -l)" ] || { echo "format: a block of $page expects nothing" >&2; exit 1; }
+[ "$(tr ' ' '\n' <<< "$kinds" | sort -u | xargs)" = "input rules session text words" ] || { echo "format: only the examples$kinds are met" >&2; exit 1; }
+[ "$examples" -ge 51 ] || { echo "format: only $examples examples are met" >&2; exit 1; }
 echo "format: $examples examples of $page as stated"
