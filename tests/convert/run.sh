@@ -41,5 +41,19 @@ head -c 40000 /dev/zero >"$room/input"
 } >"$room/expected" || true
 check "$room/eightfold" "$room/input" "$room/expected"
 
+# Many pieces under one session: `B` writes `X`, the default nothing, for `B`, 999,998 characters and `B`. A `B` takes 2 steps, any other
+# character 3, the end 1: 2 + 3 * 999,998 + 2 + 1.
+mkdir "$room/million"
+printf '\1\1\0\0\0\0\0\0\2\0\0\0B\0B\0\3\0\0\0X\0\0\0\5\0\0\0\0\0\0\0' >"$room/million/rules.tab"
+{
+    printf B
+    head -c 999998 /dev/zero
+    printf B
+} >"$room/input"
+printf '0058\n0058\nend 1000000 2999999\n' >"$room/expected"
+check "$room/million" "$room/input" "$room/expected"
+
 echo "convert: $passed cases passed, $failed failed"
+# the stored cases and the two made here: none may be lost
+[ "$passed" -ge 35 ]
 [ "$failed" -eq 0 ]

@@ -1,12 +1,14 @@
 // Standard input goes to the machine in pieces, and what each call came to is printed.
 ghost use mathlib.Core.Path.{_≡_};
-ghost use Prim.Native.Nat.{_+_, _*_, _≤_};
+ghost use Prim.Native.Nat.{_≤_};
 ghost use lib.ListN.{length, take};
 ghost use Rattle.io.specs.Counts.{Counts};
 ghost use Rattle.reckoning.specs.Session.{isOpen};
 ghost use Rattle.session.specs.Contracts.{Feeds, answerOf, outcomeOf};
 ghost use Rattle.session.specs.Keeping.{meantStatus, sessionOf};
-ghost use Rattle.convert.specs.Turns.{callOn, waits, Turned};
+ghost use Rattle.convert.specs.Turns.{callOn, waits, TurnOn, Converted};
+ghost use Rattle.convert.specs.bridge.Piece.{Unread, Pieced};
+use crate::print::Handed;
 use crate::print::print;
 use crate::report::put_call;
 use libc::STDIN_FILENO;
@@ -18,11 +20,31 @@ use session::kept::Session;
 use session::kept::Status;
 use session::kept::fresh;
 
-// The session after a call, whether to read another piece, and how many bytes there are to print.
+// The session after a call, whether it waits for more, and how many bytes there are to print.
 struct Turn {
     session: Session,
     going: bool,
     size: usize,
+}
+
+// What a piece came to: the session after it, whether that waits for more, whether the read or the write failed, and how many bytes
+// were read and handed to a write.
+struct Piece {
+    session: Session,
+    going: bool,
+    failed: bool,
+    read: usize,
+    handed: usize,
+}
+
+// How the conversion ended: the last session, whether it still waits for more, whether a read or a write failed, and how many bytes
+// were read and handed to writes in all.
+pub struct Ending {
+    pub session: Session,
+    pub going: bool,
+    pub failed: bool,
+    pub read: u64,
+    pub handed: u64,
 }
 
 // "one character a byte"
@@ -88,9 +110,9 @@ fn take_turn(
     output: &mut [u16],
     text: &mut [u8],
 ) -> Turn
-    requires { ⌜ (length (now bytes) ≤ 16384) × (5 * length (now output) + 64 ≤ length (now text)) ⌝ }
+    requires { ⌜ (length (now bytes) ≤ 16384) × (length (now output) ≡ 131136) × (length (now text) ≡ 655744) ⌝ }
     ensures { λ r. ⌜ Counts (r .size) (now (text .exit)) ⌝ }
-    ensures { λ r. ⌜ Turned (callOn (now (words .entry)) (sessionOf session) (now (bytes .entry)) (now (output .entry)))
+    ensures { λ r. ⌜ TurnOn (now (words .entry)) (sessionOf session) (now (bytes .entry))
         (sessionOf (r .session)) (r .going) (take (r .size) (now (text .exit))) ⌝ }
 {
     let called = call_on(words, session, bytes, output);
@@ -104,43 +126,80 @@ fn take_turn(
     }
 }
 
+// Hands the text of a turn on these bytes to a write. That it is the text of this turn is asked of the caller.
+fn print_turn(words: &[u16], session: Session, bytes: &[u8], turn: Turn, text: &[u8]) -> Handed
+    requires { ⌜ TurnOn (now words) (sessionOf session) (now bytes) (sessionOf (turn .session)) (turn .going) (now text) ⌝ }
+    ensures { λ r. ⌜ r .size ≡ length (now (text .entry)) ⌝ }
+{
+    print(text)
+}
+
+// Nothing could be read: the session is as it was, and still waits.
+fn unread(session: Session) -> Piece
+    ensures { λ r. ⌜ Unread session r ⌝ }
+{
+    os::fail(b"standard input");
+    Piece {
+        session,
+        going: true,
+        failed: true,
+        read: 0,
+        handed: 0,
+    }
+}
+
 // Reads a piece, takes its turn and prints the text.
-fn convert_piece(words: &[u16], session: Session, output: &mut [u16], text: &mut [u8]) -> Turn
-    requires { ⌜ 5 * length (now output) + 64 ≤ length (now text) ⌝ }
+fn convert_piece(words: &[u16], session: Session, output: &mut [u16], text: &mut [u8]) -> Piece
+    requires { ⌜ (length (now output) ≡ 131136) × (length (now text) ≡ 655744) ⌝ }
+    ensures { λ r. ⌜ Pieced (now (words .entry)) session r ⌝ }
+    ensures { λ r. ⌜ (r .read ≤ 16384) × (r .handed ≤ 655744) ⌝ }
 {
     let mut bytes = [0u8; 16384];
     let got = libc::read(STDIN_FILENO, &mut bytes);
     if got < 0 {
-        os::fail(b"standard input");
-        return Turn {
-            session,
-            going: false,
-            size: 0,
-        };
+        return unread(session);
     }
     let read = io::count(got, &bytes);
-    let mut turn = take_turn(words, session, &bytes[..read], output, text);
+    let turn = take_turn(words, session, &bytes[..read], output, text);
     let size = turn.size;
-    if !print(&text[..size]) {
-        turn.going = false;
+    let handed = print_turn(words, session, &bytes[..read], turn, &text[..size]);
+    let later = turn.session;
+    Piece {
+        session: later,
+        going: turn.going,
+        failed: handed.failed,
+        read,
+        handed: handed.size,
     }
-    turn
 }
 
 // "feeds standard input". The output has room for 8 characters for each of a piece and of the 8 held at most, the text for their lines and the last.
-// Nothing says that the input ends, so the loop counts its turns down, from a number that no run uses up.
-pub fn convert_input(words: &[u16]) {
+// The loop ends with the input, and with one that goes on for ever by refusal 14: each turn that leaves the session waiting has received more.
+pub fn convert_input(words: &[u16]) -> Ending
+    ensures { λ r. ⌜ Converted (now (words .entry)) r ⌝ }
+{
     let mut output = [0u16; 131136];
     let mut text = [0u8; 655744];
-    let mut turn = Turn {
-        session: fresh(),
-        going: true,
-        size: 0,
-    };
-    let mut turns = u64::MAX;
-    while turns > 0 && turn.going {
-        let session = turn.session;
-        turn = convert_piece(words, session, &mut output, &mut text);
-        turns -= 1;
+    let mut session = fresh();
+    let mut going = true;
+    let mut failed = false;
+    let mut read: u64 = 0;
+    let mut handed: u64 = 0;
+    while going && !failed {
+        let found = session;
+        let piece = convert_piece(words, found, &mut output, &mut text);
+        let left = piece.session;
+        session = left;
+        going = piece.going;
+        failed = piece.failed;
+        read += piece.read as u64;
+        handed += piece.handed as u64;
+    }
+    Ending {
+        session,
+        going,
+        failed,
+        read,
+        handed,
     }
 }

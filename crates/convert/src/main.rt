@@ -7,45 +7,52 @@ mod table;
 mod text;
 
 ghost use mathlib.Core.Path.{_≡_};
-ghost use Prim.Native.Nat.{_≤_};
-ghost use lib.ListN.{length, take};
-ghost use Rattle.io.specs.Counts.{Counts};
-ghost use Rattle.automaton.specs.Compile as Spec;
-ghost use Rattle.convert.specs.Turns.{Started};
+ghost use lib.ListN.{length};
+ghost use Rattle.convert.specs.Text.{RefusalLine};
+ghost use Rattle.convert.specs.Turns.{Refused, Ran};
+use crate::feeding::Ending;
 use crate::feeding::convert_input;
+use crate::print::Handed;
 use crate::print::print;
 use crate::table::read_table;
 use crate::text::put_refusal;
 use machine::compile::Compiled;
 use machine::compile::compile;
+use session::kept::fresh;
 use words::layout::WORDS;
 
-// Whether there is a machine to feed, and how many bytes there are to print.
-struct Start {
-    going: bool,
-    size: usize,
+// Hands the line of a refusal to a write. That it is this line is asked of the caller.
+fn print_refusal(number: u8, line: &[u8]) -> Handed
+    requires { ⌜ RefusalLine number (now line) ⌝ }
+    ensures { λ r. ⌜ r .size ≡ length (now (line .entry)) ⌝ }
+{
+    print(line)
 }
 
-// Compiles the table; the text to print, if it is refused.
-fn begin(table: &[u8], words: &mut [u16], text: &mut [u8]) -> Start
-    requires { ⌜ 64 ≤ length (now text) ⌝ }
-    ensures { λ r. ⌜ Counts (r .size) (now (text .exit)) ⌝ }
-    ensures { λ r. ⌜ Started (Spec.compile (now (table .entry)) (now (words .entry)) .answer) (r .going) (take (r .size) (now (text .exit))) ⌝ }
-    ensures { λ _. ⌜ now (words .exit) ≡ Spec.compile (now (table .entry)) (now (words .entry)) .words ⌝ }
+// The table is refused: that is printed, and nothing is read.
+fn refuse(number: u8) -> Ending
+    ensures { λ r. ⌜ Refused number r ⌝ }
 {
-    match compile(table, words) {
-        Compiled::Refused(number) => {
-            Start {
-                going: false,
-                size: put_refusal(number, text),
-            }
-        }
-        Compiled::Accepted => {
-            Start {
-                going: true,
-                size: 0,
-            }
-        }
+    let mut text = [0u8; 64];
+    let size = put_refusal(number, &mut text);
+    let handed = print_refusal(number, &text[..size]);
+    Ending {
+        session: fresh(),
+        going: false,
+        failed: handed.failed,
+        read: 0,
+        handed: handed.size as u64,
+    }
+}
+
+// "compiles, feeds standard input": what the program does with the table's bytes.
+fn run(table: &[u8]) -> Ending
+    ensures { λ r. ⌜ Ran (now (table .entry)) r ⌝ }
+{
+    let mut words = [0u16; WORDS];
+    match compile(table, &mut words) {
+        Compiled::Refused(number) => refuse(number),
+        Compiled::Accepted => convert_input(&words),
     }
 }
 
@@ -56,12 +63,5 @@ fn main() {
         return;
     }
     let read = found.size;
-    let mut words = [0u16; WORDS];
-    let mut text = [0u8; 64];
-    let begun = begin(&table[..read], &mut words, &mut text);
-    let size = begun.size;
-    print(&text[..size]);
-    if begun.going {
-        convert_input(&words);
-    }
+    run(&table[..read]);
 }

@@ -32,12 +32,18 @@ returns : tie.Need-returns
 returns c =
     let put = c .before .before .before .before .put-call in
     let outcome = c .before .before .before .before .before .before .before .before .before .call-on .ensures in
-    let printed = take (put .result) (put .last .1 .1 .0) in (
+    let printed = take (put .result) (put .last .1 .1 .0) in
+    let start = c .before .before .before .before .before .before .before .before .before .before .before .before .before .before .before in (
       put .ensures .0,
       record {
-        session = ap (λ (o : CallOutcome). o .session) outcome;
-        waiting = c .waits-after .ensures ∙ ap (λ (o : CallOutcome). waits (o .answer)) outcome;
-        text = subst (λ o. Printed o printed) outcome (put .ensures .1);
+        short = start .pre .0;
+        buffer = start .args .output .now;
+        room = start .pre .1;
+        turned = record {
+          session = ap (λ (o : CallOutcome). o .session) outcome;
+          waiting = c .waits-after .ensures ∙ ap (λ (o : CallOutcome). waits (o .answer)) outcome;
+          text = subst (λ o. Printed o printed) outcome (put .ensures .1);
+        };
       },
     )
 
