@@ -17,6 +17,7 @@ use Rattle.automaton.specs.Classes.{starts}
 use Rattle.automaton.specs.States.{State, initial, acceptOf, inhabited, states}
 use Rattle.automaton.specs.Layout.{wordCount, words}
 use Rattle.automaton.specs.Compile.{compile}
+use Rattle.automaton.specs.Sound.{sound}
 use Rattle.automaton.specs.Automaton.{after, Leads, fromTable}
 
 -- "rules with K at least d that fit some word of length d in their first d positions"
@@ -66,3 +67,7 @@ pub record CompileRefuses (b buffer : List ℕ) : Type 0 where
   pub classes : Bytes b → compile b buffer .answer ≡ refused 8 → (t : Table) × Keeps b t × (64 < length (starts t))
   pub states : Bytes b → compile b buffer .answer ≡ refused 9 → (t : Table) × Keeps b t × (length (starts t) ≤ 64) × (256 < length (states t))
   pub room : compile b buffer .answer ≡ refused 10 → length buffer < wordCount
+
+-- "Compiled words are sound": those that compiling leaves for a table that it accepts, with whatever stood behind them.
+unfoldable pub CompiledSound : Type 0
+CompiledSound = (b buffer : List ℕ) (t : Table) → KeepsCompiling b t → wordCount ≤ length buffer → T (sound (compile b buffer .words))

@@ -9,7 +9,8 @@ use Rattle.reckoning.specs.Machine.{Open, Closed, Stopped}
 use Rattle.reckoning.specs.Calls.{Answer, CallOutcome}
 use Rattle.reckoning.specs.Reckoning.{Call, ofFeed, ofFinish}
 use Rattle.reckoning.specs.Serves.{SessionCaller}
-use Rattle.cobbletwill.specs.Sessions.{sessionFrom, CalledFace, feed, finish}
+use Rattle.cobbletwill.specs.Sessions.{sessionFrom, CalledFace}
+use Rattle.cobbletwill.specs.Contracts.{Feeds, Finishes}
 use Rattle.cobbletwill.specs.declared.sessions.SessionNumbers.{SessionNumbers}
 
 -- A call that was made: what it was lent, the number written as it was found, and what came back.
@@ -20,8 +21,8 @@ pub record Made : Type 0 where
 
 -- the contract of the function that was called
 abbrev pub MeetsContract : List ℕ → SessionNumbers → List ℕ → Call → Made → Type 0
-MeetsContract w n uses (ofFeed piece buffer) m = m .back ≡ feed w n uses piece buffer (m .found)
-MeetsContract w n uses (ofFinish buffer) m = m .back ≡ finish w n uses buffer (m .found)
+MeetsContract w n uses (ofFeed piece buffer) m = Feeds w n uses piece buffer (m .found) (m .back)
+MeetsContract w n uses (ofFinish buffer) m = Finishes w n uses buffer (m .found) (m .back)
 
 -- "answer its count and the status"; "A refusal answers its number": what an answer and the number written say
 unfoldable pub answerFrom : ℕ → ℕ → Outcome Answer

@@ -1,13 +1,13 @@
 -- What holds of sessions as C holds them: numbers and sessions are the same, demand 1 for feed, finish and preview, and request [5].
-use mathlib.Core.Bool.{Bool, _&&_, cond}
+use mathlib.Core.Bool.{Bool, true, false, _&&_, cond}
 use mathlib.Core.List.{List, [], _∷_}
 use mathlib.Core.Logic.{_≢_}
 use mathlib.Core.Path.{_≡_}
-use Prim.Native.Nat.{ℕ, _+_, _*_, _≤_}
+use Prim.Native.Nat.{ℕ, _+_, _*_, _≤_, _<_}
 use lib.Dec.{T, eqb, leb}
 use lib.ListN.{length, drop}
 use Rattle.lists.specs.Lists.{any, pad}
-use Rattle.automaton.specs.Sound.{expansionWord}
+use Rattle.automaton.specs.Sound.{expansionWord, sound}
 use Rattle.reckoning.specs.Uses.{useCounts}
 use Rattle.reckoning.specs.Session.{Session, fresh}
 use Rattle.cobbletwill.specs.Sessions.{sessionFrom, numbersOf, CalledFace, left, feed, finish, PreviewedFace, previewed, preview}
@@ -42,6 +42,18 @@ FeedsAnswer =
 
 unfoldable pub FinishesAnswer : Type 0
 FinishesAnswer = (w : List ℕ) (n : SessionNumbers) (uses buffer : List ℕ) (found : ℕ) → FaceAnswers n uses buffer found (finish w n uses buffer found)
+
+-- "11 under 19,961 words or not sound" comes before "12 session not sound", also of numbers with a status above 2, which are no session's.
+pub record NoSession (w : List ℕ) (answer : ℕ) : Type 0 where
+  pub unsound : sound w ≡ false → answer ≡ 11
+  pub sound : sound w ≡ true → answer ≡ 12
+
+unfoldable pub OtherStatuses : Type 0
+OtherStatuses =
+    (w : List ℕ) (n : SessionNumbers) (uses piece buffer : List ℕ) (later : SessionNumbers) (laterUses : List ℕ) (found : ℕ) → 2 < n .status →
+    NoSession w (feed w n uses piece buffer found .answer)
+    × NoSession w (finish w n uses buffer found .answer)
+    × NoSession w (preview w n uses piece later laterUses found .answer)
 
 -- After a finish no session waits for more: it answers closed or stopped, or a refusal.
 unfoldable pub FinishesEnd : Type 0

@@ -2,6 +2,8 @@ pub mod Face
 pub mod Witness
 pub mod Typed
 pub mod Sessions
+pub mod Contracts
+pub mod Answers
 pub mod Caller
 pub mod Claims
 pub mod bridge

@@ -5,10 +5,7 @@ pub mod sessions;
 ghost use mathlib.Core.List.{_∷_};
 ghost use mathlib.Core.Path.{_≡_};
 ghost use lib.ListN.{length};
-ghost use Rattle.meaning.specs.Direct.{checked, direct};
-ghost use Rattle.automaton.specs.Compile as Spec;
-ghost use Rattle.automaton.specs.Sound.{sound};
-ghost use Rattle.cobbletwill.specs.Face.{checkCode, codeOf, placeOf, writtenOf, soundCode};
+ghost use Rattle.cobbletwill.specs.Contracts.{Checks, Converts, Compiles, TestsWords};
 ghost use Rattle.cobbletwill.specs.Witness.{Witnessed};
 ghost use Rattle.cobbletwill.specs.Typed.{TypedFace};
 use machine::compile::Compiled;
@@ -35,7 +32,7 @@ pub extern "C" fn cobbletwill_version() -> u32
 // 0 for a table that keeps the rules, else the number of its refusal, 1 to 7.
 #[no_mangle]
 pub extern "C" fn cobbletwill_check(table: &[u8]) -> u32
-    ensures { λ r. ⌜ r ≡ checkCode (checked (now (table .entry))) ⌝ }
+    ensures { λ r. ⌜ Checks (now (table .entry)) r ⌝ }
 {
     let verdict = check(table);
     match verdict {
@@ -53,10 +50,8 @@ pub extern "C" fn cobbletwill_convert(
     place: &mut u64,
     written: &mut u64,
 ) -> u32
-    ensures answer { λ r. ⌜ r ≡ codeOf (direct (now (table .entry)) (now (input .entry)) (now (output .entry)) .answer) ⌝ }
-    ensures output { λ _. ⌜ now (output .exit) ≡ direct (now (table .entry)) (now (input .entry)) (now (output .entry)) .output ⌝ }
-    ensures place { λ _. ⌜ now (place .exit) ≡ placeOf (direct (now (table .entry)) (now (input .entry)) (now (output .entry)) .answer) (now (place .entry)) ⌝ }
-    ensures written { λ _. ⌜ now (written .exit) ≡ writtenOf (direct (now (table .entry)) (now (input .entry)) (now (output .entry)) .answer) (now (written .entry)) ⌝ }
+    ensures { λ r. ⌜ Converts (now (table .entry)) (now (input .entry)) (now (output .entry)) (now (place .entry)) (now (written .entry))
+        r (now (output .exit)) (now (place .exit)) (now (written .exit)) ⌝ }
 {
     let conversion = convert(table, input, output);
     match conversion {
@@ -83,8 +78,7 @@ pub extern "C" fn cobbletwill_convert(
 // 0 with the words of the table; else the number of the refusal, 1 to 9 with the 19,961 words zero, or 10 with nothing changed.
 #[no_mangle]
 pub extern "C" fn cobbletwill_compile(table: &[u8], words: &mut [u16]) -> u32
-    ensures answer { λ r. ⌜ r ≡ checkCode (Spec.compile (now (table .entry)) (now (words .entry)) .answer) ⌝ }
-    ensures words { λ _. ⌜ now (words .exit) ≡ Spec.compile (now (table .entry)) (now (words .entry)) .words ⌝ }
+    ensures { λ r. ⌜ Compiles (now (table .entry)) (now (words .entry)) r (now (words .exit)) ⌝ }
 {
     let compiled = compile(table, words);
     match compiled {
@@ -154,7 +148,7 @@ pub extern "C" fn cobbletwill_from_text(text: &[u16], table: &mut [u8], length: 
 // 1 for sound words, 0 for words that no machine runs on.
 #[no_mangle]
 pub extern "C" fn cobbletwill_is_sound(words: &[u16]) -> u32
-    ensures { λ r. ⌜ r ≡ soundCode (sound (now (words .entry))) ⌝ }
+    ensures { λ r. ⌜ TestsWords (now (words .entry)) r ⌝ }
 {
     if is_sound(words) {
         return 1;

@@ -16,6 +16,7 @@ ghost use Rattle.automaton.specs.Sound.{sound};
 ghost use Rattle.session.specs.Keeping.{meantStatus, together, sessionOf};
 ghost use Rattle.session.specs.Contracts.{answerOf};
 ghost use Rattle.cobbletwill.specs.Sessions as Spec;
+ghost use Rattle.cobbletwill.specs.Contracts.{Feeds, Finishes, Previews};
 ghost use Rattle.cobbletwill.specs.bridge.Lent.{Keeps, Unchanged, Foresees};
 
 // A session of plain numbers, so that no value of any field is undefined, without its counts of uses: 48 bytes without gaps. All 0 is fresh.
@@ -224,8 +225,8 @@ pub extern "C" fn cobbletwill_feed_parts(
     output: &mut [u16],
     written: &mut u64,
 ) -> u32
-    ensures { λ r. ⌜ Spec.left r (now (session .exit)) (now (uses .exit)) (now (output .exit)) (now (written .exit))
-        ≡ Spec.feed (now (words .entry)) (now (session .entry)) (now (uses .entry)) (now (piece .entry)) (now (output .entry)) (now (written .entry)) ⌝ }
+    ensures { λ r. ⌜ Feeds (now (words .entry)) (now (session .entry)) (now (uses .entry)) (now (piece .entry)) (now (output .entry)) (now (written .entry))
+        (Spec.left r (now (session .exit)) (now (uses .exit)) (now (output .exit)) (now (written .exit))) ⌝ }
 {
     let found = *session;
     let called = feed_numbers(words, found, uses, piece, output, written);
@@ -244,8 +245,8 @@ pub extern "C" fn cobbletwill_finish_parts(
     output: &mut [u16],
     written: &mut u64,
 ) -> u32
-    ensures { λ r. ⌜ Spec.left r (now (session .exit)) (now (uses .exit)) (now (output .exit)) (now (written .exit))
-        ≡ Spec.finish (now (words .entry)) (now (session .entry)) (now (uses .entry)) (now (output .entry)) (now (written .entry)) ⌝ }
+    ensures { λ r. ⌜ Finishes (now (words .entry)) (now (session .entry)) (now (uses .entry)) (now (output .entry)) (now (written .entry))
+        (Spec.left r (now (session .exit)) (now (uses .exit)) (now (output .exit)) (now (written .exit))) ⌝ }
 {
     let found = *session;
     let called = finish_numbers(words, found, uses, output, written);
@@ -267,9 +268,8 @@ pub extern "C" fn cobbletwill_preview_parts(
     counts: &mut [u64; 33],
     written: &mut u64,
 ) -> u32
-    ensures { λ r. ⌜ Spec.previewed r (now (later .exit)) (now (counts .exit)) (now (written .exit))
-        ≡ Spec.preview (now (words .entry)) (now (session .entry)) (now (uses .entry)) (now (piece .entry))
-        (now (later .entry)) (now (counts .entry)) (now (written .entry)) ⌝ }
+    ensures { λ r. ⌜ Previews (now (words .entry)) (now (session .entry)) (now (uses .entry)) (now (piece .entry)) (now (later .entry)) (now (counts .entry))
+        (now (written .entry)) (Spec.previewed r (now (later .exit)) (now (counts .exit)) (now (written .exit))) ⌝ }
 {
     let found = *session;
     let called = preview_numbers(words, found, uses, piece, counts, written);

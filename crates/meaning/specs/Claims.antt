@@ -8,7 +8,7 @@ use lib.ListN.{length, getD, take, drop}
 use Rattle.lists.specs.Lists.{any}
 use Rattle.meaning.specs.Refusal.{refused, accepted, RefusedBy}
 use Rattle.meaning.specs.Table.{Table, expansion}
-use Rattle.meaning.specs.Value.{SafeTable}
+use Rattle.meaning.specs.Value.{SafeTable, safe}
 use Rattle.meaning.specs.Reader.{readTable}
 use Rattle.meaning.specs.WellFormed.{WellFormed}
 use Rattle.meaning.specs.Records.{Bytes, Records, Known, recordAt}
@@ -49,6 +49,10 @@ pub record CheckRefuses (b : List ℕ) : Type 0 where
   pub no-rule : Bytes b → readTable b ≡ refused 5 → (i : ℕ) → 8 * i < length b → getD (recordAt b i) 0 0 ≢ 1
   -- 7: the bytes are those of one with an output value that may leave 0 to 65535
   pub values : Bytes b → readTable b ≡ refused 7 → (t : Table) × Leaves b t
+
+-- 7, "for every word that fits the group": the test that is run, of two words for each value, asks just that of every table that has records.
+unfoldable pub ValuesTested : Type 0
+ValuesTested = (b : List ℕ) (t : Table) → Records b t → WellFormed t → T (safe t) ↔ SafeTable t
 
 -- Demand 1: "an accepted answer or one of the numbered refusals of document 01 ..., and the refusal has the effect on every buffer that the
 -- paper gives". "Words beyond those written stay as found."

@@ -16,13 +16,15 @@ use Rattle.meaning.specs.Table.{Table}
 use Rattle.meaning.specs.Reader.{readTable}
 use Rattle.meaning.specs.Records.{Bytes}
 use Rattle.meaning.proofs.Laws.Refusal.{by-then, accepted-not, refused-same}
+use Rattle.meaning.proofs.Laws.Described.{well-formed-shaped}
 use Rattle.meaning.proofs.Laws.Direct.{tableRefusals, table-refused, keeps-read, read-keeps}
 use Rattle.automaton.specs.Classes.{starts}
 use Rattle.automaton.specs.States.{states}
 use Rattle.automaton.specs.Layout.{wordCount, words}
 use Rattle.automaton.specs.Compile.{small, compilable, compileBy, compile}
-use Rattle.automaton.specs.Claims.{KeepsCompiling, CompileAnswers, CompileAccepts, CompileRefuses}
+use Rattle.automaton.specs.Claims.{KeepsCompiling, CompileAnswers, CompileAccepts, CompileRefuses, CompiledSound}
 use Rattle.automaton.proofs.Laws.Places.{length-words}
+use Rattle.automaton.proofs.Laws.Sound.{compiled-sound}
 
 abbrev refusals : List ℕ
 refusals = 10 ∷ 1 ∷ 2 ∷ 3 ∷ 4 ∷ 5 ∷ 6 ∷ 7 ∷ 8 ∷ 9 ∷ []
@@ -166,3 +168,11 @@ module _ (b buffer : List ℕ) where
         states = λ y e. let u = reason 9 e .states refl in (u .0, read-keeps b (u .0) y (u .1), u .2, u .3);
         room = λ e. reason 10 e .no-room refl;
       }
+
+-- COMPILED WORDS ARE SOUND
+
+pub compiling-sound : CompiledSound
+unfolding CompiledSound
+compiling-sound b buffer t k h =
+    rw (compile-accepts b buffer .keeping t k h .1)
+    (compiled-sound t (drop wordCount buffer) (well-formed-shaped t (k .keeps .well-formed)) (k .classes) (k .states))

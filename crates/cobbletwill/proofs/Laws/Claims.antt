@@ -8,7 +8,7 @@ use Prim.Native.Nat.{ℕ, zero, suc, _≤_}
 use native.Mathlib.Omega.{arith}
 use lib.Dec.{T, eqb, ltb}
 use lib.ListN.{length, drop}
-use borrow.Author.Tests.{ltb-false}
+use borrow.Author.Tests.{lt-ltb, ltb-false}
 use Rattle.lists.specs.Lists.{any, pad}
 use Rattle.lists.proofs.Laws.Tests.{or-right, one-of}
 use Rattle.meaning.specs.Refusal.{Outcome, refused, accepted, RefusedBy}
@@ -29,7 +29,8 @@ use Rattle.reckoning.proofs.Laws.Answers.{Admits, admission, calls-answer}
 use Rattle.reckoning.proofs.Laws.Preview.{looks-ahead}
 use Rattle.cobbletwill.specs.Sessions.{statusNumber, statusFrom, statusCode, sessionFrom, numbersOf, answerCode, writtenAfter, left, faceOf}
 use Rattle.cobbletwill.specs.Sessions.{noSession, CalledFace, calledBy, feed, finish, PreviewedFace, previewed, previewFace, preview}
-use Rattle.cobbletwill.specs.Claims.{Faithful, FaceAnswers, FeedsAnswer, FinishesAnswer, FinishesEnd, PreviewAnswers, PreviewsAnswer, isRefusal, PreviewsFeed}
+use Rattle.cobbletwill.specs.Claims.{Faithful, FaceAnswers, FeedsAnswer, FinishesAnswer, NoSession, OtherStatuses}
+use Rattle.cobbletwill.specs.Claims.{FinishesEnd, PreviewAnswers, PreviewsAnswer, isRefusal, PreviewsFeed}
 use Rattle.cobbletwill.specs.declared.sessions.SessionNumbers.{SessionNumbers}
 
 status-same : (s : Status) → statusFrom (statusNumber s) ≡ s
@@ -140,6 +141,15 @@ feeds-answer w n uses piece buffer found = face-answers w n uses buffer found (�
 pub finishes-answer : FinishesAnswer
 unfolding FinishesAnswer CallsAnswer finish
 finishes-answer w n uses buffer found = face-answers w n uses buffer found (λ s. Call.finish w s buffer) (λ s. calls-answer w s (ofFinish buffer)) _ refl
+
+-- NUMBERS THAT ARE NO SESSION'S: 11 before 12
+
+no-session : (w : List ℕ) → NoSession w (noSession (sound w))
+no-session w = record { unsound = λ e. rw e refl; sound = λ e. rw e refl }
+
+pub other-statuses : OtherStatuses
+unfolding OtherStatuses feed finish preview
+other-statuses w n uses piece buffer later laterUses found above = rw (lt-ltb 2 (n .status) above) (no-session w, no-session w, no-session w)
 
 -- A FINISH NEVER ANSWERS OPEN
 

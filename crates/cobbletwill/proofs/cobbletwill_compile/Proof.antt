@@ -25,7 +25,7 @@ same-length c = search needs
 returns : tie.Need-returns
 returns c =
     let done = c .before .before .before .before .compile .ensures in
-    (ap checkCode (ap compiledOf (sym (c .enum-told .given .1)) ∙ done .0), done .1)
+    record { code = ap checkCode (ap compiledOf (sym (c .enum-told .given .1)) ∙ done .0); left = done .1 }
 
 same-length-2 : tie.Need-same-length-2
 same-length-2 c = search needs
@@ -33,7 +33,7 @@ same-length-2 c = search needs
 returns-2 : tie.Need-returns-2
 returns-2 c =
     let done = c .before .before .before .before .before .compile .ensures in
-    (ap checkCode (ap compiledOf (sym (c .before .compiled .given .1)) ∙ done .0), done .1)
+    record { code = ap checkCode (ap compiledOf (sym (c .before .compiled .given .1)) ∙ done .0); left = done .1 }
 
 pub cobbletwill-compile-spec : {M : Type 1} → statement M
 cobbletwill-compile-spec =

@@ -39,7 +39,7 @@ returns c =
     let done = c .before .before .before .before .before .convert .ensures in
     let known = c .before .conversion .given in
     let n = numbers (now (s .args .place)) (now (s .args .written)) (ap conversionOf (sym (known .1)) ∙ done .0) in
-    (n .0, (done .1, (n .1, n .2)))
+    record { code = n .0; text = done .1; ended = n .1; counted = n .2 }
 
 same-length-2 : tie.Need-same-length-2
 same-length-2 c = search needs
@@ -50,7 +50,7 @@ returns-2 c =
     let done = c .before .before .before .before .before .convert .ensures in
     let known = c .before .conversion2 .given in
     let n = numbers (now (s .args .place)) (now (s .args .written)) (ap conversionOf (sym (known .1)) ∙ done .0) in
-    (n .0, (done .1, (n .1, n .2)))
+    record { code = n .0; text = done .1; ended = n .1; counted = n .2 }
 
 same-length-3 : tie.Need-same-length-3
 same-length-3 c = search needs
@@ -61,7 +61,7 @@ returns-3 c =
     let done = c .before .before .before .before .before .convert .ensures in
     let known = c .before .conversion3 .given in
     let n = numbers (now (s .args .place)) (now (s .args .written)) (ap conversionOf (sym (known .1)) ∙ done .0) in
-    (n .0, (done .1, (n .1, n .2)))
+    record { code = n .0; text = done .1; ended = n .1; counted = n .2 }
 
 pub cobbletwill-convert-spec : {M : Type 1} → statement M
 cobbletwill-convert-spec =

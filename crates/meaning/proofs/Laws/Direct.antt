@@ -18,7 +18,7 @@ use Rattle.meaning.specs.Reader.{readRules, readTable}
 use Rattle.meaning.specs.Meaning.{meaningText}
 use Rattle.meaning.specs.Direct.{limit, Converted, admitted, directBy, direct, over}
 use Rattle.meaning.specs.Records.{Bytes}
-use Rattle.meaning.specs.Claims.{Keeps, CheckAccepts, CheckRefuses, DirectAnswers, Lengths, DirectAccepts, DirectRefuses}
+use Rattle.meaning.specs.Claims.{Keeps, CheckAccepts, CheckRefuses, ValuesTested, DirectAnswers, Lengths, DirectAccepts, DirectRefuses}
 use Rattle.meaning.proofs.Laws.Refusal.{by-then, accepted-not, accepted-same, refused-same}
 use Rattle.meaning.proofs.Laws.Seven.{safe-table, table-safe}
 use Rattle.meaning.proofs.Laws.Reading.{recordRefusals, read-filled, read-refused}
@@ -68,6 +68,10 @@ unfolding readTable andThen
 keeps-read b t k =
     let e = keeps-rules b t k in
     rw e (by-cases (λ o. o ≡ accepted t) ((not (safe t), refused 7) ∷ []) (accepted t) (λ n. absurd (failing-unsafe b t e n (k .values)), λ _. refl))
+
+pub values-tested : ValuesTested
+unfolding ValuesTested
+values-tested b t r w = (safe-table t, table-safe t (read-filled b t (described-read b t r w)))
 
 pub read-keeps : (b : List ℕ) (t : Table) → Bytes b → readTable b ≡ accepted t → Keeps b t
 read-keeps b t y e =
