@@ -6,6 +6,7 @@ pub mod Uses
 pub mod Kept
 pub mod Answers
 pub mod Meaning
+pub mod Whole
 pub mod Swap
 pub mod Calls
 pub mod Demand3

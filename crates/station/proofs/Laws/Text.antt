@@ -11,27 +11,23 @@ use lib.ListN.{length}
 use Rattle.lists.proofs.Laws.Tests.{not-not, by-cases}
 use Rattle.lists.proofs.Laws.Each.{each-append}
 use Rattle.meaning.specs.Refusal.{Outcome, refused, accepted}
-use Rattle.meaning.specs.Table.{Characters, Table, longest}
+use Rattle.meaning.specs.Table.{Table}
 use Rattle.meaning.specs.Meaning.{textOf, covered, convert}
 use Rattle.meaning.proofs.Laws.Refusal.{accepted-not}
 use Rattle.meaning.proofs.Laws.Shape.{Shaped}
-use Rattle.meaning.proofs.Laws.Groups.{longest-small}
 use Rattle.meaning.proofs.Laws.Described.{well-formed-shaped}
-use Rattle.automaton.specs.States.{states}
 use Rattle.automaton.specs.Compile.{compile}
 use Rattle.automaton.specs.Automaton.{Automaton, fromTable}
-use Rattle.automaton.proofs.Laws.Good.{after}
-use Rattle.automaton.proofs.Laws.States.{table-good, table-reads}
 use Rattle.automaton.proofs.Laws.Compile.{compile-accepts}
-use Rattle.reckoning.specs.Machine.{Open, Closed, start}
+use Rattle.reckoning.specs.Machine.{Open, Closed}
 use Rattle.reckoning.specs.Session.{fresh, isOpen}
 use Rattle.reckoning.specs.Calls.{Answer}
 use Rattle.reckoning.specs.Reckoning.{Call, ofFeed, ofFinish, piece, ends, unserved, called, serve, Input, noInput, ran, reckoned, answerBy, inputBy, reckonCall, reckon}
 use Rattle.reckoning.specs.Claims.{isStopped}
 use Rattle.reckoning.proofs.Laws.Trace.{Trace, trace, logOf, statusOf, graft}
 use Rattle.reckoning.proofs.Laws.Rounds.{NotOpen, trace-graft, graft-stopped, trace-ended}
-use Rattle.reckoning.proofs.Laws.Run.{Tells, run-tells}
-use Rattle.reckoning.proofs.Laws.Meaning.{ending, meaning-law}
+use Rattle.reckoning.proofs.Laws.Meaning.{ending}
+use Rattle.reckoning.proofs.Laws.Whole.{run-is, meaning-is}
 use Rattle.station.specs.Two.{Turn, passedBy, feedOn, finishOn, pieces, ifCompiled, inTwo}
 use Rattle.station.specs.Claims.{restFrom, afterFirst, afterSecond, callsOf, InTwo, TextInTwo}
 use Rattle.station.proofs.Laws.InTwo.{all-passed, in-two}
@@ -57,15 +53,6 @@ closed-is false e = absurd (subst (λ z. T (isStopped z)) e tt)
 module _ (t : Table) (s : Shaped t) where
   abbrev A : Automaton
   A = fromTable t
-
-  run-is : (u : List ℕ) (e : Bool) → Tells A (start [] u 0) (trace A e 0 u) (ran t u e)
-  unfolding ran after
-  run-is u e = run-tells A (longest t) (length (states t)) (table-good t s) (longest-small t s) e [] u 0 tt refl
-
-  -- Definition 7 of an input is the trace with the end known
-  meaning-is : (u : List ℕ) → Characters u → (logOf (trace A true 0 u) ≡ convert t u .log) × (statusOf (trace A true 0 u) ≡ ending (convert t u .closed))
-  unfolding convert fromTable
-  meaning-is u c = meaning-law A t s (table-reads t s) refl 0 u c
 
   -- the trace of the reckoning's input
   abbrev traceOf : Input → Trace
@@ -97,7 +84,7 @@ module _ (t : Table) (s : Shaped t) where
     unfolding reckoned
     goes =
         let r = ran t (i .characters) (i .ended) in
-        let status : r .status ≡ statusOf (traceOf i) = run-is (i .characters) (i .ended) .status in
+        let status : r .status ≡ statusOf (traceOf i) = run-is t s (i .characters) (i .ended) .status in
         by-cases Goes _ (accepted tt) (
           λ x _. same ∙ stays done (piece c) (ends c) (λ o. not-open (r .status) x (status ∙ ap statusOf same ∙ o)),
           λ x. (

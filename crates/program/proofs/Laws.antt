@@ -1,0 +1,4 @@
+pub mod Text
+pub mod Calls
+pub mod Turns
+pub mod Meaning

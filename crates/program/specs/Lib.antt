@@ -1,0 +1,4 @@
+pub mod Text
+pub mod Turns
+pub mod Claims
+pub mod bridge
