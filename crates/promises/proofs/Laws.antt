@@ -1,0 +1,3 @@
+pub mod Contracts
+pub mod Program
+pub mod Promises

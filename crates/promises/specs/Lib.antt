@@ -1,0 +1,4 @@
+pub mod EntryPoint
+pub mod Contracts
+pub mod Program
+pub mod Promises
