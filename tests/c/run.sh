@@ -97,7 +97,8 @@ grep -x '| `cobbletwill_[a-z_]*` | [0-9]* |' README.md | sort | diff - "$out/lim
 
 # A library is installed if it is the proved one of these sources, and not else.
 bash .ci/proved . "$library"
-make --no-print-directory -n install | grep -qxF "bash .ci/proved . $library || bash .ci/build" || fail "make install does not ask for the proof"
+make --no-print-directory -n install > "$out/said"
+grep -qxF "bash .ci/proved . $library || bash .ci/build" "$out/said" || fail "make install does not ask for the proof"
 refuses() { if bash .ci/proved "$1" "$2" 2> "$out/said"; then fail "$3 counts as proved"; fi; }
 { cat "$library" && echo; } > "$out/other.a"
 refuses . "$out/other.a" "another library"

@@ -46,7 +46,8 @@ while IFS=$'\t' read -r page link; do
     [ -e "$place" ] || fail "$page: $link is not there"
     case $link in
         *'#'*)
-            headings "$place" | grep -qxF -- "${link#*#}" || fail "$page: $link has no such heading"
+            headings "$place" > "$out/headings"
+            grep -qxF -- "${link#*#}" "$out/headings" || fail "$page: $link has no such heading"
             named=$((named + 1))
             ;;
     esac

@@ -6,7 +6,7 @@ cd "$(dirname "$0")/../.."
 mapfile -t scripts < <({ find .ci -type f; find tests examples compare -name '*.sh' -type f; } | sort)
 [ "${#scripts[@]}" -ge 16 ] || { echo "scripts: only ${#scripts[@]} are found" >&2; exit 1; }
 for script in "${scripts[@]}"; do
-    head -n 1 "$script" | grep -qxF '#!/usr/bin/env bash' || { echo "scripts: $script does not begin as a script" >&2; exit 1; }
+    [ "$(head -n 1 "$script")" = '#!/usr/bin/env bash' ] || { echo "scripts: $script does not begin as a script" >&2; exit 1; }
     grep -qx 'set -euo pipefail' "$script" || { echo "scripts: $script goes on where a command fails" >&2; exit 1; }
 done
 if command -v shellcheck > /dev/null; then
