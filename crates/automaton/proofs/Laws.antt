@@ -23,6 +23,7 @@ pub mod Sound
 pub mod Digits
 pub mod Compile
 pub mod AnyOrder
+pub mod Pairs
 pub mod Searching
 pub mod Judging
 pub mod SecondOfT3

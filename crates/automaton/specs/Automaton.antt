@@ -1,17 +1,16 @@
 -- What the rollback machine reads, made from a table and from machine words.
-use mathlib.Core.Bool.{Bool}
+use mathlib.Core.Bool.{cond}
 use mathlib.Core.List.{List, [], _∷_}
 use mathlib.Core.Logic.{_≢_}
 use Prim.Native.Nat.{ℕ}
 use lib.Dec.{eqb}
 use lib.ListN.{getD, take, drop}
-use Rattle.lists.specs.Lists.{isSome}
-use Rattle.meaning.specs.Table.{Table, group}
+use Rattle.meaning.specs.Table.{Mode, Table, mode, pairNumber, group}
 use Rattle.meaning.specs.Meaning.{written}
-use Rattle.meaning.specs.Block.{at, blockOutput}
+use Rattle.meaning.specs.Block.{blockOutput}
 use Rattle.automaton.specs.Classes.{starts, classOf}
 use Rattle.automaton.specs.States.{State, initial, acceptAtEndOf, acceptOf, states, targetOf}
-use Rattle.automaton.specs.Sound.{classCount, acceptAtEndWord, acceptWord, targetWord, blockAt}
+use Rattle.automaton.specs.Sound.{classCount, acceptAtEndWord, acceptWord, targetWord, blockAt, modeAt}
 use Rattle.automaton.specs.Layout.{classesFrom}
 
 pub record Automaton : Type 0 where
@@ -21,7 +20,7 @@ pub record Automaton : Type 0 where
   pub accept : ℕ → ℕ
   -- a state's *end*: the rule accepted if the input ends here, + 1; 0 for none
   pub acceptAtEnd : ℕ → ℕ
-  pub default : Bool
+  pub default : Mode
   -- what a group writes for a word
   pub write : ℕ → List ℕ → List ℕ
 
@@ -45,7 +44,7 @@ fromTable t =
       target = λ s c. targetOf t qs (state s) (getD ss (classOf ss c) 0);
       accept = λ s. acceptOf t (state s);
       acceptAtEnd = λ s. acceptAtEndOf t (state s);
-      default = isSome (t .default);
+      default = mode t;
       write = λ g w. written (group t g) w;
     }
 
@@ -56,6 +55,7 @@ fromWords m =
       target = λ s c. targetWord m s (classOf ss c);
       accept = λ s. acceptWord m s;
       acceptAtEnd = λ s. acceptAtEndWord m s;
-      default = eqb (at m 5) 1;
-      write = λ g w. blockOutput (blockAt m g) w;
+      default = modeAt m;
+      -- a pair is written unchanged, and has no block
+      write = λ g w. cond (eqb g pairNumber) w (blockOutput (blockAt m g) w);
     }

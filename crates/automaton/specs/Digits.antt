@@ -59,7 +59,7 @@ pub record DigitWords : Type 0 where
       EntryOf (blockAt (words t ++ rest) defaultNumber) j (outputAt g j)
   -- "Sound words have a known sort, and a digit entry has one of the four shifts and just one coefficient, of 1, below K": each entry in use
   pub sound-rules : (w : List ℕ) → T (sound w) → (r j : ℕ) → r < ruleCount w → j < at (blockAt w r) 2 → KnownEntry (blockAt w r) j
-  pub sound-default : (w : List ℕ) → T (sound w) → at w 5 ≡ 1 → (j : ℕ) → j < at (blockAt w defaultNumber) 2 → KnownEntry (blockAt w defaultNumber) j
+  pub sound-default : (w : List ℕ) → T (sound w) → at w 5 ≢ 0 → (j : ℕ) → j < at (blockAt w defaultNumber) 2 → KnownEntry (blockAt w defaultNumber) j
   -- and the test asks no more of an entry
   pub no-more : (b : List ℕ) (j : ℕ) → KnownEntry b j → T (soundEntry b j)
   -- such an entry writes the digit of the character at its position

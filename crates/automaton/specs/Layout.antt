@@ -2,9 +2,9 @@
 use mathlib.Core.List.{List, [], _∷_, map}
 use Prim.Native.Nat.{ℕ, _+_, _*_}
 use lib.ListN.{length}
-use Rattle.lists.specs.Lists.{flatMap, pad, isSome, optional}
-use Rattle.meaning.specs.Table.{Table, longest, expansion}
-use Rattle.meaning.specs.Block.{blocksSize, bit, block, blockSize}
+use Rattle.lists.specs.Lists.{flatMap, pad, optional}
+use Rattle.meaning.specs.Table.{Table, longest, expansion, Mode, Absent, Single, Paired, mode}
+use Rattle.meaning.specs.Block.{blocksSize, block, blockSize}
 use Rattle.automaton.specs.Classes.{starts}
 use Rattle.automaton.specs.States.{State, states, acceptAtEndOf, acceptOf, targetOf}
 
@@ -34,9 +34,15 @@ blocksFrom = targetsFrom + targetsSize
 abbrev pub wordCount : ℕ
 wordCount = blocksFrom + blocksSize
 
--- "0 states, 1 classes, 2 L, 3 E, 4 rules, 5 default (0 or 1)"
+-- "Header word 5 is 2 for this mode."
+abbrev pub modeWord : Mode → ℕ
+modeWord Absent = 0
+modeWord Single = 1
+modeWord Paired = 2
+
+-- "0 states, 1 classes, 2 L, 3 E, 4 rules, 5 default (0 or 1)", or 2 for a marked one
 abbrev pub header : Table → List ℕ
-header t = length (states t) ∷ length (starts t) ∷ longest t ∷ expansion t ∷ length (t .rules) ∷ bit (isSome (t .default)) ∷ []
+header t = length (states t) ∷ length (starts t) ∷ longest t ∷ expansion t ∷ length (t .rules) ∷ modeWord (mode t) ∷ []
 
 -- "three words a state (depth, end + 1, go + 1; 0 for none)"
 abbrev pub stateWords : Table → State → List ℕ

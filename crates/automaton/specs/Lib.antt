@@ -10,4 +10,5 @@ pub mod Digits
 pub mod Starts
 pub mod AnyOrder
 pub mod Answered
+pub mod Pairs
 pub mod bridge

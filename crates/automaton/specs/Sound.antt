@@ -1,12 +1,12 @@
 -- "Sound words": a test that looks only at words in use.
 use mathlib.Core.Bool.{Bool, _&&_, not, cond}
 use mathlib.Core.List.{List, [], _∷_}
-use Prim.Native.Nat.{ℕ, suc, pred, _+_, _*_}
+use Prim.Native.Nat.{ℕ, zero, suc, pred, _+_, _*_}
 use lib.Dec.{eqb, leb, ltb}
 use lib.ListN.{length, take, drop}
 use Rattle.lists.specs.Lists.{any, count}
 use Rattle.lists.specs.Decide.{allOf, forBelow, implies}
-use Rattle.meaning.specs.Table.{defaultNumber, isShift}
+use Rattle.meaning.specs.Table.{defaultNumber, isShift, Mode, Absent, Single, Paired, least}
 use Rattle.meaning.specs.Block.{at, blockSize, entrySize}
 use Rattle.automaton.specs.Layout.{wordCount, blocksFrom, classesFrom, statesFrom, targetsFrom}
 
@@ -23,6 +23,15 @@ expansionWord w = at w 3
 
 abbrev pub ruleCount : List ℕ → ℕ
 ruleCount w = at w 4
+
+-- the default's mode; sound words have no other number than 0, 1 and 2
+abbrev pub wordMode : ℕ → Mode
+wordMode zero = Absent
+wordMode (suc zero) = Single
+wordMode (suc (suc n)) = Paired
+
+abbrev pub modeAt : List ℕ → Mode
+modeAt w = wordMode (at w 5)
 
 abbrev pub stateCount : List ℕ → ℕ
 stateCount w = at w 0
@@ -66,7 +75,7 @@ soundEntry b j =
     allOf (leb sort 1 ∷ implies (eqb sort 1) (allOf (isShift shift ∷ oneOnly coefficients ∷ [])) ∷ [])
 
 module _ (w : List ℕ) where
-  -- "states 1 to 256, classes 1 to 64, L 1 to 8, E 0 to 8, rules 1 to 32, default 0 or 1"
+  -- "states 1 to 256, classes 1 to 64, L 1 to 8, E 0 to 8, rules 1 to 32, default 0 or 1", or 2, and "E is then at least 1"
   unfoldable pub soundHeader : Bool
   soundHeader =
       allOf (
@@ -75,7 +84,8 @@ module _ (w : List ℕ) where
       ∷ between 1 8 (longestWord w)
       ∷ leb (expansionWord w) 8
       ∷ between 1 32 (ruleCount w)
-      ∷ leb (at w 5) 1
+      ∷ leb (at w 5) 2
+      ∷ leb (least (modeAt w)) (expansionWord w)
       ∷ [])
 
   -- "the class starts begin at 0 and rise strictly"
@@ -90,7 +100,7 @@ module _ (w : List ℕ) where
 
   unfoldable pub soundBlocks : Bool
   soundBlocks =
-      allOf (forBelow (ruleCount w) (λ g. soundBlock g (longestWord w) 1) ∷ implies (eqb (at w 5) 1) (soundBlock defaultNumber 1 0) ∷ [])
+      allOf (forBelow (ruleCount w) (λ g. soundBlock g (longestWord w) 1) ∷ implies (used (at w 5)) (soundBlock defaultNumber 1 0) ∷ [])
 
   -- "end and go name rules below the count whose K is the depth": n is such a rule's number + 1
   unfoldable pub namesRule : ℕ → ℕ → Bool

@@ -26,6 +26,7 @@ pub mod AnyOrder
 pub mod Choosing
 pub mod Sums
 pub mod Writing
+pub mod Pairs
 pub mod Extremes
 pub mod Rows
 pub mod Loaded

@@ -6,18 +6,19 @@ use mathlib.Core.Path.{_≡_}
 use Prim.Native.Nat.{ℕ, zero, suc, _-_, _≤_}
 use lib.Dec.{eqb, ltb}
 use lib.ListN.{length}
-use Rattle.meaning.specs.Table.{Characters, Table, defaultNumber}
+use Rattle.meaning.specs.Table.{Characters, Table, defaultNumber, pairNumber}
 use Rattle.meaning.specs.Meaning.{Emission, convert}
 
--- what is chosen at a place: a rule, the default, or the stop where no rule fits and there is no default
+-- what is chosen at a place: a rule, the default on one unit, the default on a pair, or the stop where no rule fits and there is no default
 pub data Choice : Type 0 where
   theRule : ℕ → Choice
   theDefault : Choice
+  thePair : Choice
   theStop : Choice
 
 -- the choice that an emission tells
 unfoldable pub choiceOf : Emission → Choice
-choiceOf e = cond (eqb (e .group) defaultNumber) theDefault (theRule (e .group))
+choiceOf e = cond (eqb (e .group) pairNumber) thePair (cond (eqb (e .group) defaultNumber) theDefault (theRule (e .group)))
 
 -- a choice made at the first place of what it is made for, and at no other
 abbrev pub atStart : ℕ → Choice → Option Choice

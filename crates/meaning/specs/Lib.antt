@@ -14,4 +14,5 @@ pub mod Digits
 pub mod Samples
 pub mod Answered
 pub mod AnyOrder
+pub mod Pairs
 pub mod bridge

@@ -6,8 +6,8 @@ use Prim.Native.Nat.{ℕ, zero, suc, pred, _+_}
 use lib.Dec.{eqb, ltb}
 use lib.IntN.{natAbs}
 use lib.ListN.{length, take}
-use Rattle.lists.specs.Lists.{flatMap, fold, isSome}
-use Rattle.meaning.specs.Table.{Group, Table, ruleAt, group, defaultNumber}
+use Rattle.lists.specs.Lists.{flatMap, fold}
+use Rattle.meaning.specs.Table.{Group, Mode, Absent, Single, Paired, Table, mode, isFirst, isSecond, ruleAt, group, defaultNumber, pairNumber}
 use Rattle.meaning.specs.Value.{value, fitsWord}
 
 -- "A rule fits if the next K characters exist and lie in its ranges and, when anchored, they are the last K of the input." The input goes
@@ -26,14 +26,23 @@ unfoldable pub best : Table → ℕ → List ℕ → Option ℕ
 best t zero rest = none
 best t (suc r) rest = better t (best t r rest) r (fits (ruleAt t r) rest)
 
--- "With none, the default is chosen"; none: "With no default either"
-abbrev pub orDefault : Table → Option ℕ → Option ℕ
-orDefault t none = cond (isSome (t .default)) (some defaultNumber) none
-orDefault t (some r) = some r
+-- "the next two characters are such a pair"
+abbrev pub startsPair : List ℕ → Bool
+startsPair [] = false
+startsPair (x ∷ []) = false
+startsPair (x ∷ (y ∷ rest)) = isFirst x && isSecond y
+
+-- "With none, the default is chosen", and under the mark, "where no rule fits and the next two characters are such a pair, the default
+-- takes both"; none: "With no default either"
+abbrev pub orDefault : Mode → List ℕ → Option ℕ → Option ℕ
+orDefault m rest (some r) = some r
+orDefault Absent rest none = none
+orDefault Single rest none = some defaultNumber
+orDefault Paired rest none = some (cond (startsPair rest) pairNumber defaultNumber)
 
 -- the number of the group chosen
 unfoldable pub choose : Table → List ℕ → Option ℕ
-choose t rest = orDefault t (best t (length (t .rules)) rest)
+choose t rest = orDefault (mode t) rest (best t (length (t .rules)) rest)
 
 -- what a group writes for a word; the values of an accepted table are not negative
 unfoldable pub written : Group → List ℕ → List ℕ

@@ -10,7 +10,7 @@ use lib.ListN.{length, getD, take, drop}
 use Rattle.lists.specs.Lists.{atLast, lastD, isSome, orElse}
 use Rattle.lists.specs.Decide.{select}
 use Rattle.meaning.specs.Refusal.{Outcome, refused, accepted, andThen}
-use Rattle.meaning.specs.Table.{Range, Output, sum, digit, Group, Table, everyCharacter}
+use Rattle.meaning.specs.Table.{Range, Output, sum, digit, Group, unmarked, Table, everyCharacter}
 use Rattle.meaning.specs.Record.{Record, rule, range, output, term, default, hexadecimal, decode}
 use Rattle.meaning.specs.Value.{safe}
 
@@ -20,7 +20,7 @@ pub record Reading : Type 0 where
   pub kind : ℕ
 
 unfoldable pub unread : Reading
-unread = record { table = record { rules = []; default = none }; kind = 0 }
+unread = record { table = record { rules = []; default = none; mark = unmarked }; kind = 0 }
 
 -- the group read last
 unfoldable pub latest : Reading → Group
@@ -47,7 +47,7 @@ unfilled s = ranging s && ltb (length (latest s .ranges)) (latest s .size)
 -- positions .., only repeated ones"
 unfoldable pub misplaced : Reading → Record → Bool
 misplaced s (rule k a) = isSome (s .table .default)
-misplaced s default = isSome (s .table .default)
+misplaced s (default k) = isSome (s .table .default)
 misplaced s (range p r) =
     let ps = latest s .ranges in
     not (ranging s) || leb (latest s .size) p || ltb (suc p) (length ps)
@@ -59,7 +59,7 @@ misplaced s (term p a) = not (eqb (s .kind) 3 || eqb (s .kind) 4) || leb (latest
 -- refusal 4: "a position skipped, or unfilled when the ranges end (at a record of kind 1, 3 or 5 ..)", and of kind 6
 unfoldable pub skipping : Reading → Record → Bool
 skipping s (rule k a) = unfilled s
-skipping s default = unfilled s
+skipping s (default k) = unfilled s
 skipping s (range p r) = ltb (length (latest s .ranges)) p
 skipping s (output c) = unfilled s
 skipping s (hexadecimal p shift) = unfilled s
@@ -68,7 +68,7 @@ skipping s (term p a) = false
 -- refusal 6: "a 33rd rule, fifth range of a position, ninth output character"
 unfoldable pub tooMany : Reading → Record → Bool
 tooMany s (rule k a) = eqb (length (s .table .rules)) 32
-tooMany s default = false
+tooMany s (default k) = false
 tooMany s (range p r) = eqb (suc p) (length (latest s .ranges)) && eqb (length (lastD [] (latest s .ranges))) 4
 tooMany s (output c) = eqb (length (latest s .outputs)) 8
 tooMany s (hexadecimal p shift) = eqb (length (latest s .outputs)) 8
@@ -78,8 +78,8 @@ tooMany s (term p a) = false
 unfoldable pub changeLatest : (Group → Group) → Table → Table
 changeLatest f t =
     elim (t .default) [
-      | none ↦ record { rules = atLast f (t .rules); default = none }
-      | some d ↦ record { rules = t .rules; default = some (f d) }
+      | none ↦ record { rules = atLast f (t .rules); default = none; mark = t .mark }
+      | some d ↦ record { rules = t .rules; default = some (f d); mark = t .mark }
     ]
 
 abbrev pub addRange : ℕ → Range → List (List Range) → List (List Range)
@@ -114,12 +114,12 @@ addOutput o t = changeLatest (changeOutputs (λ os. os ++ (o ∷ []))) t
 unfoldable pub taken : Reading → Record → Reading
 taken s (rule k a) =
     let g : Group = record { size = k; anchored = a; ranges = []; outputs = [] } in
-    record { table = record { rules = s .table .rules ++ (g ∷ []); default = none }; kind = 1 }
+    record { table = record { rules = s .table .rules ++ (g ∷ []); default = none; mark = unmarked }; kind = 1 }
 taken s (range p r) = record { table = changeLatest (changeRanges (addRange p r)) (s .table); kind = 2 }
 taken s (output c) = record { table = addOutput (sum (signed 32 c) []) (s .table); kind = 3 }
 taken s (hexadecimal p shift) = record { table = addOutput (digit p shift) (s .table); kind = 6 }
 taken s (term p a) = record { table = changeLatest (changeOutputs (atLast (addTerm p (signed 16 a)))) (s .table); kind = 4 }
-taken s default = record { table = record { rules = s .table .rules; default = some (everyCharacter []) }; kind = 5 }
+taken s (default k) = record { table = record { rules = s .table .rules; default = some (everyCharacter []); mark = k }; kind = 5 }
 
 -- one record, "each by 2, 3, 4, 6"
 unfoldable pub readOne : Reading → Option Record → Outcome Reading

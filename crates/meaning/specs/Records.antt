@@ -9,7 +9,7 @@ use lib.IntN.{ℤ, pos, negsuc}
 use lib.ListN.{take, drop}
 use Rattle.lists.specs.Lists.{Each, flatMap, optional}
 use Rattle.lists.specs.Reordered.{InAnyOrder}
-use Rattle.meaning.specs.Table.{Range, Output, sum, digit, Group, Table, isShift}
+use Rattle.meaning.specs.Table.{Range, Output, sum, digit, Group, Mark, unmarked, marked, Table, isShift}
 use Rattle.meaning.specs.WellFormed.{WellFormedRange, Signed}
 
 -- a table is lent as bytes
@@ -49,9 +49,14 @@ pub record Term : Type 0 where
 abbrev pub termRecord : Term → List ℕ
 termRecord x = 4 ∷ x .position ∷ 0 ∷ 0 ∷ (littleEndian 2 (twosComplement 16 (x .coefficient)) ++ (0 ∷ 0 ∷ []))
 
+-- "A default record may carry 1 in byte 1"
+abbrev pub markByte : Mark → ℕ
+markByte unmarked = 0
+markByte marked = 1
+
 -- "5, default"
-abbrev pub defaultRecord : List ℕ
-defaultRecord = 5 ∷ 0 ∷ 0 ∷ 0 ∷ 0 ∷ 0 ∷ 0 ∷ 0 ∷ []
+abbrev pub defaultRecord : Mark → List ℕ
+defaultRecord m = 5 ∷ markByte m ∷ 0 ∷ 0 ∷ 0 ∷ 0 ∷ 0 ∷ 0 ∷ []
 
 -- "A new record, kind 6": "Byte 1 is a position and byte 2 a shift of 0, 4, 8 or 12"
 abbrev pub digitRecord : ℕ → ℕ → List ℕ
@@ -90,17 +95,17 @@ pub record RuleRecords (g : Group) (b : List ℕ) : Type 0 where
   pub bytes : b ≡ ruleRecord (g .size) (g .anchored) ++ rangeRecords 0 (g .ranges) ++ written
 
 -- "A default group has no ranges"
-pub record DefaultRecords (g : Group) (b : List ℕ) : Type 0 where
+pub record DefaultRecords (m : Mark) (g : Group) (b : List ℕ) : Type 0 where
   pub written : List ℕ
   pub outputs : Joined OutputRecords (g .outputs) written
-  pub bytes : b ≡ defaultRecord ++ written
+  pub bytes : b ≡ defaultRecord m ++ written
 
 -- the rules by number; a default "comes last"
 pub record Records (b : List ℕ) (t : Table) : Type 0 where
   pub first : List ℕ
   pub last : List ℕ
   pub rules : Joined RuleRecords (t .rules) first
-  pub default : Joined DefaultRecords (optional (t .default)) last
+  pub default : Joined (DefaultRecords (t .mark)) (optional (t .default)) last
   pub bytes : b ≡ first ++ last
 
 -- Eight bytes that are a record of one of the kinds, each field within its own range: 2 refuses others, "unknown kind, a field outside its own
@@ -110,7 +115,7 @@ pub data Known : List ℕ → Type 0 where
   range : (p : ℕ) (r : Range) → p ≤ 7 → WellFormedRange r → Known (rangeRecord p r)
   output : (c : ℤ) → Signed 32 c → Known (outputRecord c)
   term : (x : Term) → x .position ≤ 7 → Signed 16 (x .coefficient) → x .coefficient ≢ pos 0 → Known (termRecord x)
-  default : Known defaultRecord
+  default : (m : Mark) → Known (defaultRecord m)
   hexadecimal : (p shift : ℕ) → p ≤ 7 → T (isShift shift) → Known (digitRecord p shift)
 
 -- record number i

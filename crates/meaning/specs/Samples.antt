@@ -1,4 +1,4 @@
--- "Examples": the tables T1, T2 and T3 as bytes, and two of request [1].
+-- "Examples": the tables T1, T2 and T3 as bytes, two of request [1], and one of request [8].
 use mathlib.Core.List as Core
 use mathlib.Core.List.{List, _++_}
 use Prim.Native.Char.{Char, code}
@@ -45,6 +45,10 @@ digit p shift = entry 6 p shift 0 0
 unfoldable pub defaultOf : ℕ → ℕ → List ℕ
 defaultOf c a = entry 5 0 0 0 0 ++ out c ++ term 0 a
 
+-- the same with the mark of request [8]
+unfoldable pub markedOf : ℕ → ℕ → List ℕ
+markedOf c a = entry 5 1 0 0 0 ++ out c ++ term 0 a
+
 -- T1, with the constant -m and the terms of its only sum
 abbrev t1Sum : ℕ → List ℕ → List ℕ
 t1Sum m terms =
@@ -88,3 +92,7 @@ twoDigits = rule 1 0 ++ span 0 0 255 ++ digit 0 4 ++ digit 0 0
 
 unfoldable pub fourDigits : List ℕ
 fourDigits = rule 1 0 ++ span 0 0 65535 ++ digit 0 12 ++ digit 0 8 ++ digit 0 4 ++ digit 0 0
+
+-- request [8]: T3 with the mark
+unfoldable pub t3Marked : List ℕ
+t3Marked = t3With (markedOf 0 1)

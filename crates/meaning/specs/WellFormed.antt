@@ -1,13 +1,14 @@
 -- "Table records": what document 01 asks of the table that the records hold, one field a sentence.
 use mathlib.Core.List.{List, [], _∷_}
 use mathlib.Core.Logic.{_≢_}
+use mathlib.Core.Option.{none}
 use mathlib.Core.Path.{_≡_}
 use Prim.Native.Nat.{ℕ, _-_, _^_, _≤_, _<_}
 use lib.IntN.{ℤ, pos, negsuc}
 use lib.ListN.{length}
 use lib.Dec.{T}
 use Rattle.lists.specs.Lists.{Each, lastD, optional}
-use Rattle.meaning.specs.Table.{Range, Output, sum, digit, Group, Table, everyCharacter, isShift}
+use Rattle.meaning.specs.Table.{Range, Output, sum, digit, Group, unmarked, Table, everyCharacter, isShift}
 
 -- "lowest at most highest", both of them characters
 pub record WellFormedRange (r : Range) : Type 0 where
@@ -71,3 +72,5 @@ pub record WellFormed (t : Table) : Type 0 where
   pub few-rules : length (t .rules) ≤ 32
   pub rules : Each WellFormedRule (t .rules)
   pub default : Each WellFormedDefault (optional (t .default))
+  -- the mark is a default record's: without one there is none
+  pub no-mark : t .default ≡ none → t .mark ≡ unmarked

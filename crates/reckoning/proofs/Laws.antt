@@ -14,6 +14,7 @@ pub mod InTurn
 pub mod Serves
 pub mod Examples
 pub mod Answered
+pub mod Pairs
 pub mod Instances
 pub mod Keeping
 pub mod Admitting

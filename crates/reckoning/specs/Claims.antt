@@ -1,14 +1,14 @@
 -- Demand 3, one field a sentence, and for the outcome functions; demand 1 for feed and finish, that accepted calls keep a session sound, and request [2].
 use mathlib.Core.Bool.{Bool, true, false, _||_}
 use mathlib.Core.List.{List, [], _∷_, _++_}
-use mathlib.Core.Logic.{_↔_}
+use mathlib.Core.Logic.{_≢_, _↔_}
 use mathlib.Core.Path.{_≡_}
 use Prim.Native.Nat.{ℕ, _+_, _*_, _≤_, _<_}
 use lib.Dec.{T}
 use lib.ListN.{length, drop}
 use Rattle.lists.specs.Lists.{Each, pad}
 use Rattle.meaning.specs.Refusal.{refused, accepted, RefusedBy}
-use Rattle.meaning.specs.Table.{Characters, Table, longest, defaultNumber}
+use Rattle.meaning.specs.Table.{Characters, Table, longest, defaultNumber, pairNumber}
 use Rattle.meaning.specs.Block.{at}
 use Rattle.meaning.specs.Meaning.{covered, convert, meaningText, meaningPlace}
 use Rattle.automaton.specs.Layout.{wordCount}
@@ -52,7 +52,7 @@ pub record Agrees (t : Table) (cs : List Call) (v : Served) (i : Input) (r : End
   pub consumes : consumed (v .session) ≡ covered (r .final .log)
   pub received : v .session .received ≡ receivedBy (r .status) (length (i .characters)) (covered (r .final .log))
   -- "Demand 3's equality over lists of calls then includes all 33 counts, each the number of the plain machine's emits that wrote that
-  -- group's output." (request [2])
+  -- group's output." (request [2]); "and pairs have a count of their own" (request [8])
   pub uses : v .session .uses ≡ usesOf (r .final .log)
   -- "until it waits, closes or stops": a run that is open had no step left to take
   pub waits : r .status ≡ Open → Waits (fromTable t) (i .ended) (r .final)
@@ -102,11 +102,13 @@ CallsKeep =
     T (soundSession w (called w s c .session)) × (length (called w s c .session .held) ≡ 8)
 
 -- Request [2] of a session under the words w: "the sum over rules of count times K, plus the default's count, is the consumed total",
--- "counts of rules or a default that the machine lacks being 0".
+-- "counts of rules or a default that the machine lacks being 0". Of request [8]: "A pair adds 2 to the consumed total that the use counts sum
+-- to, and pairs have a count of their own, 0 without the mark."
 pub record AddsUp (w : List ℕ) (s : Session) : Type 0 where
   pub sum : charactersUsed w (s .uses) ≡ consumed s
   pub lacking : (g : ℕ) → ruleCount w ≤ g → g < 32 → at (s .uses) g ≡ 0
   pub undefaulted : at w 5 ≡ 0 → at (s .uses) defaultNumber ≡ 0
+  pub unmarked : at w 5 ≢ 2 → at (s .uses) pairNumber ≡ 0
 
 -- "A sound session satisfies this too"
 unfoldable pub SoundAddsUp : Type 0

@@ -10,4 +10,5 @@ pub mod Append
 pub mod Preview
 pub mod Examples
 pub mod Answered
+pub mod Pairs
 pub mod Instances

@@ -1,5 +1,5 @@
 -- "Sessions": what is kept between calls, and when it is sound.
-use mathlib.Core.Bool.{Bool, true, false, _&&_, not, cond}
+use mathlib.Core.Bool.{Bool, true, false, _&&_, _||_, not, cond}
 use mathlib.Core.List.{List, [], _∷_}
 use mathlib.Core.Option.{Option, none, some}
 use Prim.Native.Nat.{ℕ, _+_, _-_, _*_}
@@ -7,6 +7,7 @@ use lib.Dec.{eqb, leb}
 use lib.ListN.{take, drop}
 use Rattle.lists.specs.Lists.{all, pad}
 use Rattle.lists.specs.Decide.{allOf}
+use Rattle.meaning.specs.Table.{Mode, Absent, Single, Paired, isFirst}
 use Rattle.meaning.specs.Direct.{limit}
 use Rattle.automaton.specs.Sound.{used, longestWord, expansionWord}
 use Rattle.automaton.specs.Automaton.{Automaton, fromWords}
@@ -22,7 +23,7 @@ pub record Session : Type 0 where
   pub received : ℕ
   pub produced : ℕ
   pub steps : ℕ
-  -- "The session gains 33 counts" (request [2])
+  -- "The session gains 33 counts" (request [2]), and one of pairs (request [8])
   pub uses : List ℕ
 
 -- "Fresh: open, all 0."
@@ -58,6 +59,22 @@ abbrev pub isAt : ℕ → Option ℕ → Bool
 isAt q none = false
 isAt q (some r) = eqb q r
 
+abbrev pub isPaired : Mode → Bool
+isPaired Absent = false
+isPaired Single = false
+isPaired Paired = true
+
+-- "A waiting first unit left by a back is one held character at state 0": "where the mark is set, the unit is a first unit and state 0 has no
+-- target for it"
+abbrev pub isLeft : Automaton → ℕ → List ℕ → Bool
+isLeft m q [] = false
+isLeft m q (x ∷ []) = eqb q 0 && (isPaired (m .default) && (isFirst x && eqb (m .target 0 x) 0))
+isLeft m q (x ∷ (y ∷ h)) = false
+
+-- an open session may be in the state and hold the characters
+abbrev pub standsAt : Automaton → ℕ → List ℕ → Bool
+standsAt m q h = isAt q (path m 0 h) || isLeft m q h
+
 unfoldable pub soundSession : List ℕ → Session → Bool
 soundSession w s =
     let cost = longestWord w + 3 in
@@ -71,8 +88,8 @@ soundSession w s =
     -- "A sound session satisfies this too" (request [2])
     ∷ soundUses w (s .uses) (consumed s)
     ∷ cond (isOpen (s .status))
-    -- "open, the held characters lead from state 0 to the state ..., and steps are at most (L + 3) times consumed plus held"
-    (allOf (isAt (s .state) (path (fromWords w) 0 (store s)) ∷ leb (s .steps) (cost * consumed s + s .count) ∷ []))
+    -- "open, the held characters lead from state 0 to the state ..., and steps are at most (L + 3) times consumed plus held"; or a first unit was left
+    (allOf (standsAt (fromWords w) (s .state) (store s) ∷ leb (s .steps) (cost * consumed s + s .count) ∷ []))
     -- "closed or stopped, state 0, nothing held, steps at most (L + 3) times (consumed + 1)"
     (allOf (eqb (s .state) 0 ∷ eqb (s .count) 0 ∷ leb (s .steps) (cost * (consumed s + 1)) ∷ []))
     ∷ [])

@@ -1,20 +1,16 @@
 -- Automata that do the same along words, by a relation between their states; such are the one read from a table's words and the table's own.
 -- Every word that the first reads is the number that the other computes, and the classes are the same, so that states have the same numbers.
-use mathlib.Core.Bool.{Bool, true, false}
 use mathlib.Core.List.{List, [], _∷_, _++_}
 use mathlib.Core.Logic.{_≢_}
 use mathlib.Core.Path.{_≡_, refl, sym, ap, subst, _∙_}
 use Prim.Native.Nat.{ℕ, _≤_, _<_}
-use lib.Dec.{eqb}
 use lib.ListN.{length}
-use Rattle.lists.specs.Lists.{isSome}
 use Rattle.lists.proofs.Laws.Each.{each-append}
-use Rattle.meaning.specs.Table.{Characters, Table}
-use Rattle.meaning.specs.Block.{bit}
+use Rattle.meaning.specs.Table.{Characters, Mode, Absent, Single, Paired, Table, mode}
 use Rattle.automaton.specs.Classes.{starts, classOf}
 use Rattle.automaton.specs.States.{states}
-use Rattle.automaton.specs.Layout.{words}
-use Rattle.automaton.specs.Sound.{targetWord}
+use Rattle.automaton.specs.Layout.{modeWord, words}
+use Rattle.automaton.specs.Sound.{wordMode, targetWord}
 use Rattle.automaton.specs.Automaton.{Automaton, fromTable, fromWords, after, Leads}
 use Rattle.automaton.proofs.Laws.Good.{after-snoc, leads-snoc, Good, Agreeing, Alike, Bisimulation, SameNumbers}
 use Rattle.automaton.proofs.Laws.Classes.{classed}
@@ -74,9 +70,10 @@ module _ (A B : Automaton) (L n : ℕ) (G : Good A L n) (S : SameNumbers A B n) 
   numbers-after q (x ∷ u) h c =
       numbers-after (A .target q x) u (G .inside q x h) (c .1) ∙ ap (λ z. after B z u) (S .targets q x h (c .0))
 
-is-bit : (b : Bool) → eqb (bit b) 1 ≡ b
-is-bit true = refl
-is-bit false = refl
+pub mode-read : (m : Mode) → wordMode (modeWord m) ≡ m
+mode-read Absent = refl
+mode-read Single = refl
+mode-read Paired = refl
 
 -- a table's words
 pub words-numbers : (t : Table) (rest : List ℕ) → length (starts t) ≤ 64 → length (states t) ≤ 256 →
@@ -91,5 +88,5 @@ words-numbers t rest narrow few =
           ∙ layout-target t rest few q b narrow (classOf (starts t) x) (classed t .class-below x));
       accepts = λ q b. sym (layout-accept t rest few q b);
       ends = λ q b. sym (layout-acceptAtEnd t rest few q b);
-      defaults = sym (ap (λ n. eqb n 1) (layout-default t rest) ∙ is-bit (isSome (t .default)));
+      defaults = sym (ap wordMode (layout-default t rest) ∙ mode-read (mode t));
     }

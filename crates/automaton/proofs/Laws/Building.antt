@@ -1,6 +1,5 @@
 -- The compiler's start and end: state 0 is noted first, and when no state is left the words of states and targets are the table's.
 -- The list on the way is then that of all states, and each column holds its words and then zeros.
-use mathlib.Core.Bool.{Bool}
 use mathlib.Core.List.{List, [], _∷_, _++_, map}
 use mathlib.Core.Path.{_≡_, refl, sym, ap, subst, _∙_}
 use Prim.Native.Nat.{ℕ, zero, suc, _+_, _*_, _/_, _%_, _^_, _≤_, _<_}
@@ -12,7 +11,7 @@ use lib.Seq.{getD-take, getD-drop, take-add, length-take-le, ext-getD}
 use Rattle.lists.specs.Lists.{flatMap, upTo, pad}
 use Rattle.lists.proofs.Laws.Parts.{length-pad, getD-pad, getD-rows}
 use Rattle.lists.proofs.Laws.Sets.{length-tab}
-use Rattle.meaning.specs.Table.{Table}
+use Rattle.meaning.specs.Table.{Table, Mode}
 use Rattle.meaning.specs.Block.{at}
 use Rattle.meaning.specs.bridge.Flat.{tableAt, groupAt}
 use Rattle.automaton.specs.Classes.{starts}
@@ -52,7 +51,7 @@ module _ (t : Table) (n : ℕ) (w sets : List ℕ) (x : ℕ) where
             targets = record { within = omega arith; done = λ i h. absurd (omega arith); blank = λ i h k. z (targetsFrom + i) (omega arith) (omega arith) };
           }
 
-pub rules-counted : (loaded : List ℕ) (n : ℕ) (d : Bool) → length (tableAt loaded n d .rules) ≡ n
+pub rules-counted : (loaded : List ℕ) (n : ℕ) (d : Mode) → length (tableAt loaded n d .rules) ≡ n
 unfolding tableAt
 rules-counted loaded n d = length-tab (groupAt loaded) 0 n
 

@@ -4,11 +4,11 @@ use mathlib.Core.Bool.{true, false}
 use mathlib.Core.List.{List, [], _∷_, _++_}
 use mathlib.Core.Logic.{_≢_, _↔_}
 use mathlib.Core.Path.{_≡_, refl}
-use Prim.Native.Nat.{ℕ, zero, suc, _≤_, _<_}
+use Prim.Native.Nat.{ℕ, zero, suc, _*_, _≤_, _<_}
 use native.Mathlib.Omega.{arith}
 use lib.Dec.{T}
 use lib.ListN.{length, getD}
-use Rattle.meaning.specs.Table.{Characters, Table, ruleAt, defaultNumber}
+use Rattle.meaning.specs.Table.{Characters, Paired, Table, present, ruleAt, defaultNumber, pairNumber}
 use Rattle.meaning.proofs.Laws.Prefix.{fitsPrefix}
 use Rattle.automaton.specs.States.{State, initial, states}
 use Rattle.automaton.specs.Automaton.{Automaton}
@@ -53,11 +53,12 @@ module _ (A : Automaton) (L n : ℕ) (G : Good A L n) where
       split zero e = refl
       split (suc r) e = absurd (t (G .no-way-on q x h (omega arith)))
 
--- what may be emitted writes at most E characters
+-- what may be emitted writes at most E characters, and a pair at most E for each of its two
 pub record Short (A : Automaton) (E n : ℕ) : Type 0 where
   pub of-accept : (q r : ℕ) → q < n → A .accept q ≡ suc r → (w : List ℕ) → length (A .write r w) ≤ E
   pub of-end : (q r : ℕ) → q < n → A .acceptAtEnd q ≡ suc r → (w : List ℕ) → length (A .write r w) ≤ E
-  pub of-default : A .default ≡ true → (w : List ℕ) → length (A .write defaultNumber w) ≤ E
+  pub of-default : present (A .default) ≡ true → (w : List ℕ) → length (A .write defaultNumber w) ≤ E
+  pub of-pair : A .default ≡ Paired → (x y : ℕ) → length (A .write pairNumber (x ∷ y ∷ [])) ≤ E * 2
 
 -- g is 0 if P holds nowhere, else the least number with P, plus 1
 abbrev pub Least : (ℕ → Type 0) → ℕ → Type 0
@@ -113,7 +114,8 @@ pub record SameNumbers (A B : Automaton) (n : ℕ) : Type 0 where
 -- and write the same for words that fit
 pub record Writes (A B : Automaton) (t : Table) : Type 0 where
   pub of-rule : (r : ℕ) (w : List ℕ) → Done t w r → A .write r w ≡ B .write r w
-  pub of-default : A .default ≡ true → (x : ℕ) → x < 65536 → A .write defaultNumber (x ∷ []) ≡ B .write defaultNumber (x ∷ [])
+  pub of-default : present (A .default) ≡ true → (x : ℕ) → x < 65536 → A .write defaultNumber (x ∷ []) ≡ B .write defaultNumber (x ∷ [])
+  pub of-pair : (x y : ℕ) → A .write pairNumber (x ∷ y ∷ []) ≡ B .write pairNumber (x ∷ y ∷ [])
 
 abbrev pub stateAt : Table → ℕ → State
 stateAt t s = getD (states t) s (initial t)

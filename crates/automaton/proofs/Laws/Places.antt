@@ -6,13 +6,13 @@ use Prim.Native.Nat.{ℕ, _+_, _*_, _≤_, _<_}
 use native.Mathlib.Omega.{arith}
 use lib.ListN.{length, getD, take, drop, length-append, List·getD-map, length-map}
 use lib.Seq.{take-append-le}
-use Rattle.lists.specs.Lists.{flatMap, pad, isSome}
+use Rattle.lists.specs.Lists.{flatMap, pad}
 use Rattle.lists.proofs.Laws.Parts.{length-pad, getD-pad, getD-rows, take-pad, flat, getD-part, getD-there}
-use Rattle.meaning.specs.Table.{Table, longest, expansion}
-use Rattle.meaning.specs.Block.{at, bit}
+use Rattle.meaning.specs.Table.{Table, mode, longest, expansion}
+use Rattle.meaning.specs.Block.{at}
 use Rattle.automaton.specs.Classes.{starts}
 use Rattle.automaton.specs.States.{State, initial, states, acceptAtEndOf, acceptOf, targetOf}
-use Rattle.automaton.specs.Layout.{wordCount, stateWords, targetWords, parts, words, classesFrom, statesFrom, statesSize, targetsFrom, targetsSize}
+use Rattle.automaton.specs.Layout.{wordCount, stateWords, targetWords, parts, words, classesFrom, statesFrom, statesSize, targetsFrom, targetsSize, modeWord}
 use Rattle.automaton.specs.Sound.{classCount, longestWord, expansionWord, ruleCount, stateCount, depthWord, acceptAtEndWord, acceptWord, targetWord}
 use Rattle.automaton.proofs.Laws.Good.{stateAt}
 
@@ -47,7 +47,7 @@ module _ (t : Table) (rest : List ℕ) where
   unfolding words parts
   layout-rules = refl
 
-  pub layout-default : at (words t ++ rest) 5 ≡ bit (isSome (t .default))
+  pub layout-default : at (words t ++ rest) 5 ≡ modeWord (mode t)
   unfolding words parts
   layout-default = refl
 

@@ -16,7 +16,7 @@ use Rattle.lists.proofs.Laws.Tests.{eq→eqb, test-eq, and-true, of-cond}
 use Rattle.lists.proofs.Laws.Each.{each-weaken}
 use Rattle.lists.proofs.Laws.Members.{same-list, list-same}
 use Rattle.lists.proofs.Laws.Sets.{filter-same, getD-tab}
-use Rattle.meaning.specs.Table.{ruleAt, inRanges}
+use Rattle.meaning.specs.Table.{ruleAt, inRanges, Mode}
 use Rattle.meaning.specs.Block.{at, blockSize}
 use Rattle.meaning.specs.bridge.Flat.{tableAt, groupAt, patternAt, rangesAt}
 use Rattle.meaning.proofs.Laws.Choosing.{rule-at}
@@ -274,7 +274,7 @@ goesOn loaded depth c r = ltb depth (at loaded (blockSize * r)) && inRanges (ran
 abbrev pub endsAt : List ℕ → ℕ → Bool → ℕ → Bool
 endsAt loaded depth free r = eqb (at loaded (blockSize * r)) depth && not (free && eqb (at loaded (blockSize * r + 1)) 1)
 
-module _ (loaded : List ℕ) (n : ℕ) (d : Bool) (set depth : ℕ) where
+module _ (loaded : List ℕ) (n : ℕ) (d : Mode) (set depth : ℕ) where
   -- two tests that agree below n keep the same members
   by-rules : (f g : ℕ → Bool) → ((r : ℕ) → r < n → f r ≡ g r) → filter f (membersFrom 0 n set) ≡ filter g (membersFrom 0 n set)
   by-rules f g h = filter-same f g (membersFrom 0 n set) (each-weaken (λ r. r < n) (λ r. f r ≡ g r) (membersFrom 0 n set) h (members-below n set))

@@ -10,27 +10,33 @@ use native.Mathlib.Omega.{arith}
 use lib.Dec.{T, not-T, eqb, le→leb, lt→ltb, eqb→eq}
 use lib.IntN.{pos}
 use lib.ListN.{length, getD, length-append}
-use Rattle.lists.specs.Lists.{Each, isSome}
+use Rattle.lists.specs.Lists.{Each}
 use Rattle.lists.specs.Decide.{implies}
 use Rattle.lists.proofs.Laws.Tests.{of-not, and-left, and-right, of-cond, to-implies, to-allOf, to-below, eq→eqb, neqb→ne, ne→neqb, to-between}
 use Rattle.lists.proofs.Laws.Each.{each-getD}
-use Rattle.meaning.specs.Table.{sum, Group, Table, ruleAt, defaultNumber, longest, expansion}
+use Rattle.meaning.specs.Table.{sum, Group, Table, ruleAt, defaultNumber, longest, expansion, Mode, Absent, Single, Paired, modeOf, mode, least}
 use Rattle.meaning.specs.Block.{at, bit, block, blockSize}
 use Rattle.meaning.proofs.Laws.Shape.{Within, ShapedDefault, Shaped}
-use Rattle.meaning.proofs.Laws.Groups.{rule-shaped, default-each, group-rule, group-default, longest-le, longest-small, longest-positive, group-short, expansion-small}
+use Rattle.meaning.proofs.Laws.Groups.{rule-shaped, default-each, group-rule, group-default, longest-le, longest-small, longest-positive, group-short, expansion-small, least-le}
 use Rattle.meaning.proofs.Laws.Numbers.{bit-small}
 use Rattle.meaning.proofs.Laws.Exact.{block-size, block-anchored, block-count}
 use Rattle.automaton.specs.Classes.{starts}
 use Rattle.automaton.specs.States.{State, initial, acceptAtEndOf, acceptOf, states, targetOf}
-use Rattle.automaton.specs.Layout.{wordCount, words, classesFrom}
-use Rattle.automaton.specs.Sound.{classCount, longestWord, ruleCount, stateCount, depthWord, targetWord, blockAt, between, used, soundEntry, soundHeader, soundStarts, soundBlock, soundBlocks, namesRule, soundTarget, soundState, sound}
+use Rattle.automaton.specs.Layout.{wordCount, words, classesFrom, modeWord}
+use Rattle.automaton.specs.Sound.{classCount, longestWord, ruleCount, stateCount, depthWord, targetWord, blockAt, between, used, soundEntry, soundHeader, soundStarts, soundBlock, soundBlocks, namesRule, soundTarget, soundState, sound, wordMode}
 use Rattle.automaton.proofs.Laws.Good.{stateAt}
+use Rattle.automaton.proofs.Laws.Alike.{mode-read}
 use Rattle.automaton.proofs.Laws.First.{first-cases, first-none}
 use Rattle.automaton.proofs.Laws.Classes.{classed}
 use Rattle.automaton.proofs.Laws.Levels.{numbered}
 use Rattle.automaton.proofs.Laws.Entries.{known-entry, known-of, group-entry}
 use Rattle.automaton.proofs.Laws.Blocks.{block-word, default-word}
 use Rattle.automaton.proofs.Laws.Places.{length-words, layout-states, layout-classes, layout-longest, layout-expansion, layout-rules, layout-default, layout-start, layout-depth, layout-acceptAtEnd, layout-accept, layout-target}
+
+mode-small : (m : Mode) → modeWord m ≤ 2
+mode-small Absent = omega arith
+mode-small Single = omega arith
+mode-small Paired = omega arith
 
 module _ (t : Table) (rest : List ℕ) (shaped : Shaped t) (narrow : length (starts t) ≤ 64) (few : length (states t) ≤ 256) where
   abbrev w : List ℕ
@@ -44,7 +50,7 @@ module _ (t : Table) (rest : List ℕ) (shaped : Shaped t) (narrow : length (sta
       let longest-fits = to-between 1 8 (longest t) (longest-positive t shaped) (longest-small t shaped) in
       let rules-fit = to-between 1 32 (length (t .rules)) (shaped .some-rule) (shaped .few-rules) in
       rw (layout-states t rest, layout-classes t rest, layout-longest t rest, layout-expansion t rest, layout-rules t rest, layout-default t rest)
-      (to-allOf _ (states-fit, (classes-fit, (longest-fits, (le→leb (expansion t) 8 (expansion-small t shaped), (rules-fit, (le→leb (bit (isSome (t .default))) 1 (bit-small (isSome (t .default))), tt)))))))
+      (to-allOf _ (states-fit, (classes-fit, (longest-fits, (le→leb (expansion t) 8 (expansion-small t shaped), (rules-fit, (le→leb (modeWord (mode t)) 2 (mode-small (mode t)), (le→leb (least (wordMode (modeWord (mode t)))) (expansion t) (rw (mode-read (mode t)) (least-le t)), tt))))))))
 
   starts-sound : T (soundStarts w)
   unfolding soundStarts
@@ -81,15 +87,15 @@ module _ (t : Table) (rest : List ℕ) (shaped : Shaped t) (narrow : length (sta
   rule-sound r b =
       let shape = rule-shaped t shaped r b in
       let fits : ruleAt t r .size ≤ longestWord w = rw (layout-longest t rest) (longest-le t r b) in
-      let outputs : length (ruleAt t r .outputs) ≤ expansion t = subst (λ g. length (g .outputs) ≤ expansion t) (group-rule t r shaped b) (group-short t r) in
+      let outputs : length (ruleAt t r .outputs) ≤ expansion t = subst (λ g. length (g .outputs) ≤ expansion t) (group-rule t r shaped b) (group-short t r (let few-rules : length (t .rules) ≤ 32 = shaped .few-rules in omega arith)) in
       group-sound r (ruleAt t r) (longestWord w) 1 (block-word t rest shaped r b) (shape .positive) fits (bit-small (ruleAt t r .anchored)) outputs
       (shape .small) (shape .outputs) (shape .reaches)
 
-  default-sound : (d : Option Group) → t .default ≡ d → at w 5 ≡ 1 → T (soundBlock w defaultNumber 1 0)
-  default-sound none e h = let no-default : at w 5 ≡ 0 = layout-default t rest ∙ ap (λ d. bit (isSome d)) e in absurd (omega arith)
+  default-sound : (d : Option Group) → t .default ≡ d → at w 5 ≢ 0 → T (soundBlock w defaultNumber 1 0)
+  default-sound none e h = absurd (h (layout-default t rest ∙ ap (λ d. modeWord (modeOf d (t .mark))) e))
   default-sound (some g) e h =
       let sg = default-each ShapedDefault t g e (shaped .default) in
-      let outputs : length (g .outputs) ≤ expansion t = subst (λ g. length (g .outputs) ≤ expansion t) (group-default t g e) (group-short t defaultNumber) in
+      let outputs : length (g .outputs) ≤ expansion t = subst (λ g. length (g .outputs) ≤ expansion t) (group-default t g e) (group-short t defaultNumber (omega arith)) in
       let size = sg .size in
       let free : bit (g .anchored) ≡ 0 = ap bit (sg .anchored) in
       group-sound defaultNumber g 1 0 (default-word t rest g e) (omega arith) (omega arith) (omega arith) outputs
@@ -100,7 +106,7 @@ module _ (t : Table) (rest : List ℕ) (shaped : Shaped t) (narrow : length (sta
   blocks-sound =
       to-allOf _ (
         to-below (ruleCount w) _ (λ r h. rule-sound r (rw (layout-rules t rest) at h)),
-        (to-implies (eqb (at w 5) 1) _ (λ h. default-sound (t .default) refl (eqb→eq (at w 5) 1 h)), tt),
+        (to-implies (used (at w 5)) _ (λ h. default-sound (t .default) refl (neqb→ne (at w 5) 0 h)), tt),
       )
 
   -- rule r is named by r + 1 at the depth that is its K

@@ -23,7 +23,7 @@ use Rattle.automaton.proofs.Laws.Fitting.{NoShorter, end-chosen, free-c
 use Rattle.automaton.proofs.Laws.Parents.{Reached, onto-length}
 
 -- the choice at the first place, by the rules that fit
-pub at-first : (t : Table) → Shaped t → (z : List ℕ) (o : Option ℕ) → 0 < length z → Chosen t (length (t .rules)) z o → chosenAt t z 0 ≡ some (choiceBy t o)
+pub at-first : (t : Table) → Shaped t → (z : List ℕ) (o : Option ℕ) → 0 < length z → Chosen t (length (t .rules)) z o → chosenAt t z 0 ≡ some (choiceBy t z o)
 at-first t S [] o h c = absurd (omega arith)
 at-first t S (x ∷ u) o h c = first-choice t S x u o c
 

@@ -1,23 +1,24 @@
 -- What sound words say, and that the automaton read from them is good and short.
 -- The test is taken apart into its clauses; a rule has K at least 1, so that no state of depth 0 accepts.
-use mathlib.Core.Bool.{not, cond}
+use mathlib.Core.Bool.{not, cond, false≢true}
 use mathlib.Core.List.{List, [], _∷_}
 use mathlib.Core.Logic.{_≢_}
-use mathlib.Core.Path.{_≡_, refl, sym, subst}
+use mathlib.Core.Path.{_≡_, refl, sym, ap, subst, _∙_}
 use Prim.Native.Nat.{ℕ, suc, pred, _≤_, _<_}
 use native.Mathlib.Decide.{ℕ-discrete}
 use native.Mathlib.Omega.{arith}
+use borrow.Author.Tests.{ne-eqb}
 use lib.Dec.{T, eqb, leb→le, ltb→lt, eqb→eq}
 use lib.ListN.{length, take, drop, length-drop}
 use lib.Seq.{length-take-le}
 use Rattle.lists.specs.Decide.{allOf}
-use Rattle.lists.proofs.Laws.Tests.{to-T, not-not, implied, holds, below, of-cond, neqb→ne, ne→neqb, of-between}
+use Rattle.lists.proofs.Laws.Tests.{not-not, implied, holds, below, of-cond, neqb→ne, ne→neqb, of-between}
 use Rattle.lists.proofs.Laws.Sets.{length-tab}
-use Rattle.meaning.specs.Table.{defaultNumber}
+use Rattle.meaning.specs.Table.{present, least, defaultNumber, pairNumber}
 use Rattle.meaning.specs.Block.{at, blockOutput}
 use Rattle.automaton.specs.Classes.{classOf}
 use Rattle.automaton.specs.Layout.{wordCount, classesFrom}
-use Rattle.automaton.specs.Sound.{classCount, longestWord, expansionWord, ruleCount, stateCount, depthWord, acceptAtEndWord, acceptWord, targetWord, blockAt, between, used, soundEntry, soundHeader, soundBlock, soundBlocks, namesRule, soundTarget, soundState, sound}
+use Rattle.automaton.specs.Sound.{classCount, longestWord, expansionWord, ruleCount, stateCount, depthWord, acceptAtEndWord, acceptWord, targetWord, blockAt, between, used, soundEntry, soundHeader, soundBlock, soundBlocks, namesRule, soundTarget, soundState, sound, wordMode, modeAt}
 use Rattle.automaton.specs.Automaton.{fromWords}
 use Rattle.automaton.proofs.Laws.Good.{Good, Short}
 use Rattle.automaton.proofs.Laws.Classes.{class-below}
@@ -34,7 +35,8 @@ pub record SoundHeader (w : List ℕ) : Type 0 where
   pub expansion : expansionWord w ≤ 8
   pub some-rule : 1 ≤ ruleCount w
   pub few-rules : ruleCount w ≤ 32
-  pub default : at w 5 ≤ 1
+  pub default : at w 5 ≤ 2
+  pub at-least : least (modeAt w) ≤ expansionWord w
 
 pub record SoundBlock (w : List ℕ) (g most : ℕ) : Type 0 where
   pub positive : 1 ≤ at (blockAt w g) 0
@@ -120,6 +122,11 @@ module _ (w : List ℕ) where
         target = λ k b n. follows s (targetWord w s k) (implied (used (targetWord w s k)) _ (below (classCount w) _ (h .1 .1 .1 .0) k b) (ne→neqb (targetWord w s k) 0 n));
       }
 
+-- what the words of a rule or of the default write
+pub block-written : (m : List ℕ) (g : ℕ) (u : List ℕ) → g < pairNumber → fromWords m .write g u ≡ blockOutput (blockAt m g) u
+unfolding fromWords
+block-written m g u h = rw (ne-eqb g 33 (omega arith))
+
 -- a block writes as many characters as it says
 pub length-blockOutput : (b w : List ℕ) → length (blockOutput b w) ≡ at b 2
 unfolding blockOutput
@@ -146,17 +153,18 @@ module _ (w : List ℕ) (sure : T (sound w)) where
         expansion = leb→le (expansionWord w) 8 (h .1 .1 .1 .0);
         some-rule = rules .0;
         few-rules = rules .1;
-        default = leb→le (at w 5) 1 (h .1 .1 .1 .1 .1 .0);
+        default = leb→le (at w 5) 2 (h .1 .1 .1 .1 .1 .0);
+        at-least = leb→le (least (modeAt w)) (expansionWord w) (h .1 .1 .1 .1 .1 .1 .0);
       }
 
   pub sound-rule : (g : ℕ) → g < ruleCount w → SoundBlock w g (longestWord w)
   unfolding sound soundBlocks
   sound-rule g b = block w g (longestWord w) 1 (omega arith) (below (ruleCount w) _ (holds _ (holds _ sure .1 .1 .1 .0) .0) g b)
 
-  pub sound-default : at w 5 ≡ 1 → SoundBlock w defaultNumber 1
+  pub sound-default : at w 5 ≢ 0 → SoundBlock w defaultNumber 1
   unfolding sound soundBlocks
   sound-default e =
-      block w defaultNumber 1 0 (omega arith) (implied (eqb (at w 5) 1) _ (holds _ (holds _ sure .1 .1 .1 .0) .1 .0) (subst (λ n. T (eqb n 1)) (sym e) tt))
+      block w defaultNumber 1 0 (omega arith) (implied (used (at w 5)) _ (holds _ (holds _ sure .1 .1 .1 .0) .1 .0) (ne→neqb (at w 5) 0 e))
 
   pub sound-state : (s : ℕ) → s < stateCount w → SoundState w s
   unfolding sound
@@ -212,14 +220,20 @@ module _ (w : List ℕ) (sure : T (sound w)) where
         no-way-on = λ q x b a. target-cases (λ k. k ≡ 0) q x b refl (λ k f. absurd (a (f .no-accept)));
       }
 
-  outputs-short : (g most : ℕ) → SoundBlock w g most → (u : List ℕ) → length (blockOutput (blockAt w g) u) ≤ expansionWord w
-  outputs-short g most s u = rw length-blockOutput (s .outputs)
+  pub sound-depth : (q : ℕ) → sound-good .depth q ≡ depthWord w q
+  unfolding sound-good
+  sound-depth q = refl
 
-  named-short : (depth n r : ℕ) → (n ≢ 0 → Names w depth n) → n ≡ suc r → (u : List ℕ) → length (blockOutput (blockAt w r) u) ≤ expansionWord w
+  outputs-short : (g most : ℕ) → g < pairNumber → SoundBlock w g most → (u : List ℕ) → length (fromWords w .write g u) ≤ expansionWord w
+  outputs-short g most b s u = rw (block-written w g u b, length-blockOutput) (s .outputs)
+
+  named-short : (depth n r : ℕ) → (n ≢ 0 → Names w depth n) → n ≡ suc r → (u : List ℕ) → length (fromWords w .write r u) ≤ expansionWord w
   named-short depth n r f e =
       let h : n ≢ 0 = omega arith in
       let same : pred n ≡ r = omega arith in
-      subst (λ k. (u : List ℕ) → length (blockOutput (blockAt w k) u) ≤ expansionWord w) same (outputs-short (pred n) (longestWord w) (named depth n (f h) h))
+      let known : n ≤ ruleCount w = f h .known in
+      let few : ruleCount w ≤ 32 = sound-header .few-rules in
+      subst (λ k. (u : List ℕ) → length (fromWords w .write k u) ≤ expansionWord w) same (outputs-short (pred n) (longestWord w) (omega arith) (named depth n (f h) h))
 
   pub sound-short : Short (fromWords w) (expansionWord w) (stateCount w)
   unfolding fromWords
@@ -227,7 +241,8 @@ module _ (w : List ℕ) (sure : T (sound w)) where
       record {
         of-accept = λ q r b e. named-short (depthWord w q) (acceptWord w q) r (sound-state q b .accept) e;
         of-end = λ q r b e. named-short (depthWord w q) (acceptAtEndWord w q) r (sound-state q b .end) e;
-        of-default = λ e. outputs-short defaultNumber 1 (sound-default (eqb→eq (at w 5) 1 (to-T (eqb (at w 5) 1) e)));
+        of-default = λ e. outputs-short defaultNumber 1 (omega arith) (sound-default (λ z. false≢true (ap (λ n. present (wordMode n)) (sym z) ∙ e)));
+        of-pair = λ e x y. let h : 1 ≤ expansionWord w = subst (λ m. least m ≤ expansionWord w) e (sound-header .at-least) in omega arith;
       }
 
   pub sound-longest : longestWord w ≤ 8

@@ -4,7 +4,8 @@ use mathlib.Core.Bool.{or-false}
 use mathlib.Core.List.{List, [], _∷_, _++_}
 use mathlib.Core.Option.{some}
 use mathlib.Core.Path.{_≡_, sym, ap, subst, _∙_}
-use Prim.Native.Nat.{ℕ, _<_}
+use Prim.Native.Nat.{ℕ, _<_, _≤_}
+use lib.ListN.{length}
 use native.Mathlib.Omega.{arith}
 use Rattle.lists.specs.Lists.{Each, optional}
 use Rattle.lists.proofs.Laws.Tests.{and-true, to-between}
@@ -14,12 +15,13 @@ use Rattle.meaning.specs.Value.{value, fitsWord, IsCharacter, SafeTable}
 use Rattle.meaning.specs.Meaning.{written}
 use Rattle.meaning.proofs.Laws.Prefix.{fitsPrefix-whole}
 use Rattle.meaning.proofs.Laws.Shape.{Within, ShapedDefault, Shaped}
-use Rattle.meaning.proofs.Laws.Groups.{rule-shaped, default-each, group-rule, group-default, some-default, SafeGroup, safe-group}
+use Rattle.meaning.proofs.Laws.Groups.{rule-shaped, default-each, group-rule, group-default, some-default, SafeGroup, safe-group, group-pair, written-pair}
 use Rattle.meaning.proofs.Laws.Exact.{block-writes}
 use Rattle.automaton.specs.Layout.{words}
 use Rattle.automaton.specs.Sound.{blockAt}
 use Rattle.automaton.specs.Automaton.{fromTable, fromWords}
 use Rattle.automaton.proofs.Laws.Good.{Done, Writes}
+use Rattle.automaton.proofs.Laws.Words.{block-written}
 use Rattle.automaton.proofs.Laws.Blocks.{block-word, default-word}
 
 -- the values of a safe group at a word that it takes
@@ -51,13 +53,15 @@ words-write t rest s safe =
           let shape = rule-shaped t s r (d .rule) in
           ap (λ g. written g w) (group-rule t r s (d .rule))
           ∙ sym (block-writes (ruleAt t r) w (blockAt (words t ++ rest) r) (shape .small) (shape .outputs) (sym (d .size)) (shape .reaches)
-          (safe-rule t w r s safe d) (block-word t rest s r (d .rule)));
+          (safe-rule t w r s safe d) (block-word t rest s r (d .rule)))
+          ∙ sym (block-written (words t ++ rest) r w (let few : length (t .rules) ≤ 32 = s .few-rules in let l : r < length (t .rules) = d .rule in omega arith));
       of-default =
           λ e x h.
-          let d = some-default (t .default) e in
+          let d = some-default (t .default) (t .mark) e in
           let g = d .0 in
           let shape = default-each ShapedDefault t g (d .1) (s .default) in
           ap (λ a. written a (x ∷ [])) (group-default t g (d .1))
           ∙ sym (block-writes g (x ∷ []) (blockAt (words t ++ rest) 32) (omega arith) (shape .outputs) (sym (shape .size))
           (subst (λ k. Each (Within k) (g .outputs)) (sym (shape .size)) (shape .reaches)) (safe-default t g x s safe (d .1) h) (default-word t rest g (d .1)));
+      of-pair = λ x y. ap (λ g. written g (x ∷ y ∷ [])) (group-pair t) ∙ written-pair x y;
     }

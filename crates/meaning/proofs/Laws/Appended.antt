@@ -4,7 +4,7 @@ use mathlib.Core.List.{List, [], _∷_, _++_, append-nil, append-assoc}
 use mathlib.Core.Option.{Option, none, some}
 use mathlib.Core.Logic.{_≢_}
 use mathlib.Core.Path.{_≡_, refl, sym, ap, subst, _∙_}
-use Prim.Native.Nat.{ℕ, suc, pred, _+_, _-_, _≤_}
+use Prim.Native.Nat.{ℕ, suc, pred, _+_, _≤_}
 use native.Mathlib.Nat.{add-zero, add-suc, suc-add}
 use native.Mathlib.Omega.{arith}
 use lib.Dec.{T, eqb, eqb→eq}
@@ -15,7 +15,7 @@ use Rattle.lists.specs.Reordered.{kept, joined}
 use Rattle.lists.proofs.Laws.Tests.{of-cond, neqb→ne}
 use Rattle.lists.proofs.Laws.Reordered.{last-first}
 use Rattle.lists.proofs.Laws.Last.{last-atLast}
-use Rattle.meaning.specs.Table.{Range, Output, sum, digit, Group, everyCharacter}
+use Rattle.meaning.specs.Table.{Range, Output, sum, digit, Group, everyCharacter, Mark}
 use Rattle.meaning.specs.Reader.{coefficientAt, changeLatest, addRange, addTerm, changeRanges, changeOutputs}
 use Rattle.meaning.specs.Records.{ruleRecord, rangeRecord, outputRecord, Term, termRecord, defaultRecord, Joined, rangeRecords, OutputRecords, RuleRecords, DefaultRecords, Records}
 use Rattle.meaning.proofs.Laws.Shape.{IsSum}
@@ -105,12 +105,12 @@ module _ (h : List Output → List Output) (e : List ℕ) (g : Group)
         bytes = ap (λ l. l ++ e) (w .bytes) ∙ append-assoc (ruleRecord (g .size) (g .anchored) ++ rangeRecords 0 (g .ranges)) (w .written) e;
       }
 
-  pub default-outputs : (b : List ℕ) → DefaultRecords g b → DefaultRecords (changeOutputs h g) (b ++ e)
-  default-outputs b w =
+  pub default-outputs : (k : Mark) (b : List ℕ) → DefaultRecords k g b → DefaultRecords k (changeOutputs h g) (b ++ e)
+  default-outputs k b w =
       record {
         written = w .written ++ e;
         outputs = more (w .written) (w .outputs);
-        bytes = ap (λ l. l ++ e) (w .bytes) ∙ append-assoc defaultRecord (w .written) e;
+        bytes = ap (λ l. l ++ e) (w .bytes) ∙ append-assoc (defaultRecord k) (w .written) e;
       }
 
 none-written : (os : List Output) (w : List ℕ) → os ≡ [] → Joined OutputRecords os w → w ≡ []
@@ -132,12 +132,12 @@ rule-ranges p r g o h k b w =
 
 -- the table: its last group changed, a rule more, a default
 
-pub table-latest : (f : Group → Group) (e : List ℕ) (rs : List Group) (d : Option Group) → 1 ≤ length (rs ++ optional d) →
+pub table-latest : (f : Group → Group) (e : List ℕ) (rs : List Group) (d : Option Group) (m : Mark) → 1 ≤ length (rs ++ optional d) →
     ((b : List ℕ) → RuleRecords (top rs d) b → RuleRecords (f (top rs d)) (b ++ e)) →
-    (T (isSome d) → (b : List ℕ) → DefaultRecords (top rs d) b → DefaultRecords (f (top rs d)) (b ++ e)) →
-    (b : List ℕ) → Records b (record { rules = rs; default = d }) → Records (b ++ e) (changeLatest f (record { rules = rs; default = d }))
+    (T (isSome d) → (b : List ℕ) → DefaultRecords m (top rs d) b → DefaultRecords m (f (top rs d)) (b ++ e)) →
+    (b : List ℕ) → Records b (record { rules = rs; default = d; mark = m }) → Records (b ++ e) (changeLatest f (record { rules = rs; default = d; mark = m }))
 unfolding changeLatest
-table-latest f e rs none n h k b w =
+table-latest f e rs none m n h k b w =
     let some-rule : 1 ≤ length rs = omega (arith, length-append {A = Group} rs []) in
     record {
       first = w .first ++ e;
@@ -146,18 +146,18 @@ table-latest f e rs none n h k b w =
       default = refl;
       bytes = ap (λ l. l ++ e) (w .bytes ∙ ap (λ l. w .first ++ l) (w .default) ∙ append-nil (w .first)) ∙ sym (append-nil (w .first ++ e));
     }
-table-latest f e rs (some g) n h k b w =
+table-latest f e rs (some g) m n h k b w =
     record {
       first = w .first;
       last = w .last ++ e;
       rules = w .rules;
-      default = joined-last DefaultRecords f e g (g ∷ []) (w .last) (omega arith) (k tt) (w .default);
+      default = joined-last (DefaultRecords m) f e g (g ∷ []) (w .last) (omega arith) (k tt) (w .default);
       bytes = ap (λ l. l ++ e) (w .bytes) ∙ append-assoc (w .first) (w .last) e;
     }
 
-pub table-rule : (g : Group) (e : List ℕ) (rs : List Group) (d : Option Group) → d ≡ none → RuleRecords g e →
-    (b : List ℕ) → Records b (record { rules = rs; default = d }) → Records (b ++ e) (record { rules = rs ++ (g ∷ []); default = none })
-table-rule g e rs none n r b w =
+pub table-rule : (g : Group) (e : List ℕ) (rs : List Group) (d : Option Group) (m k : Mark) → d ≡ none → RuleRecords g e →
+    (b : List ℕ) → Records b (record { rules = rs; default = d; mark = m }) → Records (b ++ e) (record { rules = rs ++ (g ∷ []); default = none; mark = k })
+table-rule g e rs none m k n r b w =
     record {
       first = w .first ++ e;
       last = [];
@@ -165,11 +165,11 @@ table-rule g e rs none n r b w =
       default = refl;
       bytes = ap (λ l. l ++ e) (w .bytes ∙ ap (λ l. w .first ++ l) (w .default) ∙ append-nil (w .first)) ∙ sym (append-nil (w .first ++ e));
     }
-table-rule g e rs (some d) n r b w = absurd (let z : _≡_ {A = ℕ} 0 1 = cc in omega arith)
+table-rule g e rs (some d) m k n r b w = absurd (let z : _≡_ {A = ℕ} 0 1 = cc in omega arith)
 
-pub table-default : (g : Group) (e : List ℕ) (rs : List Group) (d : Option Group) → d ≡ none → DefaultRecords g e →
-    (b : List ℕ) → Records b (record { rules = rs; default = d }) → Records (b ++ e) (record { rules = rs; default = some g })
-table-default g e rs none n r b w =
+pub table-default : (g : Group) (e : List ℕ) (rs : List Group) (d : Option Group) (m k : Mark) → d ≡ none → DefaultRecords k g e →
+    (b : List ℕ) → Records b (record { rules = rs; default = d; mark = m }) → Records (b ++ e) (record { rules = rs; default = some g; mark = k })
+table-default g e rs none m k n r b w =
     record {
       first = w .first;
       last = e;
@@ -177,11 +177,11 @@ table-default g e rs none n r b w =
       default = (e, [], r, refl, sym (append-nil e));
       bytes = ap (λ l. l ++ e) (w .bytes ∙ ap (λ l. w .first ++ l) (w .default) ∙ append-nil (w .first));
     }
-table-default g e rs (some d) n r b w = absurd (let z : _≡_ {A = ℕ} 0 1 = cc in omega arith)
+table-default g e rs (some d) m k n r b w = absurd (let z : _≡_ {A = ℕ} 0 1 = cc in omega arith)
 
 -- the last group after a change
-pub top-changed : (f : Group → Group) (rs : List Group) (d : Option Group) → 1 ≤ length (rs ++ optional d) →
-    (let t = changeLatest f (record { rules = rs; default = d }) in top (t .rules) (t .default) ≡ f (top rs d))
+pub top-changed : (f : Group → Group) (rs : List Group) (d : Option Group) (m : Mark) → 1 ≤ length (rs ++ optional d) →
+    (let t = changeLatest f (record { rules = rs; default = d; mark = m }) in top (t .rules) (t .default) ≡ f (top rs d))
 unfolding changeLatest
-top-changed f rs none n = last-atLast f (everyCharacter []) rs (omega (arith, length-append {A = Group} rs []))
-top-changed f rs (some g) n = refl
+top-changed f rs none m n = last-atLast f (everyCharacter []) rs (omega (arith, length-append {A = Group} rs []))
+top-changed f rs (some g) m n = refl

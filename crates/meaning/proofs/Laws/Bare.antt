@@ -9,14 +9,14 @@ use native.Mathlib.Nat.{add-zero}
 use native.Mathlib.Omega.{arith}
 use lib.Dec.{eqb, lit<}
 use lib.ListN.{length, getD, take, List·getD-map, length-map}
-use Rattle.lists.specs.Lists.{Each, flatMap, tabFrom, pad, isSome, orElse, optional}
+use Rattle.lists.specs.Lists.{Each, flatMap, tabFrom, pad, orElse, optional}
 use Rattle.lists.proofs.Laws.Each.{each-front, each-back, each-getD}
 use Rattle.lists.proofs.Laws.Parts.{length-pad, getD-pad, getD-rows}
 use Rattle.lists.proofs.Laws.Sets.{tab-is}
-use Rattle.meaning.specs.Table.{Range, Group, Table, everyCharacter, ruleAt, group, defaultNumber}
+use Rattle.meaning.specs.Table.{Range, Group, Table, everyCharacter, ruleAt, group, defaultNumber, Mark, unmarked, marked, modeOf, mode, pairGroup, pairNumber}
 use Rattle.meaning.specs.Block.{at, bit, block, blockSize}
 use Rattle.meaning.specs.Meaning.{fits, better, best, orDefault, choose, chosen, convertBy, convertFrom, convert}
-use Rattle.meaning.specs.bridge.Flat.{rows, slotWords, rangeWords, blockWords, loadedWords, slotsFrom, rangesFrom, rangeAt, rangesAt, patternAt, groupAt, tableAt, flatConversion}
+use Rattle.meaning.specs.bridge.Flat.{rows, slotWords, rangeWords, blockWords, loadedWords, slotsFrom, rangesFrom, rangeAt, rangesAt, patternAt, groupAt, tableAt, flatConversion, defaultBy, markBy}
 use Rattle.meaning.proofs.Laws.Shape.{ShapedGroup, ShapedDefault, Shaped}
 use Rattle.meaning.proofs.Laws.Exact.{block-size, block-anchored}
 use Rattle.meaning.proofs.Laws.Narrow.{NarrowGroup, Narrow}
@@ -33,23 +33,33 @@ bareDefault none = none
 bareDefault (some g) = some (bareGroup g)
 
 abbrev pub bare : Table → Table
-bare t = record { rules = map bareGroup (t .rules); default = bareDefault (t .default) }
+bare t = record { rules = map bareGroup (t .rules); default = bareDefault (t .default); mark = markBy (mode t) }
 
 module _ (t : Table) where
   pub ruleAt-bare : (r : ℕ) → ruleAt (bare t) r ≡ bareGroup (ruleAt t r)
   ruleAt-bare r = List·getD-map bareGroup (t .rules) r (everyCharacter [])
 
-  pub group-bare : (n : ℕ) → group (bare t) n ≡ bareGroup (group t n)
+  pub group-bare : (n : ℕ) → group (bare t) n .size ≡ group t n .size
   unfolding group
-  group-bare n = of (eqb n defaultNumber)
+  group-bare n = of (eqb n pairNumber) (eqb n defaultNumber)
     where
-      of-default : (d : Option Group) → orElse (everyCharacter []) (bareDefault d) ≡ bareGroup (orElse (everyCharacter []) d)
+      of-default : (d : Option Group) → orElse (everyCharacter []) (bareDefault d) .size ≡ orElse (everyCharacter []) d .size
       of-default none = refl
       of-default (some g) = refl
 
-      of : (b : Bool) → cond b (orElse (everyCharacter []) (bare t .default)) (ruleAt (bare t) n) ≡ bareGroup (cond b (orElse (everyCharacter []) (t .default)) (ruleAt t n))
-      of true = of-default (t .default)
-      of false = ruleAt-bare n
+      of : (p b : Bool) → cond p pairGroup (cond b (orElse (everyCharacter []) (bare t .default)) (ruleAt (bare t) n)) .size
+          ≡ cond p pairGroup (cond b (orElse (everyCharacter []) (t .default)) (ruleAt t n)) .size
+      of true b = refl
+      of false true = of-default (t .default)
+      of false false = ap (λ g. g .size) (ruleAt-bare n)
+
+  pub mode-bare : mode (bare t) ≡ mode t
+  mode-bare = of (t .default) (t .mark)
+    where
+      of : (d : Option Group) (k : Mark) → modeOf (bareDefault d) (markBy (modeOf d k)) ≡ modeOf d k
+      of none k = refl
+      of (some g) unmarked = refl
+      of (some g) marked = refl
 
   better-bare : (o : Option ℕ) (r : ℕ) (b : Bool) → better (bare t) o r b ≡ better t o r b
   better-bare none r false = refl
@@ -64,15 +74,10 @@ module _ (t : Table) where
 
   pub choose-bare : (u : List ℕ) → choose (bare t) u ≡ choose t u
   unfolding choose
-  choose-bare u = rw (length-map (t .rules) bareGroup, best-bare (length (t .rules)) u) (of (best t (length (t .rules)) u))
-    where
-      same : (d : Option Group) → isSome (bareDefault d) ≡ isSome d
-      same none = refl
-      same (some g) = refl
-
-      of : (o : Option ℕ) → orDefault (bare t) o ≡ orDefault t o
-      of none = ap (λ b. cond b (some defaultNumber) none) (same (t .default))
-      of (some r) = refl
+  choose-bare u =
+      ap (λ m. orDefault m u (best (bare t) (length (bare t .rules)) u)) mode-bare
+      ∙ ap (λ n. orDefault (mode t) u (best (bare t) n u)) (length-map (t .rules) bareGroup)
+      ∙ ap (orDefault (mode t) u) (best-bare (length (t .rules)) u)
 
   convertFrom-bare : (skip : ℕ) (u : List ℕ) → convertFrom (bare t) skip u ≡ convertFrom t skip u
   unfolding convertFrom
@@ -85,7 +90,7 @@ module _ (t : Table) where
           convertBy (bare t) o (c ∷ u) (λ skip. convertFrom (bare t) skip u) ≡ convertBy t o (c ∷ u) (λ skip. convertFrom t skip u)
       of none onward = refl
       of (some n) onward =
-          ap (λ k. chosen (record { group = n; word = take k (c ∷ u) }) (convertFrom (bare t) (pred k) u)) (ap (λ g. g .size) (group-bare n))
+          ap (λ k. chosen (record { group = n; word = take k (c ∷ u) }) (convertFrom (bare t) (pred k) u)) (group-bare n)
           ∙ ap (chosen (record { group = n; word = take (group t n .size) (c ∷ u) })) (onward (pred (group t n .size)))
 
   pub convert-bare : (u : List ℕ) → convert (bare t) u ≡ convert t u
@@ -157,9 +162,9 @@ module _ (t : Table) (k : ℕ) (inside : k < 33) (g : Group) (row : Row t k g) w
         (ap (λ ps. record { size = g .size; anchored = g .anchored; ranges = ps; outputs = [] })
         (tab-is (λ p. rangesAt (loadedWords t) (8 * k + p)) (g .size) (g .ranges) [] places position-flat))
 
-pub table-flat : (t : Table) → Shaped t → Narrow t → tableAt (loadedWords t) (length (t .rules)) (isSome (t .default)) ≡ bare t
+pub table-flat : (t : Table) → Shaped t → Narrow t → tableAt (loadedWords t) (length (t .rules)) (mode t) ≡ bare t
 unfolding tableAt
-table-flat t s w = ap₂ (λ rs d. record { rules = rs; default = d }) rules (of (t .default) refl (s .default) (each-back NarrowGroup (t .rules) (optional (t .default)) w))
+table-flat t s w = ap₂ (λ rs d. record { rules = rs; default = d; mark = markBy (mode t) }) rules (of (t .default) (t .mark) refl (s .default) (each-back NarrowGroup (t .rules) (optional (t .default)) w))
   where
     rules : tabFrom 0 (length (t .rules)) (groupAt (loadedWords t)) ≡ map bareGroup (t .rules)
     rules =
@@ -172,15 +177,20 @@ table-flat t s w = ap₂ (λ rs d. record { rules = rs; default = d }) rules (of
         group-flat t r (omega arith) g (λ n f j i. rows-at n f t r j (omega arith) i ∙ ap (λ l. at l j) (rowsOf-rule f (t .rules) (t .default) r (everyCharacter []) few h)) (sg .places) (sg .small) (ng .few)
         ∙ sym (ruleAt-bare t r))
 
-    of : (d : Option Group) → t .default ≡ d → Each ShapedDefault (optional d) → Each NarrowGroup (optional d) →
-        cond (isSome d) (some (groupAt (loadedWords t) defaultNumber)) none ≡ bareDefault d
-    of none e a b = refl
-    of (some g) e a b =
+    there : (g : Group) (k : Mark) (h : Group) → defaultBy (modeOf (some g) k) h ≡ some h
+    there g unmarked h = refl
+    there g marked h = refl
+
+    of : (d : Option Group) (k : Mark) → t .default ≡ d → Each ShapedDefault (optional d) → Each NarrowGroup (optional d) →
+        defaultBy (modeOf d k) (groupAt (loadedWords t) defaultNumber) ≡ bareDefault d
+    of none k e a b = refl
+    of (some g) k e a b =
         let one : g .size ≡ 1 = a .0 .size in
-        ap some (group-flat t 32 (lit< tt) g (λ n f j i. rows-at n f t 32 j (lit< tt) i ∙ ap (λ d. at (getD (rowsOf f (t .rules) d) 32 []) j) e ∙ ap (λ l. at l j) (rowsOf-default f (t .rules) g))
+        there g k (groupAt (loadedWords t) defaultNumber)
+        ∙ ap some (group-flat t 32 (lit< tt) g (λ n f j i. rows-at n f t 32 j (lit< tt) i ∙ ap (λ d. at (getD (rowsOf f (t .rules) d) 32 []) j) e ∙ ap (λ l. at l j) (rowsOf-default f (t .rules) g))
         (ap length (a .0 .ranges) ∙ sym one) (omega arith) (b .0 .few))
 
 -- by the array of a table its conversion
 pub conversion-flat : (t : Table) (u : List ℕ) → Shaped t → Narrow t →
-    flatConversion (loadedWords t) (length (t .rules)) (isSome (t .default)) u ≡ convert t u
+    flatConversion (loadedWords t) (length (t .rules)) (mode t) u ≡ convert t u
 conversion-flat t u s w = ap (λ b. convert b u) (table-flat t s w) ∙ convert-bare t u

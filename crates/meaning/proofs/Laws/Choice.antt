@@ -1,7 +1,7 @@
 -- Definition 7 chooses the shortest rule that fits, then the lowest, and no other choice is both.
 -- By recursion on the number of rules looked at: each rule that fits is weighed against the choice so far.
-use mathlib.Core.Bool.{Bool, true, false, _||_, not}
-use mathlib.Core.List.{List}
+use mathlib.Core.Bool.{Bool, true, false, _||_, not, cond}
+use mathlib.Core.List.{List, [], _∷_}
 use mathlib.Core.Option.{Option, none, some}
 use mathlib.Core.Path.{_≡_, refl, sym, ap, subst}
 use Prim.Native.Nat.{ℕ, zero, suc, min, _≤_, _<_}
@@ -10,9 +10,9 @@ use native.Mathlib.Omega.{arith}
 use lib.Dec.{T, eqb, ltb, eqb→eq, eqb-refl, ltb→lt, nltb→le}
 use lib.ListN.{length, take, length-take}
 use Rattle.lists.proofs.Laws.Tests.{and-left, and-right, both, of-cond}
-use Rattle.meaning.specs.Table.{Table, ruleAt}
+use Rattle.meaning.specs.Table.{Mode, Absent, Single, Paired, Table, mode, ruleAt, defaultNumber, pairNumber}
 use Rattle.meaning.specs.Value.{fitsWord}
-use Rattle.meaning.specs.Meaning.{fits, better, best, orDefault, choose}
+use Rattle.meaning.specs.Meaning.{fits, better, best, startsPair, orDefault, choose}
 use Rattle.meaning.proofs.Laws.Prefix.{fitsWord-length}
 use Rattle.meaning.proofs.Laws.Shape.{Shaped}
 use Rattle.meaning.proofs.Laws.Groups.{rule-shaped}
@@ -105,7 +105,35 @@ best-chosen t zero u = λ r h f. omega arith
 best-chosen t (suc r) u = add-rule t u r (best t r u) (fits (ruleAt t r) u) (fits-facts t r u) (facts-fit t r u) (best-chosen t r u)
 
 -- what is the choice among all rules is chosen, or the default for none
-pub choose-is : (t : Table) (u : List ℕ) (b : Option ℕ) → Chosen t (length (t .rules)) u b → choose t u ≡ orDefault t b
+pub choose-is : (t : Table) (u : List ℕ) (b : Option ℕ) → Chosen t (length (t .rules)) u b → choose t u ≡ orDefault (mode t) u b
 unfolding choose
 choose-is t u b c =
-    let n = length (t .rules) in ap (orDefault t) (chosen-unique t n u (best t n u) b (best-chosen t n u) c)
+    let n = length (t .rules) in ap (orDefault (mode t) u) (chosen-unique t n u (best t n u) b (best-chosen t n u) c)
+
+-- a number chosen is a rule's or the default's, or for a pair the marked default's
+pub data Numbered (t : Table) (u : List ℕ) (n : ℕ) : Type 0 where
+  plain : n < pairNumber → Numbered t u n
+  paired : n ≡ pairNumber → mode t ≡ Paired → T (startsPair u) → Numbered t u n
+
+pub choose-number : (t : Table) → Shaped t → (u : List ℕ) (n : ℕ) → choose t u ≡ some n → Numbered t u n
+unfolding choose
+choose-number t s u n p = from (best t (length (t .rules)) u) (best-chosen t (length (t .rules)) u) p
+  where
+    by-pair : (b : Bool) → startsPair u ≡ b → mode t ≡ Paired → some (cond b pairNumber defaultNumber) ≡ some n → Numbered t u n
+    by-pair true e m q = let i : 33 ≡ n = cc in paired (sym i) m (rw e tt)
+    by-pair false e m q = let i : 32 ≡ n = cc in plain (omega arith)
+
+    by-mode : (m : Mode) → mode t ≡ m → orDefault m u none ≡ some n → Numbered t u n
+    by-mode Absent e q = let z : _≡_ {A = ℕ} 0 1 = cc in absurd (omega arith)
+    by-mode Single e q = let i : 32 ≡ n = cc in plain (omega arith)
+    by-mode Paired e q = by-pair (startsPair u) refl e q
+
+    from : (b : Option ℕ) → Chosen t (length (t .rules)) u b → orDefault (mode t) u b ≡ some n → Numbered t u n
+    from none c q = by-mode (mode t) refl q
+    from (some r) c q = let i : r ≡ n = cc in let few : length (t .rules) ≤ 32 = s .few-rules in let l : r < length (t .rules) = c .0 in plain (omega arith)
+
+-- such a pair is there
+pub pair-there : (u : List ℕ) → T (startsPair u) → 2 ≤ length u
+pair-there [] h = absurd h
+pair-there (x ∷ []) h = absurd h
+pair-there (x ∷ (y ∷ u)) h = omega arith

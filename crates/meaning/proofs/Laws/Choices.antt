@@ -8,23 +8,32 @@ use Prim.Native.Nat.{ℕ, zero, suc, pred, _-_, min, _≤_, _<_}
 use native.Mathlib.Omega.{arith}
 use lib.Dec.{T, not-T, eqb, ltb, eqb→eq, lt→ltb}
 use lib.ListN.{length, take, length-take}
-use Rattle.lists.specs.Lists.{isSome}
 use Rattle.lists.proofs.Laws.Tests.{of-T, of-not, of-cond}
-use Rattle.meaning.specs.Table.{Characters, Table, group, defaultNumber}
-use Rattle.meaning.specs.Meaning.{Conversion, best, orDefault, choose, convertBy, convertFrom, convert}
-use Rattle.meaning.specs.Choices.{Choice, theRule, theDefault, theStop, choiceOf, atStart, chosenIn, chosenAt, Live, Dead}
+use Rattle.meaning.specs.Table.{Characters, Table, group, defaultNumber, Mode, Absent, Single, Paired, mode, present, pairNumber}
+use Rattle.meaning.specs.Meaning.{Conversion, best, orDefault, choose, convertBy, convertFrom, convert, startsPair}
+use Rattle.meaning.specs.Choices.{Choice, theRule, theDefault, theStop, choiceOf, atStart, chosenIn, chosenAt, Live, Dead, thePair}
 use Rattle.meaning.proofs.Laws.Shape.{Shaped}
-use Rattle.meaning.proofs.Laws.Groups.{rule-shaped, group-rule, default-size}
+use Rattle.meaning.proofs.Laws.Groups.{rule-shaped, group-rule, group-pair, default-size}
 use Rattle.meaning.proofs.Laws.Choice.{Chosen, best-chosen, choose-is}
 
--- the choice among the rules that fit, or what stands in for it
-abbrev pub choiceBy : Table → Option ℕ → Choice
-choiceBy t none = cond (isSome (t .default)) theDefault theStop
-choiceBy t (some r) = theRule r
+-- what stands in for a rule where none fits u
+abbrev pub fallen : Mode → List ℕ → Choice
+fallen Absent u = theStop
+fallen Single u = theDefault
+fallen Paired u = cond (startsPair u) thePair theDefault
+
+-- the choice among the rules that fit u, or what stands in for it
+abbrev pub choiceBy : Table → List ℕ → Option ℕ → Choice
+choiceBy t u none = fallen (mode t) u
+choiceBy t u (some r) = theRule r
+
+-- the choice that a group's number tells
+abbrev numbered : ℕ → Choice
+numbered n = cond (eqb n pairNumber) thePair (cond (eqb n defaultNumber) theDefault (theRule n))
 
 -- at the first place
 module _ (t : Table) (s : Shaped t) (x : ℕ) (u : List ℕ) where
-  first-some : (n : ℕ) → choose t (x ∷ u) ≡ some n → 1 ≤ group t n .size → chosenAt t (x ∷ u) 0 ≡ some (cond (eqb n defaultNumber) theDefault (theRule n))
+  first-some : (n : ℕ) → choose t (x ∷ u) ≡ some n → 1 ≤ group t n .size → chosenAt t (x ∷ u) 0 ≡ some (numbered n)
   unfolding chosenAt chosenIn convert convertFrom choiceOf
   first-some n p h =
       let k = group t n .size in
@@ -36,18 +45,27 @@ module _ (t : Table) (s : Shaped t) (x : ℕ) (u : List ℕ) where
   unfolding chosenAt chosenIn convert convertFrom
   first-none p = rw p
 
-  by-default : (b : Bool) → isSome (t .default) ≡ b → choose t (x ∷ u) ≡ cond b (some defaultNumber) none → chosenAt t (x ∷ u) 0 ≡ some (cond b theDefault theStop)
-  by-default true d p = first-some defaultNumber p (rw (default-size t s d) (omega arith))
-  by-default false d p = first-none p
+  single : present (mode t) ≡ true → choose t (x ∷ u) ≡ some defaultNumber → chosenAt t (x ∷ u) 0 ≡ some theDefault
+  single d p = first-some defaultNumber p (rw (default-size t s d) (omega arith))
 
-  pub first-choice : (b : Option ℕ) → Chosen t (length (t .rules)) (x ∷ u) b → chosenAt t (x ∷ u) 0 ≡ some (choiceBy t b)
-  first-choice none c = by-default (isSome (t .default)) refl (choose-is t (x ∷ u) none c)
+  by-pair : (b : Bool) → mode t ≡ Paired → choose t (x ∷ u) ≡ some (cond b pairNumber defaultNumber) → chosenAt t (x ∷ u) 0 ≡ some (cond b thePair theDefault)
+  by-pair true d p = first-some pairNumber p (rw (group-pair t) (omega arith))
+  by-pair false d p = single (ap present d) p
+
+  by-mode : (m : Mode) → mode t ≡ m → choose t (x ∷ u) ≡ orDefault m (x ∷ u) none → chosenAt t (x ∷ u) 0 ≡ some (fallen m (x ∷ u))
+  by-mode Absent d p = first-none p
+  by-mode Single d p = single (ap present d) p
+  by-mode Paired d p = by-pair (startsPair (x ∷ u)) d p
+
+  pub first-choice : (b : Option ℕ) → Chosen t (length (t .rules)) (x ∷ u) b → chosenAt t (x ∷ u) 0 ≡ some (choiceBy t (x ∷ u) b)
+  first-choice none c = by-mode (mode t) refl (choose-is t (x ∷ u) none c)
   first-choice (some r) c =
       let h : r < length (t .rules) = c .0 in
       let few : length (t .rules) ≤ 32 = s .few-rules in
       let size : 1 ≤ group t r .size = rw (group-rule t r s h) (rule-shaped t s r h .positive) in
       let other : eqb r defaultNumber ≡ false = of-not (eqb r 32) (not-T (eqb r 32) (λ e. let z : r ≡ 32 = eqb→eq r 32 e in omega arith)) in
-      first-some r (choose-is t (x ∷ u) (some r) c) size ∙ ap (λ b. some (cond b theDefault (theRule r))) other
+      let no-pair : eqb r pairNumber ≡ false = of-not (eqb r 33) (not-T (eqb r 33) (λ e. let z : r ≡ 33 = eqb→eq r 33 e in omega arith)) in
+      first-some r (choose-is t (x ∷ u) (some r) c) size ∙ rw (no-pair, other)
 
 -- a rule that is chosen anywhere is the choice for some rest of an input
 
@@ -56,15 +74,17 @@ record Picked (t : Table) (r : ℕ) : Type 0 where
   characters : Characters rest
   number : choose t rest ≡ some r
   other : T (eqb r defaultNumber) → ⊥
+  no-pair : T (eqb r pairNumber) → ⊥
 
 not-stop : (p r : ℕ) → atStart p theStop ≡ some (theRule r) → ⊥
 not-stop zero r e = let z : _≡_ {A = ℕ} 0 1 = cc in omega arith
 not-stop (suc p) r e = let z : _≡_ {A = ℕ} 0 1 = cc in omega arith
 
-at-rule : (n p r : ℕ) (b : Bool) → atStart p (cond b theDefault (theRule n)) ≡ some (theRule r) → (b ≡ false) × (n ≡ r)
-at-rule n zero r true e = let z : _≡_ {A = ℕ} 0 1 = cc in absurd (omega arith)
-at-rule n zero r false e = (refl, cc)
-at-rule n (suc p) r b e = let z : _≡_ {A = ℕ} 0 1 = cc in absurd (omega arith)
+at-rule : (n p r : ℕ) (a b : Bool) → atStart p (cond a thePair (cond b theDefault (theRule n))) ≡ some (theRule r) → (a ≡ false) × (b ≡ false) × (n ≡ r)
+at-rule n zero r true b e = let z : _≡_ {A = ℕ} 0 1 = cc in absurd (omega arith)
+at-rule n zero r false true e = let z : _≡_ {A = ℕ} 0 1 = cc in absurd (omega arith)
+at-rule n zero r false false e = (refl, refl, cc)
+at-rule n (suc p) r a b e = let z : _≡_ {A = ℕ} 0 1 = cc in absurd (omega arith)
 
 module _ (t : Table) (r : ℕ) where
   abbrev Says : Conversion → Type 0
@@ -76,12 +96,13 @@ module _ (t : Table) (r : ℕ) where
   picked-by z c f h (some n) q p =
       let k = group t n .size in
       let m = length (take k z) in
-      of-cond (λ o. o ≡ some (theRule r) → Picked t r) (ltb p m) (atStart p (cond (eqb n defaultNumber) theDefault (theRule n))) (chosenIn (f (pred k) .log) (f (pred k) .closed) (p - m))
-      (λ _ e. let g = at-rule n p r (eqb n defaultNumber) e in record {
+      of-cond (λ o. o ≡ some (theRule r) → Picked t r) (ltb p m) (atStart p (numbered n)) (chosenIn (f (pred k) .log) (f (pred k) .closed) (p - m))
+      (λ _ e. let g = at-rule n p r (eqb n pairNumber) (eqb n defaultNumber) e in record {
         rest = z;
         characters = c;
-        number = q ∙ ap some (g .1);
-        other = λ v. subst T (ap (λ i. eqb i defaultNumber) (sym (g .1)) ∙ g .0) v;
+        number = q ∙ ap some (g .2);
+        other = λ v. subst T (ap (λ i. eqb i defaultNumber) (sym (g .2)) ∙ g .1) v;
+        no-pair = λ v. subst T (ap (λ i. eqb i pairNumber) (sym (g .2)) ∙ g .0) v;
       })
       (λ _. h (pred k) (p - m))
 
@@ -91,13 +112,18 @@ module _ (t : Table) (r : ℕ) where
   picked-from (suc k) (x ∷ u) c = picked-from k u (c .1)
   picked-from zero (x ∷ u) c = picked-by (x ∷ u) c (λ k. convertFrom t k u) (λ k. picked-from k u (c .1)) (choose t (x ∷ u)) refl
 
-  or-rule : (o : Option ℕ) → orDefault t o ≡ some r → (T (eqb r defaultNumber) → ⊥) → o ≡ some r
-  or-rule (some b) e n = e
-  or-rule none e n = absurd (go (isSome (t .default)) e)
+  or-rule : (u : List ℕ) (o : Option ℕ) → orDefault (mode t) u o ≡ some r → (T (eqb r defaultNumber) → ⊥) → (T (eqb r pairNumber) → ⊥) → o ≡ some r
+  or-rule u (some b) e n n′ = e
+  or-rule u none e n n′ = absurd (go (mode t) e)
     where
-      go : (b : Bool) → cond b (some defaultNumber) none ≡ some r → ⊥
-      go true e = let z : 32 ≡ r = cc in n (rw (sym z) tt)
-      go false e = let z : _≡_ {A = ℕ} 0 1 = cc in omega arith
+      pick : (b : Bool) → some (cond b pairNumber defaultNumber) ≡ some r → ⊥
+      pick true e = let z : 33 ≡ r = cc in n′ (rw (sym z) tt)
+      pick false e = let z : 32 ≡ r = cc in n (rw (sym z) tt)
+
+      go : (m : Mode) → orDefault m u none ≡ some r → ⊥
+      go Absent e = let z : _≡_ {A = ℕ} 0 1 = cc in omega arith
+      go Single e = pick false e
+      go Paired e = pick (startsPair u) e
 
   -- a live rule is the choice among the rules that fit some characters
   pub live-chosen : Live t r → (z : List ℕ) × Characters z × Chosen t (length (t .rules)) z (some r)
@@ -106,7 +132,7 @@ module _ (t : Table) (r : ℕ) where
       let p = picked-from 0 (l .input) (l .characters) (l .place) (l .chosen) in
       let z = p .rest in
       let n = length (t .rules) in
-      (z, p .characters, subst (Chosen t n z) (or-rule (best t n z) (p .number) (p .other)) (best-chosen t n z))
+      (z, p .characters, subst (Chosen t n z) (or-rule z (best t n z) (p .number) (p .other) (p .no-pair)) (best-chosen t n z))
 
   -- "A number that no rule has is dead."
   pub number-dead : length (t .rules) ≤ r → Dead t r

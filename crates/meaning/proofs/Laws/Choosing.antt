@@ -15,7 +15,7 @@ use lib.Seq.{drop-cons}
 use Rattle.lists.specs.Lists.{tabFrom}
 use Rattle.lists.proofs.Laws.Tests.{and-true}
 use Rattle.lists.proofs.Laws.Sets.{getD-tab, length-tab, tab-next, tab-end, tab-start}
-use Rattle.meaning.specs.Table.{Range, Group, Table, within, inRanges, everyCharacter, ruleAt, defaultNumber}
+use Rattle.meaning.specs.Table.{Range, Group, Table, within, inRanges, everyCharacter, ruleAt, Mode, Absent, Single, Paired, mode}
 use Rattle.meaning.specs.Block.{at, blockSize}
 use Rattle.meaning.specs.Value.{fitsWord}
 use Rattle.meaning.specs.Meaning.{fits, better, best, orDefault, choose}
@@ -27,11 +27,18 @@ pub take-next : (u : List ℕ) (a n m : ℕ) → a < length u → n ≡ suc m �
 take-next u a n m h e = ap (λ k. take k (drop a u)) e ∙ ap (take (suc m)) (drop-cons u a 0 h) ∙ ap (λ k. at u a ∷ take m (drop k u)) (sym (add-one a))
 
 -- a rule read back
-pub rule-at : (loaded : List ℕ) (n : ℕ) (d : Bool) (r : ℕ) → r < n →
+pub rule-at : (loaded : List ℕ) (n : ℕ) (d : Mode) (r : ℕ) → r < n →
     ruleAt (tableAt loaded n d) r ≡ groupAt loaded r
 unfolding tableAt
 rule-at loaded n d r h =
     getD-tab (groupAt loaded) 0 n r (everyCharacter []) h ∙ ap (groupAt loaded) (zero-add r)
+
+-- and the mode
+pub mode-at : (loaded : List ℕ) (n : ℕ) (d : Mode) → mode (tableAt loaded n d) ≡ d
+unfolding tableAt
+mode-at loaded n Absent = refl
+mode-at loaded n Single = refl
+mode-at loaded n Paired = refl
 
 -- the character lies in a range of the place, from number k on
 module _ (loaded : List ℕ) (place c : ℕ) where
@@ -138,7 +145,7 @@ module _ (loaded : List ℕ) (g : ℕ) (u : List ℕ) (a : ℕ) where
       e ∙ sym (fits-word (groupAt loaded g) (drop a u) (λ e. length-drop a u ∙ f (eqb-true (at loaded (blockSize * g + 1)) 1 e)))
 
 -- the choice among the first rules, kept as two numbers: the rule and its length, or n and 9 for none
-module _ (loaded : List ℕ) (n : ℕ) (d : Bool) (u : List ℕ) where
+module _ (loaded : List ℕ) (n : ℕ) (d : Mode) (u : List ℕ) where
   abbrev table : Table
   table = tableAt loaded n d
 
@@ -186,14 +193,10 @@ module _ (loaded : List ℕ) (n : ℕ) (d : Bool) (u : List ℕ) where
         go (some x) k =
             rw (rule-size r h, rule-size x (k .1), lt-ltb (at loaded (blockSize * r)) (at loaded (blockSize * x)) (omega arith)) (refl, h, refl)
 
-  pub kept-choose : (b l : ℕ) → KeptOf n b l → choose table u ≡ cond (ltb b n) (some b) (cond d (some defaultNumber) none)
+  pub kept-choose : (b l : ℕ) → KeptOf n b l → choose table u ≡ cond (ltb b n) (some b) (orDefault d u none)
   unfolding choose tableAt
-  kept-choose b l k = ap (λ m. orDefault table (best table m u)) (length-tab (groupAt loaded) 0 n) ∙ go (best table n u) k
+  kept-choose b l k = rw (mode-at loaded n d) (ap (λ m. orDefault d u (best table m u)) (length-tab (groupAt loaded) 0 n) ∙ go (best table n u) k)
     where
-      go : (o : Option ℕ) → Kept o b l → orDefault table o ≡ cond (ltb b n) (some b) (cond d (some defaultNumber) none)
-      go none k = rw (le-ltb b n (omega arith)) (left d)
-        where
-          left : (d : Bool) → orDefault (tableAt loaded n d) none ≡ cond d (some defaultNumber) none
-          left true = refl
-          left false = refl
+      go : (o : Option ℕ) → Kept o b l → orDefault d u o ≡ cond (ltb b n) (some b) (orDefault d u none)
+      go none k = rw (le-ltb b n (omega arith)) refl
       go (some x) k = rw (lt-ltb b n (omega arith)) (ap some (sym (k .0)))

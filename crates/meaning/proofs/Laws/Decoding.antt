@@ -17,7 +17,7 @@ use Rattle.lists.specs.Decide.{allOf, select}
 use Rattle.lists.proofs.Laws.Tests.{holds, by-cases, and-assoc, and-true, test-eq, to-T, one-fails, select-here, select-next, select-last}
 use Rattle.lists.proofs.Laws.Each.{all-each, each-all}
 use Rattle.meaning.specs.Table.{isShift}
-use Rattle.meaning.specs.Record.{Record, rule, range, output, term, default, hexadecimal, zeros, decode}
+use Rattle.meaning.specs.Record.{Record, rule, range, output, term, default, hexadecimal, zeros, decode, markOf}
 
 -- the elements of a part
 
@@ -83,9 +83,9 @@ module _ (p b2 b3 b4 b5 b6 b7 : ℕ) where
   decode-term = rw (← zero-word b6 b7) (simp (and-assoc, and-true))
 
   pub decode-default : decode (5 ∷ p ∷ b2 ∷ b3 ∷ b4 ∷ b5 ∷ b6 ∷ b7 ∷ []) ≡
-      onlyIf (eqb p 0 ∷ zeros (b2 ∷ b3 ∷ []) ∷ zeros (b4 ∷ b5 ∷ []) ∷ zeros (b6 ∷ b7 ∷ []) ∷ []) default
+      onlyIf (leb p 1 ∷ zeros (b2 ∷ b3 ∷ []) ∷ zeros (b4 ∷ b5 ∷ []) ∷ zeros (b6 ∷ b7 ∷ []) ∷ []) (default (markOf (eqb p 1)))
   unfolding decode select allOf
-  decode-default = rw (← zero-first p) (simp (and-assoc, and-true))
+  decode-default = simp (and-assoc, and-true)
 
   pub decode-hexadecimal : decode (6 ∷ p ∷ b2 ∷ b3 ∷ b4 ∷ b5 ∷ b6 ∷ b7 ∷ []) ≡
       onlyIf (leb p 7 ∷ isShift b2 ∷ eqb b3 0 ∷ zeros (b4 ∷ b5 ∷ []) ∷ zeros (b6 ∷ b7 ∷ []) ∷ []) (hexadecimal p b2)
@@ -118,7 +118,7 @@ FittingRecord (rule k a) = (1 ≤ k) × (k ≤ 8)
 FittingRecord (range p r) = (p ≤ 7) × (r .lowest ≤ r .highest) × (r .highest < 65536)
 FittingRecord (output c) = c < 2 ^ 32
 FittingRecord (term p a) = (p ≤ 7) × (1 ≤ a) × (a < 65536)
-FittingRecord default = Unit {0}
+FittingRecord (default k) = Unit {0}
 FittingRecord (hexadecimal p shift) = (p ≤ 7) × T (isShift shift)
 
 abbrev IfRecord : Option Record → Type 0

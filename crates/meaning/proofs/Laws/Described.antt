@@ -5,7 +5,7 @@ use mathlib.Core.List.{List, [], _∷_, _++_, append-nil, append-assoc}
 use mathlib.Core.Option.{Option, none, some}
 use mathlib.Core.Logic.{_≢_}
 use mathlib.Core.Path.{_≡_, refl, sym, ap, subst, _∙_}
-use Prim.Native.Nat.{ℕ, zero, suc, _+_, _*_, _-_, _/_, _%_, _≤_, _<_}
+use Prim.Native.Nat.{ℕ, zero, suc, _+_, _*_, _/_, _%_, _≤_, _<_}
 use native.Mathlib.Nat.{mul-suc, div-add-mod}
 use native.Mathlib.Omega.{arith}
 use lib.Dec.{T, eqb, leb, ltb, nleb→lt, nltb→le, eqb→eq}
@@ -18,7 +18,7 @@ use Rattle.lists.proofs.Laws.Parts.{no-elements}
 use Rattle.lists.proofs.Laws.Reordered.{reordered-same}
 use Rattle.lists.proofs.Laws.Last.{lastD-snoc, last-atLast}
 use Rattle.meaning.specs.Refusal.{Outcome, refused, accepted}
-use Rattle.meaning.specs.Table.{Range, Output, sum, digit, Group, Table, everyCharacter, groups}
+use Rattle.meaning.specs.Table.{Range, Output, sum, digit, Group, Table, everyCharacter, groups, Mark, unmarked}
 use Rattle.meaning.specs.Record.{Record, rule, range, output, term, default, hexadecimal, decode}
 use Rattle.meaning.specs.Reader.{signed, Reading, unread, latest, coefficientAt, repeated, ranging, misplaced, skipping, tooMany, changeLatest, addRange, addTerm, changeRanges, changeOutputs, addOutput, taken, readOne, readRecords, readEnd, readRules}
 use Rattle.meaning.specs.WellFormed.{WellFormedRange, Rising, WellFormedPosition, Signed, WellFormedOutput, WellFormedRule, WellFormedDefault, WellFormed}
@@ -83,23 +83,23 @@ pub record Formed (g : Group) : Type 0 where
   pub outputs : Each (WellFormedOutput (g .size)) (g .outputs)
 
 abbrev FormedTable : Table → Type 0
-FormedTable t = Each Formed (t .rules) × Each Formed (optional (t .default))
+FormedTable t = Each Formed (t .rules) × Each Formed (optional (t .default)) × (t .default ≡ none → t .mark ≡ unmarked)
 
-formed-latest : (f : Group → Group) (rs : List Group) (d : Option Group) → (Formed (top rs d) → Formed (f (top rs d))) →
-    FormedTable (record { rules = rs; default = d }) → FormedTable (changeLatest f (record { rules = rs; default = d }))
+formed-latest : (f : Group → Group) (rs : List Group) (d : Option Group) (m : Mark) → (Formed (top rs d) → Formed (f (top rs d))) →
+    FormedTable (record { rules = rs; default = d; mark = m }) → FormedTable (changeLatest f (record { rules = rs; default = d; mark = m }))
 unfolding changeLatest
-formed-latest f rs none h w = (last-each Formed f (everyCharacter []) rs h (w .0), tt)
-formed-latest f rs (some g) h w = (w .0, (h (w .1 .0), tt))
+formed-latest f rs none m h w = (last-each Formed f (everyCharacter []) rs h (w .0), tt, w .2)
+formed-latest f rs (some g) m h w = (w .0, (h (w .1 .0), tt), λ e. absurd (let z : _≡_ {A = ℕ} 0 1 = cc in omega arith))
 
-some-latest : (f : Group → Group) (rs : List Group) (d : Option Group) → 1 ≤ length (rs ++ optional d) → 1 ≤ length (groups (changeLatest f (record { rules = rs; default = d })))
+some-latest : (f : Group → Group) (rs : List Group) (d : Option Group) (m : Mark) → 1 ≤ length (rs ++ optional d) → 1 ≤ length (groups (changeLatest f (record { rules = rs; default = d; mark = m })))
 unfolding changeLatest
-some-latest f rs none n = rw length-append (omega (arith, atLast-length f rs, length-append {A = Group} rs []))
-some-latest f rs (some g) n = rw length-append (omega arith)
+some-latest f rs none m n = rw length-append (omega (arith, atLast-length f rs, length-append {A = Group} rs []))
+some-latest f rs (some g) m n = rw length-append (omega arith)
 
-none-latest : (f : Group → Group) (rs : List Group) (d : Option Group) → d ≡ none → changeLatest f (record { rules = rs; default = d }) .default ≡ none
+none-latest : (f : Group → Group) (rs : List Group) (d : Option Group) (m : Mark) → d ≡ none → changeLatest f (record { rules = rs; default = d; mark = m }) .default ≡ none
 unfolding changeLatest
-none-latest f rs none e = refl
-none-latest f rs (some g) e = absurd (let z : _≡_ {A = ℕ} 0 1 = cc in omega arith)
+none-latest f rs none m e = refl
+none-latest f rs (some g) m e = absurd (let z : _≡_ {A = ℕ} 0 1 = cc in omega arith)
 
 -- what has been read
 pub record Described (s : Reading) (b : List ℕ) : Type 0 where
@@ -140,6 +140,7 @@ unfolding latest
 added-described s o kind e begun ended sums r f b w =
     let rs = s .table .rules in
     let d = s .table .default in
+    let k = s .table .mark in
     let g = top rs d in
     let more : List Output → List Output = λ os. os ++ (o ∷ []) in
     let change = changeOutputs more in
@@ -147,12 +148,12 @@ added-described s o kind e begun ended sums r f b w =
     let listed : (v : List ℕ) → Joined OutputRecords (g .outputs) v → Joined OutputRecords (more (g .outputs)) (v ++ e) =
     λ v j. joined-snoc OutputRecords (g .outputs) o v e j r in
     record {
-      records = table-latest change e rs d some-group (rule-outputs more e g listed) (λ _. default-outputs more e g listed) b (w .records);
-      formed = formed-latest change rs d
+      records = table-latest change e rs d k some-group (rule-outputs more e g listed) (λ _. default-outputs more e g listed k) b (w .records);
+      formed = formed-latest change rs d k
           (λ v. record { positions = v .positions; outputs = each-append (WellFormedOutput (g .size)) (g .outputs) (o ∷ []) (v .outputs) (f, tt) }) (w .formed);
-      begun = λ _. some-latest change rs d some-group;
+      begun = λ _. some-latest change rs d k some-group;
       bare = λ t. absurd (ended t);
-      writing = λ t. rw (top-changed change rs d some-group, length-append, lastD-snoc (sum (pos 0) []) (g .outputs) o) (omega arith, sums t);
+      writing = λ t. rw (top-changed change rs d k some-group, length-append, lastD-snoc (sum (pos 0) []) (g .outputs) o) (omega arith, sums t);
     }
 
 taken-described : (s : Reading) (x : Record) → FittingRecord x → T (not (misplaced s x)) → T (not (skipping s x)) → T (not (tooMany s x)) →
@@ -163,8 +164,8 @@ taken-described s (rule k a) f m n o b w =
     let rs = s .table .rules in
     let none-yet = is-none (s .table .default) m in
     record {
-      records = table-rule g (bytesOf (rule k a)) rs (s .table .default) none-yet (record { written = []; outputs = refl; bytes = refl }) b (w .records);
-      formed = (each-append Formed rs (g ∷ []) (w .formed .0) (record { positions = tt; outputs = tt }, tt), tt);
+      records = table-rule g (bytesOf (rule k a)) rs (s .table .default) (s .table .mark) unmarked none-yet (record { written = []; outputs = refl; bytes = refl }) b (w .records);
+      formed = (each-append Formed rs (g ∷ []) (w .formed .0) (record { positions = tt; outputs = tt }, tt), tt, λ _. refl);
       begun = λ _. rw (append-nil, length-append) (omega arith);
       bare = λ _. (ap (λ h. h .outputs) (lastD-snoc (everyCharacter []) rs g), refl);
       writing = λ t. absurd t;
@@ -172,6 +173,7 @@ taken-described s (rule k a) f m n o b w =
 taken-described s (range p r) f m n o b w =
     let rs = s .table .rules in
     let d = s .table .default in
+    let k = s .table .mark in
     let g = top rs d in
     let ps = g .ranges in
     let t1 = not (ranging s) in
@@ -194,13 +196,13 @@ taken-described s (range p r) f m n o b w =
     (nleb→lt (r .lowest) (lastD r last .highest) (and-fails (eqb (suc p) (length ps)) _ (u4 .1) same), neqb→ne (length last) 4 (and-fails (eqb (suc p) (length ps)) _ o same)) in
     record {
       records =
-          table-latest change (bytesOf (range p r)) rs d some-group
+          table-latest change (bytesOf (range p r)) rs d k some-group
           (rule-ranges p r g (bare .0) l2 l1)
           (λ t. absurd (subst (λ o. T (isSome o)) (bare .1) t))
           b (w .records);
-      formed = formed-latest change rs d (λ v. record { positions = positions-more p r ps here above (v .positions); outputs = v .outputs }) (w .formed);
-      begun = λ _. some-latest change rs d some-group;
-      bare = λ _. (ap (λ h. h .outputs) (top-changed change rs d some-group) ∙ bare .0, none-latest change rs d (bare .1));
+      formed = formed-latest change rs d k (λ v. record { positions = positions-more p r ps here above (v .positions); outputs = v .outputs }) (w .formed);
+      begun = λ _. some-latest change rs d k some-group;
+      bare = λ _. (ap (λ h. h .outputs) (top-changed change rs d k some-group) ∙ bare .0, none-latest change rs d k (bare .1));
       writing = λ t. absurd t;
     }
 taken-described s (output c) f m n o b w =
@@ -213,6 +215,7 @@ taken-described s (hexadecimal p shift) f m n o b w =
 taken-described s (term p a) f m n o b w =
     let rs = s .table .rules in
     let d = s .table .default in
+    let k = s .table .mark in
     let g = top rs d in
     let last = lastD (sum (pos 0) []) (g .outputs) in
     let z = signed 16 a in
@@ -231,22 +234,22 @@ taken-described s (term p a) f m n o b w =
     let listed : (v : List ℕ) → Joined OutputRecords (g .outputs) v → Joined OutputRecords (more (g .outputs)) (v ++ e) =
     λ v. joined-last OutputRecords (addTerm p z) e (sum (pos 0) []) (g .outputs) v some-output (term-written p z last is-sum (signed-named 16 half-16 a (f .2) (f .1)) new) in
     record {
-      records = table-latest change e rs d some-group (rule-outputs more e g listed) (λ _. default-outputs more e g listed) b (w .records);
-      formed = formed-latest change rs d
+      records = table-latest change e rs d k some-group (rule-outputs more e g listed) (λ _. default-outputs more e g listed k) b (w .records);
+      formed = formed-latest change rs d k
           (λ v. record {
             positions = v .positions;
             outputs = last-each (WellFormedOutput (g .size)) (addTerm p z) (sum (pos 0) []) (g .outputs) (term-formed (g .size) p a last f below) (v .outputs);
           }) (w .formed);
-      begun = λ _. some-latest change rs d some-group;
+      begun = λ _. some-latest change rs d k some-group;
       bare = λ t. absurd t;
-      writing = λ _. rw (top-changed change rs d some-group, atLast-length, last-atLast (addTerm p z) (sum (pos 0) []) (g .outputs)) (some-output, term-sum p z last is-sum);
+      writing = λ _. rw (top-changed change rs d k some-group, atLast-length, last-atLast (addTerm p z) (sum (pos 0) []) (g .outputs)) (some-output, term-sum p z last is-sum);
     }
-taken-described s default f m n o b w =
+taken-described s (default k) f m n o b w =
     let rs = s .table .rules in
     let none-yet = is-none (s .table .default) m in
     record {
-      records = table-default (everyCharacter []) (bytesOf default) rs (s .table .default) none-yet (record { written = []; outputs = refl; bytes = refl }) b (w .records);
-      formed = (w .formed .0, (every-formed, tt));
+      records = table-default (everyCharacter []) (bytesOf (default k)) rs (s .table .default) (s .table .mark) k none-yet (record { written = []; outputs = refl; bytes = refl }) b (w .records);
+      formed = (w .formed .0, (every-formed, tt), λ e. absurd (let z : _≡_ {A = ℕ} 0 1 = cc in omega arith));
       begun = λ _. rw length-append (omega arith);
       bare = λ t. absurd t;
       writing = λ t. absurd t;
@@ -298,7 +301,7 @@ unfolding unread
 unread-described =
     record {
       records = record { first = []; last = []; rules = refl; default = refl; bytes = refl };
-      formed = (tt, tt);
+      formed = (tt, tt, λ _. refl);
       begun = λ d. absurd (d refl);
       bare = λ t. absurd t;
       writing = λ t. absurd t;
@@ -364,6 +367,7 @@ read-well-formed b t y e =
       rules = each-weaken (λ g. ShapedGroup g × Formed g) WellFormedRule (t .rules) rule-formed (each-both ShapedGroup Formed (t .rules) (s .rules) (f .0));
       default = each-weaken (λ g. ShapedDefault g × Formed g) WellFormedDefault (optional (t .default)) default-formed
           (each-both ShapedDefault Formed (optional (t .default)) (s .default) (f .1));
+      no-mark = f .2;
     }
 
 -- a well formed table has the shape that the laws above ask for

@@ -175,7 +175,7 @@ appended b p shift s s′ y lead on =
     let t : TakenTo s (hexadecimal p shift) s′ = rw same at (back .2) in
     let begun = neqb→ne (s .kind) 0 (or-none (eqb (s .kind) 0) (leb (latest s .size) p) (t .0) .0) in
     ap (λ r. latest r .outputs) (t .1)
-    ∙ ap (λ g. g .outputs) (top-changed (changeOutputs (λ os. os ++ (digit p shift ∷ []))) (s .table .rules) (s .table .default) (group-begun b s y (lead .0) (lead .1) begun))
+    ∙ ap (λ g. g .outputs) (top-changed (changeOutputs (λ os. os ++ (digit p shift ∷ []))) (s .table .rules) (s .table .default) (s .table .mark) (group-begun b s y (lead .0) (lead .1) begun))
 
 -- a term behind it
 
@@ -184,7 +184,7 @@ known-term (described.rule k a h l) e = absurd (omega arith)
 known-term (described.range p r h w) e = absurd (omega arith)
 known-term (described.output c s) e = absurd (omega arith)
 known-term (described.term x h s d) e = (_, _, read-term (x .position) (x .coefficient) h s d)
-known-term described.default e = absurd (omega arith)
+known-term (described.default m) e = absurd (omega arith)
 known-term (described.hexadecimal p shift h s) e = absurd (omega arith)
 
 term-3 : (s : Reading) (p a : ℕ) → s .kind ≡ 6 → readOne s (some (term p a)) ≡ refused 3

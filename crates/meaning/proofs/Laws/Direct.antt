@@ -21,7 +21,7 @@ use Rattle.meaning.specs.Records.{Bytes}
 use Rattle.meaning.specs.Claims.{Keeps, CheckAccepts, CheckRefuses, ValuesTested, DirectAnswers, Lengths, DirectAccepts, DirectRefuses}
 use Rattle.meaning.proofs.Laws.Refusal.{by-then, accepted-not, accepted-same, refused-same}
 use Rattle.meaning.proofs.Laws.Seven.{safe-table, table-safe}
-use Rattle.meaning.proofs.Laws.Reading.{recordRefusals, read-filled, read-refused}
+use Rattle.meaning.proofs.Laws.Reading.{recordRefusals, read-filled, read-refused, read-shaped}
 use Rattle.meaning.proofs.Laws.Described.{read-records, read-well-formed}
 use Rattle.meaning.proofs.Laws.Readable.{described-read}
 use Rattle.meaning.proofs.Laws.Numbered.{rules-length, rules-unknown, rules-no-rule, rules-for-good}
@@ -189,7 +189,7 @@ module _ (b input buffer : List ℕ) where
   whole-by (refused k) h = refl
   whole-by (accepted t) h =
       let room : expansion t * length input ≤ length buffer = h .2 in
-      over-whole (meaningText t input) buffer (omega (arith, text-short t input))
+      over-whole (meaningText t input) buffer (omega (arith, text-short t (read-shaped b t (table-rules b t (h .0))) input))
 
   accepting-by : (o : Outcome Table) (a : Converted) → Bytes b → Admitted b (length input) (length buffer) o → directBy o input buffer .answer ≡ accepted a →
       (t : Table) × Keeps b t × Lengths t input buffer

@@ -16,11 +16,11 @@ use Rattle.lists.specs.Lists.{Each}
 use Rattle.lists.specs.Decide.{allOf}
 use Rattle.lists.proofs.Laws.Tests.{of-cond, of-T, holds, to-allOf, by-cases, neqb→ne}
 use Rattle.lists.proofs.Laws.Each.{all-each}
-use Rattle.meaning.specs.Table.{Range, isShift}
-use Rattle.meaning.specs.Record.{Record, rule, range, output, term, default, hexadecimal, zeros, decode}
+use Rattle.meaning.specs.Table.{Range, isShift, Mark, unmarked, marked}
+use Rattle.meaning.specs.Record.{Record, rule, range, output, term, default, hexadecimal, markOf, zeros, decode}
 use Rattle.meaning.specs.Reader.{signed}
 use Rattle.meaning.specs.WellFormed.{WellFormedRange, Signed}
-use Rattle.meaning.specs.Records.{Bytes, littleEndian, twosComplement, ruleRecord, rangeRecord, outputRecord, termRecord, defaultRecord, digitRecord}
+use Rattle.meaning.specs.Records.{Bytes, littleEndian, twosComplement, ruleRecord, rangeRecord, outputRecord, termRecord, markByte, defaultRecord, digitRecord}
 use Rattle.meaning.proofs.Laws.Decoding.{onlyIf, accepts, decode-rule, decode-range, decode-output, decode-term, decode-default, decode-hexadecimal, decode-unknown}
 
 -- numbers of bytes
@@ -108,7 +108,7 @@ bytesOf (rule k a) = ruleRecord k a
 bytesOf (range p r) = rangeRecord p r
 bytesOf (output c) = outputRecord (signed 32 c)
 bytesOf (term p a) = termRecord (record { position = p; coefficient = signed 16 a })
-bytesOf default = defaultRecord
+bytesOf (default m) = defaultRecord m
 bytesOf (hexadecimal p shift) = digitRecord p shift
 
 pub no-record : {x : Record} → none ≡ some x → ⊥
@@ -122,6 +122,13 @@ all-zero bs t = all-each (eqb 0) bs (λ x. eqb→eq 0 x) t
 
 flag : (x : ℕ) → x ≤ 1 → x ≡ cond (eqb x 1) 1 0
 flag x h = of-cond (λ y. x ≡ y) (eqb x 1) 1 0 (λ t. eqb→eq x 1 t) (λ t. let d : x ≢ 1 = neqb→ne x 1 t in omega arith)
+
+mark-flag : (x : ℕ) → x ≤ 1 → x ≡ markByte (markOf (eqb x 1))
+mark-flag x h = go (eqb x 1) refl
+  where
+    go : (b : Bool) → eqb x 1 ≡ b → x ≡ markByte (markOf b)
+    go true e = eqb→eq x 1 (rw e tt)
+    go false e = let d : x ≢ 1 = neqb→ne x 1 (rw e tt) in omega arith
 
 module _ (p b2 b3 b4 b5 b6 b7 : ℕ) (y : Record) where
   abbrev Of : ℕ → Type 0
@@ -175,11 +182,11 @@ module _ (p b2 b3 b4 b5 b6 b7 : ℕ) (y : Record) where
   of-default : Of 5
   of-default s e =
       let o = only-some _ _ y (sym (decode-default p b2 b3 b4 b5 b6 b7) ∙ e) in
-      let zero-1 : p ≡ 0 = eqb→eq p 0 (o .0 .0) in
+      let mark-1 : p ≡ markByte (markOf (eqb p 1)) = mark-flag p (leb→le p 1 (o .0 .0)) in
       let zeros-2 : Each (λ x. 0 ≡ x) (b2 ∷ b3 ∷ []) = all-zero (b2 ∷ b3 ∷ []) (o .0 .1 .0) in
       let zeros-4 : Each (λ x. 0 ≡ x) (b4 ∷ b5 ∷ []) = all-zero (b4 ∷ b5 ∷ []) (o .0 .1 .1 .0) in
       let zeros-6 : Each (λ x. 0 ≡ x) (b6 ∷ b7 ∷ []) = all-zero (b6 ∷ b7 ∷ []) (o .0 .1 .1 .1 .0) in
-      let bytes : 5 ∷ p ∷ b2 ∷ b3 ∷ b4 ∷ b5 ∷ b6 ∷ b7 ∷ [] ≡ defaultRecord = cc in
+      let bytes : 5 ∷ p ∷ b2 ∷ b3 ∷ b4 ∷ b5 ∷ b6 ∷ b7 ∷ [] ≡ defaultRecord (markOf (eqb p 1)) = cc in
       bytes ∙ ap bytesOf (o .1)
 
   of-hexadecimal : Of 6
@@ -260,8 +267,9 @@ read-term p a h s d =
     decode-term p 0 0 (x % 256) (x / 256 % 256) 0 0
     ∙ rw (two-read x (bits-below 16 half-16 a s)) (only-if _ _ (le→leb p 7 h, (tt, (tt, (le→leb 1 x (bits-named 16 half-16 a s d), tt)))))
 
-pub read-default : decode defaultRecord ≡ some default
-read-default = decode-default 0 0 0 0 0 0 0 ∙ only-if _ _ (tt, (tt, (tt, (tt, tt))))
+pub read-default : (m : Mark) → decode (defaultRecord m) ≡ some (default m)
+read-default unmarked = decode-default 0 0 0 0 0 0 0 ∙ only-if _ _ (tt, (tt, (tt, (tt, tt))))
+read-default marked = decode-default 1 0 0 0 0 0 0 ∙ only-if _ _ (tt, (tt, (tt, (tt, tt))))
 
 pub read-hexadecimal : (p shift : ℕ) → p ≤ 7 → T (isShift shift) → decode (digitRecord p shift) ≡ some (hexadecimal p shift)
 read-hexadecimal p shift h s = decode-hexadecimal p shift 0 0 0 0 0 ∙ only-if _ _ (le→leb p 7 h, (s, (tt, (tt, (tt, tt)))))

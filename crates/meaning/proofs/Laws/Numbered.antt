@@ -15,7 +15,7 @@ use Rattle.lists.specs.Lists.{any}
 use Rattle.lists.proofs.Laws.Tests.{of-T, not-not, by-cases, select-here, ne→neqb, neqb→ne}
 use Rattle.lists.proofs.Laws.Each.{each-front, each-back}
 use Rattle.meaning.specs.Refusal.{Outcome, refused, accepted, andThen}
-use Rattle.meaning.specs.Table.{Group, Table}
+use Rattle.meaning.specs.Table.{Group, Table, Mark}
 use Rattle.meaning.specs.Record.{Record, rule, range, output, term, default, hexadecimal, decode}
 use Rattle.meaning.specs.Reader.{Reading, unread, changeLatest, taken, readOne, readRecords, LeadTo, readEnd, readRules}
 use Rattle.meaning.specs.Records.{Bytes, Known, recordAt}
@@ -30,7 +30,7 @@ known-read (described.rule k a h l) e = no-record (sym e ∙ read-rule k a h l)
 known-read (described.range p r h w) e = no-record (sym e ∙ read-range p r h w)
 known-read (described.output c s) e = no-record (sym e ∙ read-output c s)
 known-read (described.term x h s d) e = no-record (sym e ∙ read-term (x .position) (x .coefficient) h s d)
-known-read described.default e = no-record (sym e ∙ read-default)
+known-read (described.default m) e = no-record (sym e ∙ read-default m)
 known-read (described.hexadecimal p shift h s) e = no-record (sym e ∙ read-hexadecimal p shift h s)
 
 -- a record at fault
@@ -95,20 +95,20 @@ count s = length (s .table .rules)
 abbrev kindOf : List ℕ → ℕ
 kindOf r = getD r 0 0
 
-change-count : (f : Group → Group) (rs : List Group) (d : Option Group) → length (changeLatest f (record { rules = rs; default = d }) .rules) ≡ length rs
+change-count : (f : Group → Group) (rs : List Group) (d : Option Group) (m : Mark) → length (changeLatest f (record { rules = rs; default = d; mark = m }) .rules) ≡ length rs
 unfolding changeLatest
-change-count f rs none = atLast-length f rs
-change-count f rs (some g) = refl
+change-count f rs none m = atLast-length f rs
+change-count f rs (some g) m = refl
 
 -- a record that leaves the table without a rule is not one of a rule, and found it so
 taken-none : (s : Reading) (x : Record) → count (taken s x) ≡ 0 → (count s ≡ 0) × (kindOf (bytesOf x) ≢ 1)
 unfolding taken
 taken-none s (rule k a) e = absurd (omega (arith, length-append {A = Group} (s .table .rules) (record { size = k; anchored = a; ranges = []; outputs = [] } ∷ [])))
-taken-none s (range p r) e = (sym (change-count _ (s .table .rules) (s .table .default)) ∙ e, λ q. omega arith)
-taken-none s (output c) e = (sym (change-count _ (s .table .rules) (s .table .default)) ∙ e, λ q. omega arith)
-taken-none s (term p a) e = (sym (change-count _ (s .table .rules) (s .table .default)) ∙ e, λ q. omega arith)
-taken-none s default e = (e, λ q. omega arith)
-taken-none s (hexadecimal p shift) e = (sym (change-count _ (s .table .rules) (s .table .default)) ∙ e, λ q. omega arith)
+taken-none s (range p r) e = (sym (change-count _ (s .table .rules) (s .table .default) (s .table .mark)) ∙ e, λ q. omega arith)
+taken-none s (output c) e = (sym (change-count _ (s .table .rules) (s .table .default) (s .table .mark)) ∙ e, λ q. omega arith)
+taken-none s (term p a) e = (sym (change-count _ (s .table .rules) (s .table .default) (s .table .mark)) ∙ e, λ q. omega arith)
+taken-none s (default m) e = (e, λ q. omega arith)
+taken-none s (hexadecimal p shift) e = (sym (change-count _ (s .table .rules) (s .table .default) (s .table .mark)) ∙ e, λ q. omega arith)
 
 abbrev OneNone : List ℕ → Reading → Outcome Reading → Type 0
 OneNone r s (refused k) = Unit {0}

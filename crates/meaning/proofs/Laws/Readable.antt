@@ -18,7 +18,7 @@ use Rattle.lists.proofs.Laws.Each.{each-weaken}
 use Rattle.lists.proofs.Laws.Reordered.{reordered-sym, reordered-each}
 use Rattle.lists.proofs.Laws.Last.{lastD-snoc}
 use Rattle.meaning.specs.Refusal.{accepted, andThen}
-use Rattle.meaning.specs.Table.{Range, Output, sum, digit, Group, Table, everyCharacter, isShift}
+use Rattle.meaning.specs.Table.{Range, Output, sum, digit, Group, Table, everyCharacter, isShift, Mark, unmarked}
 use Rattle.meaning.specs.Record.{Record, rule, range, output, term, default, hexadecimal, decode}
 use Rattle.meaning.specs.Reader.{signed, Reading, unread, latest, repeated, unfilled, misplaced, skipping, tooMany, changeLatest, addRange, putAt, addTerm, changeRanges, changeOutputs, addOutput, taken, readOne, readRecords, readEnd, readRules}
 use Rattle.meaning.specs.WellFormed.{WellFormedRange, Rising, WellFormedPosition, Signed, WellFormedOutput, WellFormedRule, WellFormedDefault, WellFormed}
@@ -72,33 +72,33 @@ counted (next c {d = d} l e r) =
       rw (take-at c d 8 l, drop-at c d 8 l, e) (k .2),
     )
 
--- a reading whose last group is g: the default, or a rule
+-- a reading whose last group is g: the default, with its mark, or a rule
 
-abbrev pub holding : Bool → List Group → Group → Table
-holding true rs g = record { rules = rs; default = some g }
-holding false rs g = record { rules = rs ++ (g ∷ []); default = none }
+abbrev pub holding : Option Mark → List Group → Group → Table
+holding (some m) rs g = record { rules = rs; default = some g; mark = m }
+holding none rs g = record { rules = rs ++ (g ∷ []); default = none; mark = unmarked }
 
-abbrev pub at : Bool → List Group → Group → ℕ → Reading
+abbrev pub at : Option Mark → List Group → Group → ℕ → Reading
 at d rs g kind = record { table = holding d rs g; kind = kind }
 
-pub latest-at : (d : Bool) (rs : List Group) (g : Group) (kind : ℕ) → latest (at d rs g kind) ≡ g
+pub latest-at : (d : Option Mark) (rs : List Group) (g : Group) (kind : ℕ) → latest (at d rs g kind) ≡ g
 unfolding latest
-latest-at true rs g kind = refl
-latest-at false rs g kind = lastD-snoc (everyCharacter []) rs g
+latest-at (some m) rs g kind = refl
+latest-at none rs g kind = lastD-snoc (everyCharacter []) rs g
 
 pub atLast-snoc : {A : Type 0} (f : A → A) (xs : List A) (x : A) → atLast f (xs ++ (x ∷ [])) ≡ xs ++ (f x ∷ [])
 atLast-snoc f [] x = refl
 atLast-snoc f (y ∷ []) x = refl
 atLast-snoc f (y ∷ (z ∷ zs)) x = ap (λ l. y ∷ l) (atLast-snoc f (z ∷ zs) x)
 
-pub change-at : (f : Group → Group) (d : Bool) (rs : List Group) (g : Group) → changeLatest f (holding d rs g) ≡ holding d rs (f g)
+pub change-at : (f : Group → Group) (d : Option Mark) (rs : List Group) (g : Group) → changeLatest f (holding d rs g) ≡ holding d rs (f g)
 unfolding changeLatest
-change-at f true rs g = refl
-change-at f false rs g = λ i. record { rules = atLast-snoc f rs g i; default = none }
+change-at f (some m) rs g = refl
+change-at f none rs g = λ i. record { rules = atLast-snoc f rs g i; default = none; mark = unmarked }
 
 -- ranges
 
-module _ (d : Bool) (gs : List Group) where
+module _ (d : Option Mark) (gs : List Group) where
   range-read : (g : Group) (kind p : ℕ) (r : Range) → T (eqb kind 1 || eqb kind 2) → g .size ≤ 8 → p < g .size →
       p ≤ length (g .ranges) → length (g .ranges) ≤ suc p →
       (suc p ≡ length (g .ranges) → (lastD r (lastD [] (g .ranges)) .highest < r .lowest) × (length (lastD [] (g .ranges)) ≢ 4)) →
@@ -139,7 +139,7 @@ add-beside r ps qs =
     (of-not (eqb (length ps) (length (ps ++ (qs ∷ [])))) (ne→neqb (length ps) (length (ps ++ (qs ∷ []))) differ))
     ∙ atLast-snoc (λ rs. rs ++ (r ∷ [])) ps qs
 
-module _ (d : Bool) (gs : List Group) (k : ℕ) (small : k ≤ 8) (anchored : Bool) where
+module _ (d : Option Mark) (gs : List Group) (k : ℕ) (small : k ≤ 8) (anchored : Bool) where
   -- the group with the ranges read so far
   abbrev ranged : List (List Range) → Group
   ranged ps = record { size = k; anchored = anchored; ranges = ps; outputs = [] }
@@ -184,7 +184,7 @@ module _ (d : Bool) (gs : List Group) (k : ℕ) (small : k ≤ 8) (anchored : Bo
 -- output characters and their terms
 
 -- the group with the output characters read so far; its ranges are all there
-module _ (d : Bool) (gs : List Group) (k : ℕ) (small : k ≤ 8) (anchored : Bool) (ranges : List (List Range)) (full : length ranges ≡ k) where
+module _ (d : Option Mark) (gs : List Group) (k : ℕ) (small : k ≤ 8) (anchored : Bool) (ranges : List (List Range)) (full : length ranges ≡ k) where
   abbrev writing : List Output → Group
   writing os = record { size = k; anchored = anchored; ranges = ranges; outputs = os }
 
@@ -274,7 +274,7 @@ module _ (d : Bool) (gs : List Group) (k : ℕ) (small : k ≤ 8) (anchored : Bo
 -- groups
 
 abbrev between : List Group → ℕ → Reading
-between gs kind = record { table = record { rules = gs; default = none }; kind = kind }
+between gs kind = record { table = record { rules = gs; default = none; mark = unmarked }; kind = kind }
 
 rule-read : (gs : List Group) (kind : ℕ) (g : Group) (b : List ℕ) → T (not (unfilled (between gs kind))) → length gs < 32 → WellFormedRule g → RuleRecords g b →
     (kind′ : ℕ) × T (not (unfilled (between (gs ++ (g ∷ [])) kind′))) × Reads (between gs kind) b (between (gs ++ (g ∷ [])) kind′)
@@ -282,11 +282,11 @@ unfolding misplaced skipping tooMany taken
 rule-read gs kind g b u l w r =
     let k = g .size in
     let a = g .anchored in
-    let here : Reads (between gs kind) (ruleRecord k a) (at false gs (ranged false gs k (w .short) a []) 1) =
+    let here : Reads (between gs kind) (ruleRecord k a) (at none gs (ranged none gs k (w .short) a []) 1) =
     one (between gs kind) _ (ruleRecord k a) (rule k a) refl (read-rule k a (w .long) (w .short)) tt u (ne→neqb (length gs) 32 (λ e. omega arith)) refl in
-    let mid = positions-read false gs k (w .short) a [] (g .ranges) 1 tt (omega (arith, w .places)) (w .positions) in
-    let rest = outputs-read false gs k (w .short) a (g .ranges) (w .places) [] (g .outputs) (r .written) (mid .0) (kind-some (mid .0) (mid .1)) (omega (arith, w .few-outputs)) (w .outputs) (r .outputs) in
-    (rest .0, filled false gs k (w .short) a (g .ranges) (w .places) (g .outputs) (rest .0), moved (sym (r .bytes)) refl (then (then here (mid .2)) (rest .1)))
+    let mid = positions-read none gs k (w .short) a [] (g .ranges) 1 tt (omega (arith, w .places)) (w .positions) in
+    let rest = outputs-read none gs k (w .short) a (g .ranges) (w .places) [] (g .outputs) (r .written) (mid .0) (kind-some (mid .0) (mid .1)) (omega (arith, w .few-outputs)) (w .outputs) (r .outputs) in
+    (rest .0, filled none gs k (w .short) a (g .ranges) (w .places) (g .outputs) (rest .0), moved (sym (r .bytes)) refl (then (then here (mid .2)) (rest .1)))
   where
     kind-some : (j : ℕ) → T (eqb j 1 || eqb j 2) → j ≢ 0
     kind-some j t e = or-cases (eqb j 1) (eqb j 2) t (λ u. omega (arith, eqb→eq j 1 u)) (λ u. omega (arith, eqb→eq j 2 u))
@@ -304,23 +304,25 @@ rules-read gs (g ∷ rs) kind b u l w j =
       moved (sym (j .4)) (ap (λ y. between y (rest .0)) join) (then (here .2) (rest .2)),
     )
 
-abbrev after : List Group → Option Group → ℕ → Reading
-after gs d kind = record { table = record { rules = gs; default = d }; kind = kind }
+abbrev after : List Group → Option Group → Mark → ℕ → Reading
+after gs d m kind = record { table = record { rules = gs; default = d; mark = m }; kind = kind }
 
-default-read : (gs : List Group) (d : Option Group) (kind : ℕ) (b : List ℕ) → T (not (unfilled (between gs kind))) → Each WellFormedDefault (optional d) → Joined DefaultRecords (optional d) b →
-    (kind′ : ℕ) × T (not (unfilled (after gs d kind′))) × Reads (between gs kind) b (after gs d kind′)
+default-read : (gs : List Group) (d : Option Group) (m : Mark) (kind : ℕ) (b : List ℕ) → (d ≡ none → m ≡ unmarked) → T (not (unfilled (between gs kind))) → Each WellFormedDefault (optional d) → Joined (DefaultRecords m) (optional d) b →
+    (kind′ : ℕ) × T (not (unfilled (after gs d m kind′))) × Reads (between gs kind) b (after gs d m kind′)
 unfolding misplaced skipping tooMany taken
-default-read gs none kind b u w j = (kind, u, moved (sym j) refl stay)
-default-read gs (some g) kind b u w j =
+default-read gs none m kind b k u w j =
+    let same : between gs kind ≡ after gs none m kind = ap (λ y. after gs none y kind) (sym (k refl)) in
+    (kind, subst (λ y. T (not (unfilled y))) same u, moved (sym j) same stay)
+default-read gs (some g) m kind b k u w j =
     let ranges = everyCharacter [] .ranges in
-    let r : DefaultRecords g (j .0) = j .2 in
+    let r : DefaultRecords m g (j .0) = j .2 in
     let one-place : 1 ≤ 8 = omega arith in
-    let here : Reads (between gs kind) defaultRecord (at true gs (everyCharacter []) 5) =
-    one (between gs kind) _ defaultRecord default refl read-default tt u tt refl in
-    let rest = outputs-read true gs 1 one-place false ranges refl [] (g .outputs) (r .written) 5 (λ e. omega arith) (omega (arith, w .0 .few-outputs)) (w .0 .outputs) (r .outputs) in
-    let same : at true gs (everyCharacter (g .outputs)) (rest .0) ≡ after gs (some g) (rest .0) = ap (λ y. after gs (some y) (rest .0)) (sym (w .0 .acts)) in (
+    let here : Reads (between gs kind) (defaultRecord m) (at (some m) gs (everyCharacter []) 5) =
+    one (between gs kind) _ (defaultRecord m) (default m) refl (read-default m) tt u tt refl in
+    let rest = outputs-read (some m) gs 1 one-place false ranges refl [] (g .outputs) (r .written) 5 (λ e. omega arith) (omega (arith, w .0 .few-outputs)) (w .0 .outputs) (r .outputs) in
+    let same : at (some m) gs (everyCharacter (g .outputs)) (rest .0) ≡ after gs (some g) m (rest .0) = ap (λ y. after gs (some y) m (rest .0)) (sym (w .0 .acts)) in (
       rest .0,
-      subst (λ y. T (not (unfilled y))) same (filled true gs 1 one-place false ranges refl (g .outputs) (rest .0)),
+      subst (λ y. T (not (unfilled y))) same (filled (some m) gs 1 one-place false ranges refl (g .outputs) (rest .0)),
       moved (sym (j .4 ∙ ap (λ y. j .0 ++ y) (j .3) ∙ append-nil (j .0) ∙ r .bytes)) same (then here (rest .1)),
     )
 
@@ -332,8 +334,8 @@ described-read b t r w =
     let few : length (t .rules) ≤ 32 = w .few-rules in
     let some-rule : 1 ≤ length (t .rules) = w .some-rule in
     let rules = rules-read [] (t .rules) 0 (r .first) tt (omega arith) (w .rules) (r .rules) in
-    let last = default-read (t .rules) (t .default) (rules .0) (r .last) (rules .1) (w .default) (r .default) in
-    let s = after (t .rules) (t .default) (last .0) in
+    let last = default-read (t .rules) (t .default) (t .mark) (rules .0) (r .last) (w .no-mark) (rules .1) (w .default) (r .default) in
+    let s = after (t .rules) (t .default) (t .mark) (last .0) in
     let all : Reads unread b s = moved (sym (r .bytes)) refl (then (rules .2) (last .2)) in
     let count = counted all in
     let whole : length b % 8 ≡ 0 = ap (λ n. n % 8) (count .1) ∙ mul-mod-right 8 (count .0) in

@@ -14,7 +14,7 @@ use Rattle.lists.specs.Lists.{any, Each, atLast, lastD, isSome, orElse, optiona
 use Rattle.lists.proofs.Laws.Tests.{of-T, not-not, or-none, or-cases, of-cond, holds, by-cases, neqb→ne}
 use Rattle.lists.proofs.Laws.Each.{each-append, each-weaken, each-both, each-atLast}
 use Rattle.meaning.specs.Refusal.{Outcome, refused, accepted}
-use Rattle.meaning.specs.Table.{Range, Output, sum, digit, Group, Table, everyCharacter, isShift}
+use Rattle.meaning.specs.Table.{Range, Output, sum, digit, Group, Table, everyCharacter, isShift, Mark}
 use Rattle.meaning.specs.Record.{Record, rule, range, output, term, default, hexadecimal, decode}
 use Rattle.meaning.specs.Reader.{signed, Reading, unread, latest, repeated, ranging, unfilled, misplaced, skipping, tooMany, changeLatest, addRange, addTerm, changeRanges, changeOutputs, taken, readOne, readRecords, readEnd, readRules}
 use Rattle.meaning.specs.Answered.{EndsApart}
@@ -100,7 +100,7 @@ all-full s k t = go (s .table .default) (ranging s) k t
     rs : List Group
     rs = s .table .rules
 
-    go : (d : Option Group) (b : Bool) → Kept b (record { rules = rs; default = d }) → T (not (b && ltb (length (top rs d .ranges)) (top rs d .size))) → Each Full rs
+    go : (d : Option Group) (b : Bool) → Kept b (record { rules = rs; default = d; mark = s .table .mark }) → T (not (b && ltb (length (top rs d .ranges)) (top rs d .size))) → Each Full rs
     go d false k t = k .ended
     go none true k t = before-last Full (everyCharacter []) rs (k .ended .0) (nltb→le (length (top rs none .ranges)) (top rs none .size) t)
     go (some g) true k t = absurd (k .ended .1)
@@ -110,18 +110,18 @@ all-full s k t = go (s .table .default) (ranging s) k t
 outputs-begun : (h : List Output → List Output) (g : Group) → (Outputs (g .size) (g .outputs) → Outputs (g .size) (h (g .outputs))) → Begun g → Begun (changeOutputs h g)
 outputs-begun h g f b = record { positive = b .positive; small = b .small; places = b .places; outputs = f (b .outputs); filled = b .filled }
 
-outputs-kept : (h : List Output → List Output) (b : Bool) (rs : List Group) (d : Option Group) → Kept b (record { rules = rs; default = d }) → Each Full rs →
+outputs-kept : (h : List Output → List Output) (b : Bool) (rs : List Group) (d : Option Group) (m : Mark) → Kept b (record { rules = rs; default = d; mark = m }) → Each Full rs →
     (Outputs (top rs d .size) (top rs d .outputs) → Outputs (top rs d .size) (h (top rs d .outputs))) →
-    Kept false (changeLatest (changeOutputs h) (record { rules = rs; default = d }))
+    Kept false (changeLatest (changeOutputs h) (record { rules = rs; default = d; mark = m }))
 unfolding changeLatest
-outputs-kept h b rs none k e f =
+outputs-kept h b rs none m k e f =
     record {
       few = let l : length rs ≤ 32 = k .few in omega (arith, atLast-length (changeOutputs h) rs);
       rules = last-each Begun (changeOutputs h) (everyCharacter []) rs (outputs-begun h (top rs none) f) (k .rules);
       default = tt;
       ended = each-atLast Full (changeOutputs h) rs (λ g x. x) e;
     }
-outputs-kept h b rs (some d) k e f =
+outputs-kept h b rs (some d) m k e f =
     record {
       few = k .few;
       rules = k .rules;
@@ -170,10 +170,10 @@ range-begun p r g o l m b =
       filled = addRange-filled p r (g .ranges) o (b .filled);
     }
 
-range-kept : (p : ℕ) (r : Range) (rs : List Group) (d : Option Group) → Ordered r → p < top rs d .size → p ≤ length (top rs d .ranges) →
-    Kept true (record { rules = rs; default = d }) → Kept true (changeLatest (changeRanges (addRange p r)) (record { rules = rs; default = d }))
+range-kept : (p : ℕ) (r : Range) (rs : List Group) (d : Option Group) (z : Mark) → Ordered r → p < top rs d .size → p ≤ length (top rs d .ranges) →
+    Kept true (record { rules = rs; default = d; mark = z }) → Kept true (changeLatest (changeRanges (addRange p r)) (record { rules = rs; default = d; mark = z }))
 unfolding changeLatest
-range-kept p r rs none o l m k =
+range-kept p r rs none z o l m k =
     let f = changeRanges (addRange p r) in
     record {
       few = let n : length rs ≤ 32 = k .few in omega (arith, atLast-length f rs);
@@ -181,7 +181,7 @@ range-kept p r rs none o l m k =
       default = tt;
       ended = (before-atLast Full f rs (k .ended .0), tt);
     }
-range-kept p r rs (some d) o l m k = absurd (k .ended .1)
+range-kept p r rs (some d) z o l m k = absurd (k .ended .1)
 
 -- one record
 
@@ -192,7 +192,7 @@ Fields (some (rule k a)) = (1 ≤ k) × (k ≤ 8)
 Fields (some (range p r)) = Ordered r
 Fields (some (output c)) = Unit {0}
 Fields (some (term p a)) = Unit {0}
-Fields (some default) = Unit {0}
+Fields (some (default k)) = Unit {0}
 Fields (some (hexadecimal p shift)) = T (isShift shift)
 
 decode-fields : (b : List ℕ) → Fields (decode b)
@@ -232,22 +232,22 @@ taken-kept s (range p r) f m n o h =
     let b = leb (g .size) p in
     let c = ltb (suc p) (length ps) in
     let t = or-none a b (or-none (a || b) c (or-none (a || b || c) _ m .0) .0) in
-    range-kept p r (s .table .rules) (s .table .default) f (nleb→lt (g .size) p (t .1)) (nltb→le (length ps) p n)
+    range-kept p r (s .table .rules) (s .table .default) (s .table .mark) f (nleb→lt (g .size) p (t .1)) (nltb→le (length ps) p n)
     (subst (λ b. Kept b (s .table)) (of-T (ranging s) (not-not (ranging s) (t .0))) h)
 taken-kept s (output c) f m n o h =
     let g = top (s .table .rules) (s .table .default) in
-    outputs-kept _ (ranging s) (s .table .rules) (s .table .default) h (all-full s h n) (output-more _ (g .size) (g .outputs) (omega arith) o)
+    outputs-kept _ (ranging s) (s .table .rules) (s .table .default) (s .table .mark) h (all-full s h n) (output-more _ (g .size) (g .outputs) (omega arith) o)
 taken-kept s (hexadecimal p shift) f m n o h =
     let g = top (s .table .rules) (s .table .default) in
     let below : p < g .size = nleb→lt (g .size) p (or-none (eqb (s .kind) 0) (leb (g .size) p) m .1) in
-    outputs-kept _ (ranging s) (s .table .rules) (s .table .default) h (all-full s h n) (output-more (digit p shift) (g .size) (g .outputs) (below, f) o)
+    outputs-kept _ (ranging s) (s .table .rules) (s .table .default) (s .table .mark) h (all-full s h n) (output-more (digit p shift) (g .size) (g .outputs) (below, f) o)
 taken-kept s (term p a) f m n o h =
     let g = top (s .table .rules) (s .table .default) in
     let kinds = eqb (s .kind) 3 || eqb (s .kind) 4 in
     let u = or-none (not kinds) (leb (g .size) p) (or-none (not kinds || leb (g .size) p) (repeated s p) m .0) in
-    outputs-kept (atLast (addTerm p (signed 16 a))) (ranging s) (s .table .rules) (s .table .default) h (all-full s h (ended-before s (not-not kinds (u .0))))
+    outputs-kept (atLast (addTerm p (signed 16 a))) (ranging s) (s .table .rules) (s .table .default) (s .table .mark) h (all-full s h (ended-before s (not-not kinds (u .0))))
     (term-more p (g .size) (signed 16 a) (g .outputs) (nleb→lt (g .size) p (u .1)))
-taken-kept s default f m n o h =
+taken-kept s (default k) f m n o h =
     record {
       few = h .few;
       rules = h .rules;
@@ -283,14 +283,14 @@ unread-kept = record { few = omega arith; rules = tt; default = tt; ended = tt }
 -- without a rule nothing is unfilled
 unfilled-rule : (s : Reading) → KeptReading s → T (unfilled s) → 1 ≤ length (s .table .rules)
 unfolding unfilled latest
-unfilled-rule s k t = go (s .table .rules) (s .table .default) (ranging s) k t
+unfilled-rule s k t = go (s .table .rules) (s .table .default) (s .table .mark) (ranging s) k t
   where
-    go : (rs : List Group) (d : Option Group) (b : Bool) → Kept b (record { rules = rs; default = d }) →
+    go : (rs : List Group) (d : Option Group) (m : Mark) (b : Bool) → Kept b (record { rules = rs; default = d; mark = m }) →
         T (b && ltb (length (top rs d .ranges)) (top rs d .size)) → 1 ≤ length rs
-    go (g ∷ rs) d b k t = omega arith
-    go [] d false k t = absurd t
-    go [] none true k t = absurd t
-    go [] (some g) true k t = absurd (k .ended .1)
+    go (g ∷ rs) d m b k t = omega arith
+    go [] d m false k t = absurd t
+    go [] none m true k t = absurd t
+    go [] (some g) m true k t = absurd (k .ended .1)
 
 pub ends-apart : EndsApart
 unfolding EndsApart

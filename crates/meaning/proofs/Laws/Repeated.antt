@@ -5,7 +5,7 @@ use mathlib.Core.List.{List, [], _∷_, _++_}
 use mathlib.Core.Logic.{_↔_}
 use mathlib.Core.Option.{Option, none, some}
 use mathlib.Core.Path.{_≡_, refl, sym, ap, subst, _∙_}
-use Prim.Native.Nat.{ℕ, suc, _+_, _*_, _≤_, _<_}
+use Prim.Native.Nat.{ℕ, suc, _*_, _≤_, _<_}
 use native.Mathlib.Decide.{ℕ-discrete}
 use native.Mathlib.Omega.{arith}
 use lib.Dec.{T, eqb, leb, eqb-refl}
@@ -150,7 +150,7 @@ output-begins b c s bytes lead =
     let change = changeOutputs (λ os. os ++ (o ∷ [])) in
     let begun = group-begun b before bytes (back .1 .0) (back .1 .1) (neqb→ne (before .kind) 0 (on .1 .0)) in
     let added : latest s .outputs ≡ latest before .outputs ++ (o ∷ []) =
-    ap (λ r. latest r .outputs) (on .1 .1) ∙ ap (λ g. g .outputs) (top-changed change (before .table .rules) (before .table .default) begun) in
+    ap (λ r. latest r .outputs) (on .1 .1) ∙ ap (λ g. g .outputs) (top-changed change (before .table .rules) (before .table .default) (before .table .mark) begun) in
     let last : lastOutput (latest s .outputs) ≡ o = ap lastOutput added ∙ lastD-snoc (sum (pos 0) []) (latest before .outputs) o in
     record {
       summing = (subst (λ os. 1 ≤ length os) (sym added) (rw length-append (omega arith)), subst IsSum (sym last) tt);

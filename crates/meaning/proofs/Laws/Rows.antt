@@ -14,7 +14,7 @@ use Rattle.lists.specs.Lists.{flatMap, pad, Each, atLast, lastD, isSome, option
 use Rattle.lists.proofs.Laws.Folds.{flatMap-append}
 use Rattle.lists.proofs.Laws.Each.{each-append, each-front, each-back}
 use Rattle.lists.proofs.Laws.Parts.{length-pad, getD-pad, getD-rows}
-use Rattle.meaning.specs.Table.{Group, Table, everyCharacter, groups}
+use Rattle.meaning.specs.Table.{Group, Table, everyCharacter, groups, Mark}
 use Rattle.meaning.specs.Reader.{changeLatest}
 use Rattle.meaning.specs.bridge.Flat.{rows}
 use Rattle.meaning.proofs.Laws.Reading.{top}
@@ -163,10 +163,10 @@ pad-rows f n (suc k) (x ∷ xs) =
 abbrev pub rowsOf : (Group → List ℕ) → List Group → Option Group → List (List ℕ)
 rowsOf f rs d = fill [] 32 (map f rs) ++ fill [] 1 (map f (optional d))
 
-pub rows-joined : (n : ℕ) (f : Group → List ℕ) (rs : List Group) (d : Option Group) →
-    rows n f (record { rules = rs; default = d }) ≡ joined n (rowsOf f rs d)
+pub rows-joined : (n : ℕ) (f : Group → List ℕ) (rs : List Group) (d : Option Group) (k : Mark) →
+    rows n f (record { rules = rs; default = d; mark = k }) ≡ joined n (rowsOf f rs d)
 unfolding rows
-rows-joined n f rs d =
+rows-joined n f rs d k =
     ap₂ _++_ (pad-rows f n 32 rs) (ap (λ m. pad m (flatMap (λ g. pad n (f g)) (optional d))) (omega (arith, suc-mul 0 n, zero-mul n)) ∙ pad-rows f n 1 (optional d))
     ∙ sym (flatMap-append (λ r. pad n r) (fill [] 32 (map f rs)) (fill [] 1 (map f (optional d))))
 
@@ -181,7 +181,7 @@ length-rows n f t = length-append (pad (32 * n) _) (pad n _) ∙ ap₂ _+_ (leng
 pub rows-at : (n : ℕ) (f : Group → List ℕ) (t : Table) (g j : ℕ) → g < 33 → j < n →
     getD (rows n f t) (n * g + j) 0 ≡ getD (getD (rowsOf f (t .rules) (t .default)) g []) j 0
 rows-at n f t g j h k =
-    ap (λ l. getD l (n * g + j) 0) (rows-joined n f (t .rules) (t .default))
+    ap (λ l. getD l (n * g + j) 0) (rows-joined n f (t .rules) (t .default) (t .mark))
     ∙ getD-rows (λ r. pad n r) n (length-pad n) (rowsOf f (t .rules) (t .default)) g j [] (subst (λ m. g < m) (sym (length-rowsOf f (t .rules) (t .default))) h) k
     ∙ getD-pad n (getD (rowsOf f (t .rules) (t .default)) g []) j k
 
@@ -229,22 +229,22 @@ each-joined P n (R ∷ Rs) p a = each-append P (pad n R) (joined n Rs) (subst (E
 
 -- P of each number, from P of each group's numbers
 pub each-rows : (P : ℕ → Type 0) (n : ℕ) (f : Group → List ℕ) (t : Table) → P 0 → Each (λ g. Each P (f g)) (groups t) → Each P (rows n f t)
-each-rows P n f t p a = subst (Each P) (sym (rows-joined n f (t .rules) (t .default))) (each-joined P n (rowsOf f (t .rules) (t .default)) p (each-rowsOf (Each P) f t tt a))
+each-rows P n f t p a = subst (Each P) (sym (rows-joined n f (t .rules) (t .default) (t .mark))) (each-joined P n (rowsOf f (t .rules) (t .default)) p (each-rowsOf (Each P) f t tt a))
 
 -- a table changed
 
-module _ (n : ℕ) (f : Group → List ℕ) (cs : List (ℕ × ℕ)) (inside : Each (λ c. c .0 < n) cs) (rs : List Group) (d : Option Group) where
+module _ (n : ℕ) (f : Group → List ℕ) (cs : List (ℕ × ℕ)) (inside : Each (λ c. c .0 < n) cs) (rs : List Group) (d : Option Group) (m m′ : Mark) where
   changed : (rs′ : List Group) (d′ : Option Group) (g : ℕ) (r old : List ℕ) → g < 33 → rowsOf f rs′ d′ ≡ set (rowsOf f rs d) g r → getD (rowsOf f rs d) g [] ≡ old →
-      pad n r ≡ stores (pad n old) cs → rows n f (record { rules = rs′; default = d′ }) ≡ stores (rows n f (record { rules = rs; default = d })) (shift (n * g) cs)
+      pad n r ≡ stores (pad n old) cs → rows n f (record { rules = rs′; default = d′; mark = m′ }) ≡ stores (rows n f (record { rules = rs; default = d; mark = m })) (shift (n * g) cs)
   changed rs′ d′ g r old h e o p =
-      rows-joined n f rs′ d′
+      rows-joined n f rs′ d′ m′
       ∙ ap (joined n) e
       ∙ joined-set n (rowsOf f rs d) g r cs (subst (λ m. g < m) (sym (length-rowsOf f rs d)) h) inside (p ∙ ap (λ l. stores (pad n l) cs) (sym o))
-      ∙ ap (λ l. stores l (shift (n * g) cs)) (sym (rows-joined n f rs d))
+      ∙ ap (λ l. stores l (shift (n * g) cs)) (sym (rows-joined n f rs d m))
 
   -- by one more rule
   pub rows-more : (g : Group) → length rs < 32 → pad n (f g) ≡ stores (pad n []) cs →
-      rows n f (record { rules = rs ++ (g ∷ []); default = d }) ≡ stores (rows n f (record { rules = rs; default = d })) (shift (n * length rs) cs)
+      rows n f (record { rules = rs ++ (g ∷ []); default = d; mark = m′ }) ≡ stores (rows n f (record { rules = rs; default = d; mark = m })) (shift (n * length rs) cs)
   rows-more g h p =
       changed (rs ++ (g ∷ [])) d (length rs) (f g) [] (omega arith)
       (ap (λ l. l ++ fill [] 1 (map f (optional d)))
@@ -254,7 +254,7 @@ module _ (n : ℕ) (f : Group → List ℕ) (cs : List (ℕ × ℕ)) (inside : E
 
   -- by a default, where there was none
   pub rows-default : (g : Group) → T (not (isSome d)) → pad n (f g) ≡ stores (pad n []) cs →
-      rows n f (record { rules = rs; default = some g }) ≡ stores (rows n f (record { rules = rs; default = d })) (shift (n * 32) cs)
+      rows n f (record { rules = rs; default = some g; mark = m′ }) ≡ stores (rows n f (record { rules = rs; default = d; mark = m })) (shift (n * 32) cs)
   rows-default g t p = changed rs (some g) 32 (f g) [] (omega arith) (at d) (empty d t) p
     where
       at : (d : Option Group) → rowsOf f rs (some g) ≡ set (rowsOf f rs d) 32 (f g)
@@ -274,16 +274,16 @@ abbrev pub numberOf : List Group → Option Group → ℕ
 numberOf rs d = cond (isSome d) 32 (pred (length rs))
 
 -- by a change of its last group
-pub rows-latest : (n : ℕ) (f : Group → List ℕ) (cs : List (ℕ × ℕ)) (inside : Each (λ c. c .0 < n) cs) (rs : List Group) (d : Option Group) (F : Group → Group) →
+pub rows-latest : (n : ℕ) (f : Group → List ℕ) (cs : List (ℕ × ℕ)) (inside : Each (λ c. c .0 < n) cs) (rs : List Group) (d : Option Group) (m : Mark) (F : Group → Group) →
     length rs ≤ 32 → Grouped rs d → pad n (f (F (top rs d))) ≡ stores (pad n (f (top rs d))) cs →
-    rows n f (changeLatest F (record { rules = rs; default = d })) ≡ stores (rows n f (record { rules = rs; default = d })) (shift (n * numberOf rs d) cs)
+    rows n f (changeLatest F (record { rules = rs; default = d; mark = m })) ≡ stores (rows n f (record { rules = rs; default = d; mark = m })) (shift (n * numberOf rs d) cs)
 unfolding changeLatest
-rows-latest n f cs inside rs none F h k p =
-    changed n f cs inside rs none (atLast F rs) none (pred (length rs)) (f (F (top rs none))) (f (top rs none)) (omega arith)
+rows-latest n f cs inside rs none m F h k p =
+    changed n f cs inside rs none m m (atLast F rs) none (pred (length rs)) (f (F (top rs none))) (f (top rs none)) (omega arith)
     (ap (λ l. l ++ fill [] 1 (map f [])) (fill-atLast [] f F (everyCharacter []) 32 rs k h)
     ∙ sym (set-append-left (fill [] 32 (map f rs)) ([] ∷ []) (pred (length rs)) (f (F (top rs none))) (rw length-fill (omega arith))))
     (rowsOf-front f rs none (pred (length rs)) (omega arith) ∙ fill-last [] f (everyCharacter []) 32 rs k h) p
-rows-latest n f cs inside rs (some g) F h k p =
-    changed n f cs inside rs (some g) rs (some (F g)) 32 (f (F g)) (f g) (omega arith)
+rows-latest n f cs inside rs (some g) m F h k p =
+    changed n f cs inside rs (some g) m m rs (some (F g)) 32 (f (F g)) (f g) (omega arith)
     (sym (set-at (fill [] 32 (map f rs)) (f g) [] (f (F g)) 32 (length-fill [] 32 (map f rs))))
     (rowsOf-default f rs g) p

@@ -1,6 +1,6 @@
 -- Refusal 7's test on the array of a table is the table's own test.
 -- What is read back of the array is the table, its coefficients filled up with zeros, which change no value; a digit is known by its sort.
-use mathlib.Core.Bool.{Bool, true, false, _&&_, cond}
+use mathlib.Core.Bool.{Bool, true, false, _&&_}
 use mathlib.Core.List.{List, [], _∷_, _++_, map}
 use mathlib.Core.Option.{Option, none, some}
 use mathlib.Core.Path.{_≡_, refl, sym, ap, ap₂, subst, _∙_}
@@ -15,12 +15,13 @@ use Rattle.lists.specs.Decide.{forBelow, implies}
 use Rattle.lists.proofs.Laws.Tests.{test-eq, below, to-below, and-true, and-assoc}
 use Rattle.lists.proofs.Laws.Each.{each-front, each-back, each-getD, all-each, each-all}
 use Rattle.lists.proofs.Laws.Parts.{getD-pad, getD-rows}
-use Rattle.meaning.specs.Table.{Range, Output, sum, digit, Group, Table, everyCharacter, ruleAt}
+use Rattle.meaning.specs.Table.{Range, Output, sum, digit, Group, Table, everyCharacter, ruleAt, Mark, unmarked, marked, modeOf, mode}
 use Rattle.meaning.specs.Reader.{signed}
 use Rattle.meaning.specs.Block.{at, word, bit, entry, block, blockSize, entrySize}
 use Rattle.meaning.specs.Value.{dot, value, extreme, safeOutput, safe}
-use Rattle.meaning.specs.bridge.Flat.{bits, highOf, highWords, loadedWords, highsFrom, patternAt, groupAt, tableAt, sumAt, safeOutputAt, safeGroupAt, safeAt}
+use Rattle.meaning.specs.bridge.Flat.{bits, highOf, highWords, loadedWords, highsFrom, patternAt, groupAt, tableAt, sumAt, safeOutputAt, safeGroupAt, safeAt, defaultBy}
 use Rattle.meaning.proofs.Laws.Shape.{Within, ShapedGroup, ShapedDefault, Shaped}
+use Rattle.meaning.proofs.Laws.Groups.{mode-present}
 use Rattle.meaning.proofs.Laws.Exact.{length-entry}
 use Rattle.meaning.proofs.Laws.Narrow.{Bits, NarrowOutput, NarrowGroup, Narrow}
 use Rattle.meaning.proofs.Laws.Rows.{fill, length-fill, rowsOf, rows-at, rowsOf-rule, rowsOf-default}
@@ -174,10 +175,10 @@ module _ (t : Table) (k : ℕ) (in-arrays : k < 33) (g : Group) (row : Row t k g
   group-safe = rw (in-block 2 (lit< tt)) (below-all (safeOutput (g .ranges)) (g .outputs) noOutput (safeOutputAt (loadedWords t) k) output-safe)
 
 pub safe-flat : (t : Table) → Shaped t → Narrow t →
-    safeAt (loadedWords t) (length (t .rules)) (isSome (t .default)) ≡ safe t
+    safeAt (loadedWords t) (length (t .rules)) (mode t) ≡ safe t
 unfolding safeAt safe tableAt
 safe-flat t s w =
-    ap₂ _&&_ (below-all testOf (t .rules) (everyCharacter []) (safeGroupAt (loadedWords t)) rule) (of (t .default) refl (s .default) (each-back NarrowGroup (t .rules) (optional (t .default)) w))
+    ap₂ _&&_ (below-all testOf (t .rules) (everyCharacter []) (safeGroupAt (loadedWords t)) rule) (ap (λ b. implies b (safeGroupAt (loadedWords t) 32)) (mode-present (t .default) (t .mark)) ∙ of (t .default) refl (s .default) (each-back NarrowGroup (t .rules) (optional (t .default)) w))
     ∙ sym (all-append testOf (t .rules) (optional (t .default)))
   where
     rule : (r : ℕ) → r < length (t .rules) → safeGroupAt (loadedWords t) r ≡ testOf (getD (t .rules) r (everyCharacter []))
@@ -188,8 +189,12 @@ safe-flat t s w =
         let ng = each-getD NarrowGroup (t .rules) r (everyCharacter []) (each-front NarrowGroup (t .rules) (optional (t .default)) w) h in
         group-safe t r (omega arith) g
         (λ n f j i. rows-at n f t r j (omega arith) i ∙ ap (λ l. at l j) (rowsOf-rule f (t .rules) (t .default) r (everyCharacter []) few h))
-        (sym (rule-at (loadedWords t) (length (t .rules)) (isSome (t .default)) r h) ∙ ap (λ x. ruleAt x r) (table-flat t s w) ∙ ruleAt-bare t r)
+        (sym (rule-at (loadedWords t) (length (t .rules)) (mode t) r h) ∙ ap (λ x. ruleAt x r) (table-flat t s w) ∙ ruleAt-bare t r)
         (sg .small) (sg .outputs) (sg .reaches) (ng .narrow)
+
+    there : (g : Group) (k : Mark) (h : Group) → h ≡ orElse (everyCharacter []) (defaultBy (modeOf (some g) k) h)
+    there g unmarked h = refl
+    there g marked h = refl
 
     of : (d : Option Group) → t .default ≡ d → Each ShapedDefault (optional d) → Each NarrowGroup (optional d) →
         implies (isSome d) (safeGroupAt (loadedWords t) 32) ≡ all testOf (optional d)
@@ -198,7 +203,8 @@ safe-flat t s w =
         let G = groupAt (loadedWords t) 32 in
         let one : g .size ≡ 1 = a .0 .size in
         let same : G ≡ bareGroup g =
-        sym (ap (λ o. orElse (everyCharacter []) (cond (isSome o) (some G) none)) e)
+        there g (t .mark) G
+        ∙ sym (ap (λ o. orElse (everyCharacter []) (defaultBy (modeOf o (t .mark)) G)) e)
         ∙ ap (λ x. orElse (everyCharacter []) (x .default)) (table-flat t s w)
         ∙ ap (λ o. orElse (everyCharacter []) (bareDefault o)) e in
         group-safe t 32 (lit< tt) g

@@ -15,7 +15,7 @@ use Rattle.lists.specs.Lists.{atLast, lastD}
 use Rattle.lists.proofs.Laws.Tests.{or-none, not-not, refute, neither, holds, by-cases}
 use Rattle.lists.proofs.Laws.Last.{last-atLast, last-changed, atLast-none, atLast-comm}
 use Rattle.meaning.specs.Refusal.{Outcome, refused, accepted, andThen}
-use Rattle.meaning.specs.Table.{Output, sum, digit, Group, everyCharacter}
+use Rattle.meaning.specs.Table.{Output, sum, digit, Group, everyCharacter, Mark}
 use Rattle.meaning.specs.Record.{Record, rule, range, output, term, default, hexadecimal, decode}
 use Rattle.meaning.specs.Reader.{Reading, latest, coefficientAt, repeated, misplaced, skipping, tooMany, changeLatest, signed, addTerm, changeOutputs, taken, readOne}
 use Rattle.meaning.specs.AnyOrder.{IsTerm}
@@ -41,28 +41,28 @@ group-comm : (p q a b : ℕ) → p ≢ q → (g : Group) → withTerm p a (withT
 group-comm p q a b n g =
     ap (withOutputs g) (atLast-comm (addTerm p (signed 16 a)) (addTerm q (signed 16 b)) (term-comm p q (signed 16 a) (signed 16 b) n) (g .outputs))
 
-change-comm : (f g : Group → Group) → ((x : Group) → f (g x) ≡ g (f x)) → (rs : List Group) (d : Option Group) →
-    changeLatest f (changeLatest g (record { rules = rs; default = d })) ≡ changeLatest g (changeLatest f (record { rules = rs; default = d }))
+change-comm : (f g : Group → Group) → ((x : Group) → f (g x) ≡ g (f x)) → (rs : List Group) (d : Option Group) (k : Mark) →
+    changeLatest f (changeLatest g (record { rules = rs; default = d; mark = k })) ≡ changeLatest g (changeLatest f (record { rules = rs; default = d; mark = k }))
 unfolding changeLatest
-change-comm f g h rs none = ap (λ l. record { rules = l; default = none }) (atLast-comm f g h rs)
-change-comm f g h rs (some x) = ap (λ y. record { rules = rs; default = some y }) (h x)
+change-comm f g h rs none k = ap (λ l. record { rules = l; default = none; mark = k }) (atLast-comm f g h rs)
+change-comm f g h rs (some x) k = ap (λ y. record { rules = rs; default = some y; mark = k }) (h x)
 
-change-none : (f : Group → Group) (rs : List Group) (d : Option Group) → f (top rs d) ≡ top rs d → changeLatest f (record { rules = rs; default = d }) ≡ record { rules = rs; default = d }
+change-none : (f : Group → Group) (rs : List Group) (d : Option Group) (k : Mark) → f (top rs d) ≡ top rs d → changeLatest f (record { rules = rs; default = d; mark = k }) ≡ record { rules = rs; default = d; mark = k }
 unfolding changeLatest
-change-none f rs none e = ap (λ l. record { rules = l; default = none }) (atLast-none f (everyCharacter []) rs e)
-change-none f rs (some x) e = ap (λ y. record { rules = rs; default = some y }) e
+change-none f rs none k e = ap (λ l. record { rules = l; default = none; mark = k }) (atLast-none f (everyCharacter []) rs e)
+change-none f rs (some x) k e = ap (λ y. record { rules = rs; default = some y; mark = k }) e
 
-change-top : (f : Group → Group) → f (everyCharacter []) ≡ everyCharacter [] → (rs : List Group) (d : Option Group) →
-    (let t = changeLatest f (record { rules = rs; default = d }) in top (t .rules) (t .default)) ≡ f (top rs d)
+change-top : (f : Group → Group) → f (everyCharacter []) ≡ everyCharacter [] → (rs : List Group) (d : Option Group) (k : Mark) →
+    (let t = changeLatest f (record { rules = rs; default = d; mark = k }) in top (t .rules) (t .default)) ≡ f (top rs d)
 unfolding changeLatest
-change-top f e rs none = last-changed f (everyCharacter []) e rs
-change-top f e rs (some x) = refl
+change-top f e rs none k = last-changed f (everyCharacter []) e rs
+change-top f e rs (some x) k = refl
 
 -- a reading with a term taken in
 
 pub taken-latest : (s : Reading) (p a : ℕ) → latest (taken s (term p a)) ≡ withTerm p a (latest s)
 unfolding taken latest
-taken-latest s p a = change-top (withTerm p a) refl (s .table .rules) (s .table .default)
+taken-latest s p a = change-top (withTerm p a) refl (s .table .rules) (s .table .default) (s .table .mark)
 
 taken-kind : (s : Reading) (p a : ℕ) → taken s (term p a) .kind ≡ 4
 unfolding taken
@@ -72,7 +72,7 @@ taken-comm : (s : Reading) (p q a b : ℕ) → p ≢ q → taken (taken s (term 
 unfolding taken
 taken-comm s p q a b n =
     ap (λ t. record { table = t; kind = 4 })
-    (change-comm (withTerm q b) (withTerm p a) (group-comm q p b a (λ e. n (sym e))) (s .table .rules) (s .table .default))
+    (change-comm (withTerm q b) (withTerm p a) (group-comm q p b a (λ e. n (sym e))) (s .table .rules) (s .table .default) (s .table .mark))
 
 -- the last output character
 abbrev pub lastOutput : List Output → Output
@@ -122,7 +122,7 @@ module _ (s : Reading) (p a : ℕ) where
   unfolding taken latest
   no-sum-taken n =
       ap (λ t. record { table = t; kind = 4 })
-      (change-none (withTerm p a) (s .table .rules) (s .table .default) (ap (withOutputs (top (s .table .rules) (s .table .default))) (n p z)))
+      (change-none (withTerm p a) (s .table .rules) (s .table .default) (s .table .mark) (ap (withOutputs (top (s .table .rules) (s .table .default))) (n p z)))
 
 -- whether a term may be taken
 
@@ -217,7 +217,7 @@ OnlyTerm q (some (rule k a)) = ⊥
 OnlyTerm q (some (range p r)) = ⊥
 OnlyTerm q (some (output c)) = ⊥
 OnlyTerm q (some (term p a)) = p ≡ q
-OnlyTerm q (some default) = ⊥
+OnlyTerm q (some (default k)) = ⊥
 OnlyTerm q (some (hexadecimal p shift)) = ⊥
 
 pub only-term : (x : List ℕ) → IsTerm x → OnlyTerm (getD x 1 0) (decode x)
@@ -239,7 +239,7 @@ that-term q (rule k a) h = absurd h
 that-term q (range p r) h = absurd h
 that-term q (output c) h = absurd h
 that-term q (term p a) h = (a, ap (λ p. term p a) h)
-that-term q default h = absurd h
+that-term q (default k) h = absurd h
 that-term q (hexadecimal p shift) h = absurd h
 
 module _ {B : Type 0} (s : Reading) (f : Reading → Outcome B) (o : B) where

@@ -1,6 +1,6 @@
 -- What a group writes, one sum after another, and a conversion, one choice after another.
 -- Each law is one turn of a loop: a sum by one coefficient, an output by one character, a conversion by one group.
-use mathlib.Core.Bool.{Bool, true, false}
+use mathlib.Core.Bool.{Bool, true, false, cond}
 use mathlib.Core.List.{List, [], _∷_, _++_, append-assoc, append-nil}
 use mathlib.Core.Logic.{_≢_}
 use mathlib.Core.Option.{Option, none, some}
@@ -16,18 +16,18 @@ use lib.Seq.{length-take-le, take-all, take-append-seam, drop-append-add, drop-c
 use Rattle.lists.specs.Lists.{tabFrom, orElse}
 use Rattle.lists.proofs.Laws.Tests.{of-cond}
 use Rattle.lists.proofs.Laws.Sets.{getD-tab, length-tab}
-use Rattle.meaning.specs.Table.{Table, everyCharacter, ruleAt, defaultNumber, group}
+use Rattle.meaning.specs.Table.{Table, everyCharacter, ruleAt, defaultNumber, group, Mode, Absent, Single, Paired, mode, present, pairNumber, pairGroup}
 use Rattle.meaning.specs.Value.{nibble, hexDigit}
 use Rattle.meaning.specs.Block.{at, wordSum, valueBy, entryValue, blockOutput, blockSize, entrySize}
-use Rattle.meaning.specs.Meaning.{best, orDefault, choose, Emission, textOf, covered, chosen, convertBy, convertFrom, convert}
-use Rattle.meaning.specs.bridge.Flat.{rangesAt, patternAt, groupAt, tableAt, flatText}
+use Rattle.meaning.specs.Meaning.{best, orDefault, choose, Emission, textOf, covered, chosen, convertBy, convertFrom, convert, startsPair}
+use Rattle.meaning.specs.bridge.Flat.{rangesAt, patternAt, groupAt, tableAt, flatText, flatWrite}
 use Rattle.meaning.specs.Refusal.{Outcome, accepted}
 use Rattle.meaning.specs.Direct.{Converted, over}
 use Rattle.meaning.proofs.Laws.Sums.{sum-from}
 use Rattle.meaning.proofs.Laws.Prefix.{fitsWord-length}
 use Rattle.meaning.proofs.Laws.Direct.{over-whole}
-use Rattle.meaning.proofs.Laws.Choosing.{rule-at}
-use Rattle.meaning.proofs.Laws.Choice.{Fits, Chosen, best-chosen}
+use Rattle.meaning.proofs.Laws.Choosing.{rule-at, mode-at}
+use Rattle.meaning.proofs.Laws.Choice.{Fits, Chosen, best-chosen, pair-there}
 
 -- the product of two numbers of 16 bits has 32
 pub product-fits : {a c : ℕ} → a < 65536 → c < 65536 → a * c < 2 ^ 32
@@ -147,16 +147,37 @@ unfolding convertFrom
 convert-end t [] h = refl
 convert-end t (c ∷ rest) h = absurd (omega arith)
 
+-- how many characters group g takes and writes, by the arrays; a pair has no block
+abbrev pub sizeAt : List ℕ → ℕ → ℕ
+sizeAt loaded g = cond (eqb g pairNumber) 2 (at loaded (blockSize * g))
+
+abbrev pub countAt : List ℕ → ℕ → ℕ
+countAt loaded g = cond (eqb g pairNumber) 2 (at loaded (blockSize * g + 2))
+
+pub plain-size : (loaded : List ℕ) (g : ℕ) → g < 33 → sizeAt loaded g ≡ at loaded (blockSize * g)
+plain-size loaded g h = rw (ne-eqb g 33 (omega arith))
+
+pub plain-count : (loaded : List ℕ) (g : ℕ) → g < 33 → countAt loaded g ≡ at loaded (blockSize * g + 2)
+plain-count loaded g h = rw (ne-eqb g 33 (omega arith))
+
+-- what is written is as long, of a word of that size
+pub written-count : (loaded : List ℕ) (g : ℕ) (w : List ℕ) → length w ≡ sizeAt loaded g → length (flatWrite loaded g w) ≡ countAt loaded g
+written-count loaded g w e = go (eqb g pairNumber) e
+  where
+    go : (b : Bool) → length w ≡ cond b 2 (at loaded (blockSize * g)) → length (cond b w (groupText loaded g w)) ≡ cond b 2 (at loaded (blockSize * g + 2))
+    go true e = e
+    go false e = output-length (drop (blockSize * g) loaded) w ∙ group-count loaded g
+
 -- group g was chosen at the place, and its characters are there
 pub record Taken (t : Table) (loaded input : List ℕ) (place g : ℕ) : Type 0 where
   pub choice : choose t (drop place input) ≡ some g
-  pub below : g < 33
-  pub size : group t g .size ≡ at loaded (blockSize * g)
-  pub positive : 1 ≤ at loaded (blockSize * g)
-  pub room : place + at loaded (blockSize * g) ≤ length input
+  pub below : g < 34
+  pub size : group t g .size ≡ sizeAt loaded g
+  pub positive : 1 ≤ sizeAt loaded g
+  pub room : place + sizeAt loaded g ≤ length input
 
 -- a rule of the table that fits has its block's size, and the rest is that long
-rule-size : (loaded : List ℕ) (rules : ℕ) (d : Bool) (r : ℕ) (rest : List ℕ) → rules ≤ 32 → r < rules →
+rule-size : (loaded : List ℕ) (rules : ℕ) (d : Mode) (r : ℕ) (rest : List ℕ) → rules ≤ 32 → r < rules →
     Fits (tableAt loaded rules d) r rest →
     (group (tableAt loaded rules d) r .size ≡ at loaded (blockSize * r)) × (at loaded (blockSize * r) ≤ length rest)
 unfolding group groupAt patternAt
@@ -169,23 +190,37 @@ rule-size loaded rules d r rest few h f =
     let n : size ≡ length (take size rest) =
     sym (length-tab (λ p. rangesAt loaded (8 * r + p)) 0 size) ∙ ap (λ a. length (a .ranges)) (sym e) ∙ fit
     ∙ ap (λ a. length (take (a .size) rest)) e in (
-      of-cond (λ a. a .size ≡ size) (eqb r defaultNumber) (orElse (everyCharacter []) (t .default)) (ruleAt t r)
-          (λ b. let q : r ≡ 32 = eqb→eq r 32 b in absurd (omega arith)) (λ b. ap (λ a. a .size) e),
+      of-cond (λ a. a .size ≡ size) (eqb r pairNumber) pairGroup (cond (eqb r defaultNumber) (orElse (everyCharacter []) (t .default)) (ruleAt t r))
+          (λ b. let q : r ≡ 33 = eqb→eq r 33 b in absurd (omega arith))
+          (λ _. of-cond (λ a. a .size ≡ size) (eqb r defaultNumber) (orElse (everyCharacter []) (t .default)) (ruleAt t r)
+          (λ b. let q : r ≡ 32 = eqb→eq r 32 b in absurd (omega arith)) (λ b. ap (λ a. a .size) e)),
       omega (arith, n, length-take size rest),
     )
 
-default-size : (loaded : List ℕ) (rules : ℕ) (d : Bool) (g : ℕ) → orDefault (tableAt loaded rules d) none ≡ some g →
-    (g ≡ 32) × (d ≡ true) × (group (tableAt loaded rules d) g .size ≡ at loaded (blockSize * g))
-unfolding group tableAt groupAt
-default-size loaded rules false g p = let z : _≡_ {A = ℕ} 0 1 = cc in absurd (omega arith)
-default-size loaded rules true g p =
-    let t = tableAt loaded rules true in
-    let e : 32 ≡ g = cc in
-    (sym e, refl, subst (λ k. group t k .size ≡ at loaded (blockSize * k)) e refl)
+-- the default, or a pair
+module _ (loaded : List ℕ) (rules : ℕ) (rest : List ℕ) where
+  abbrev Falls : Mode → ℕ → Type 0
+  Falls d g = (g < 34) × (group (tableAt loaded rules d) g .size ≡ sizeAt loaded g) × (1 ≤ sizeAt loaded g) × (sizeAt loaded g ≤ length rest)
 
--- the choice is a rule that fits, or the default
-choose-taken : (loaded : List ℕ) (rules : ℕ) (d : Bool) (input : List ℕ) (place g : ℕ) → rules ≤ 32 →
-    ((r : ℕ) → r < rules → 1 ≤ at loaded (blockSize * r)) → (d ≡ true → at loaded (32 * blockSize) ≡ 1) → place < length input →
+  default-taken : (d : Mode) (g : ℕ) → (present d ≡ true → at loaded (32 * blockSize) ≡ 1) → 1 ≤ length rest → orDefault d rest none ≡ some g → Falls d g
+  unfolding group tableAt groupAt
+  default-taken Absent g one h p = let z : _≡_ {A = ℕ} 0 1 = cc in absurd (omega arith)
+  default-taken Single g one h p =
+      let e : 32 ≡ g = cc in
+      let o : at loaded (32 * blockSize) ≡ 1 = one refl in
+      subst (Falls Single) e (omega arith, refl, omega arith, omega arith)
+  default-taken Paired g one h p = by (startsPair rest) refl p
+    where
+      by : (b : Bool) → startsPair rest ≡ b → some (cond b pairNumber defaultNumber) ≡ some g → Falls Paired g
+      by true e q = let i : 33 ≡ g = cc in subst (Falls Paired) i (omega arith, refl, omega arith, pair-there rest (rw e tt))
+      by false e q =
+          let i : 32 ≡ g = cc in
+          let o : at loaded (32 * blockSize) ≡ 1 = one refl in
+          subst (Falls Paired) i (omega arith, refl, omega arith, omega arith)
+
+-- the choice is a rule that fits, or the default, or a pair
+choose-taken : (loaded : List ℕ) (rules : ℕ) (d : Mode) (input : List ℕ) (place g : ℕ) → rules ≤ 32 →
+    ((r : ℕ) → r < rules → 1 ≤ at loaded (blockSize * r)) → (present d ≡ true → at loaded (32 * blockSize) ≡ 1) → place < length input →
     choose (tableAt loaded rules d) (drop place input) ≡ some g → Taken (tableAt loaded rules d) loaded input place g
 unfolding choose tableAt
 choose-taken loaded rules d input place g few positive one h p =
@@ -194,23 +229,25 @@ choose-taken loaded rules d input place g few positive one h p =
     from (best t n (drop place input)) (best-chosen t n (drop place input)) p
   where
     from : (b : Option ℕ) → Chosen (tableAt loaded rules d) (length (tableAt loaded rules d .rules)) (drop place input) b →
-        orDefault (tableAt loaded rules d) b ≡ some g → Taken (tableAt loaded rules d) loaded input place g
+        orDefault (mode (tableAt loaded rules d)) (drop place input) b ≡ some g → Taken (tableAt loaded rules d) loaded input place g
     from none c q =
-        let s : (g ≡ 32) × (d ≡ true) × (group (tableAt loaded rules d) g .size ≡ at loaded (blockSize * g)) =
-        default-size loaded rules d g q in
-        let k : at loaded (blockSize * g) ≡ 1 = ap (λ m. at loaded (blockSize * m)) (s .0) ∙ one (s .1) in
-        record { choice = p; below = omega (arith, s .0); size = s .2; positive = omega arith; room = omega arith }
+        let s : Falls loaded rules (drop place input) d g =
+        default-taken loaded rules (drop place input) d g one (omega (arith, length-drop place input))
+        (ap (λ m. orDefault m (drop place input) none) (sym (mode-at loaded rules d)) ∙ q) in
+        record { choice = p; below = s .0; size = s .1; positive = s .2; room = omega (arith, s .3, length-drop place input) }
     from (some r) c q =
         let e : r ≡ g = cc in
         let l : r < length (tabFrom 0 rules (groupAt loaded)) = c .0 in
         let b : r < rules = omega (arith, length-tab (groupAt loaded) 0 rules) in
         let s : (group (tableAt loaded rules d) r .size ≡ at loaded (blockSize * r)) × (at loaded (blockSize * r) ≤ length (drop place input)) =
         rule-size loaded rules d r (drop place input) few b (c .1) in
+        let z : sizeAt loaded r ≡ at loaded (blockSize * r) = plain-size loaded r (omega arith) in
+        let o : 1 ≤ at loaded (blockSize * r) = positive r b in
         subst (Taken (tableAt loaded rules d) loaded input place) e
-        (record { choice = p ∙ ap some (sym e); below = omega arith; size = s .0; positive = positive r b; room = omega (arith, s .1, length-drop place input) })
+        (record { choice = p ∙ ap some (sym e); below = omega arith; size = s .0 ∙ sym z; positive = omega arith; room = omega (arith, s .1, length-drop place input) })
 
-pub choice-taken : {o : Option ℕ} (loaded : List ℕ) (rules : ℕ) (d : Bool) (input : List ℕ) (place g : ℕ) → rules ≤ 32 →
-    ((r : ℕ) → r < rules → 1 ≤ at loaded (blockSize * r)) → (d ≡ true → at loaded (32 * blockSize) ≡ 1) → place < length input →
+pub choice-taken : {o : Option ℕ} (loaded : List ℕ) (rules : ℕ) (d : Mode) (input : List ℕ) (place g : ℕ) → rules ≤ 32 →
+    ((r : ℕ) → r < rules → 1 ≤ at loaded (blockSize * r)) → (present d ≡ true → at loaded (32 * blockSize) ≡ 1) → place < length input →
     o ≡ choose (tableAt loaded rules d) (drop place input) → o ≡ some g → Taken (tableAt loaded rules d) loaded input place g
 choice-taken loaded rules d input place g few positive one h p q = choose-taken loaded rules d input place g few positive one h (sym p ∙ q)
 
@@ -261,51 +298,54 @@ module _ {t : Table} {loaded input buffer output : List ℕ} {place count : ℕ}
   -- one more group
   module _ {g : ℕ} (k : Taken t loaded input place g) where
     abbrev emission : Emission
-    emission = record { group = g; word = take (at loaded (blockSize * g)) (drop place input) }
+    emission = record { group = g; word = take (sizeAt loaded g) (drop place input) }
 
     abbrev more : List ℕ
-    more = groupText loaded g (emission .word)
+    more = flatWrite loaded g (emission .word)
 
     abbrev left : List ℕ
-    left = drop (place + at loaded (blockSize * g)) input
+    left = drop (place + sizeAt loaded g) input
 
     after : convertFrom t 0 (drop place input) ≡ chosen emission (convertFrom t 0 left)
     after =
         convert-step t (drop place input) g (omega (arith, k .room, k .positive, length-drop place input)) (omega (arith, k .size, k .positive)) (k .choice)
         ∙ ap (λ n. chosen (record { group = g; word = take n (drop place input) }) (convertFrom t 0 (drop n (drop place input)))) (k .size)
-        ∙ ap (λ u. chosen emission (convertFrom t 0 u)) (drop-drop (at loaded (blockSize * g)) place input)
+        ∙ ap (λ u. chosen emission (convertFrom t 0 u)) (drop-drop (sizeAt loaded g) place input)
 
     whole-after : convert t input .log ≡ (r .log ++ emission ∷ []) ++ convertFrom t 0 left .log
     whole-after = r .whole ∙ ap (λ c. r .log ++ c .log) after ∙ sym (append-assoc (r .log) (emission ∷ []) _)
 
     text-after : flatText loaded (r .log ++ emission ∷ []) ≡ flatText loaded (r .log) ++ more
     unfolding textOf
-    text-after = text-append (groupText loaded) (r .log) (emission ∷ []) ∙ ap (λ u. flatText loaded (r .log) ++ u) (append-nil more)
+    text-after = text-append (flatWrite loaded) (r .log) (emission ∷ []) ∙ ap (λ u. flatText loaded (r .log) ++ u) (append-nil more)
 
-    more-length : length more ≡ at loaded (blockSize * g + 2)
-    more-length = output-length (drop (blockSize * g) loaded) (emission .word) ∙ group-count loaded g
+    word-length : length (emission .word) ≡ sizeAt loaded g
+    word-length = length-take-le (sizeAt loaded g) (drop place input) (omega (arith, k .room, length-drop place input))
 
-    count-after : length (flatText loaded (r .log ++ emission ∷ [])) ≡ count + at loaded (blockSize * g + 2)
+    more-length : length more ≡ countAt loaded g
+    more-length = written-count loaded g (emission .word) word-length
+
+    count-after : length (flatText loaded (r .log ++ emission ∷ [])) ≡ count + countAt loaded g
     count-after = ap length text-after ∙ length-append (flatText loaded (r .log)) more ∙ ap₂ (λ a b. a + b) (r .counted) more-length
 
-    pub reached-room : length (flatText loaded (convert t input .log)) ≤ length buffer → count + at loaded (blockSize * g + 2) ≤ length output
+    pub reached-room : length (flatText loaded (convert t input .log)) ≤ length buffer → count + countAt loaded g ≤ length output
     reached-room l =
         let front = flatText loaded (r .log ++ emission ∷ []) in
         let back = flatText loaded (convertFrom t 0 left .log) in
         let whole : length (flatText loaded (convert t input .log)) ≡ length front + length back =
-        ap (λ log. length (flatText loaded log)) whole-after ∙ ap length (text-append (groupText loaded) (r .log ++ emission ∷ []) (convertFrom t 0 left .log))
+        ap (λ log. length (flatText loaded log)) whole-after ∙ ap length (text-append (flatWrite loaded) (r .log ++ emission ∷ []) (convertFrom t 0 left .log))
         ∙ length-append front back in
         let fits : length (flatText loaded (r .log)) ≤ length buffer = omega (arith, whole, count-after, r .counted, l) in
         omega (arith, whole, count-after, l, ap length (r .written) ∙ over-whole (flatText loaded (r .log)) buffer fits)
 
-    pub reached-step : (output′ : List ℕ) (count′ : ℕ) → count′ ≡ count + at loaded (blockSize * g + 2) →
-        output′ ≡ take count output ++ more ++ drop (count + at loaded (blockSize * g + 2)) output →
-        Reached t loaded input buffer output′ (place + at loaded (blockSize * g)) count′
+    pub reached-step : (output′ : List ℕ) (count′ : ℕ) → count′ ≡ count + countAt loaded g →
+        output′ ≡ take count output ++ more ++ drop (count + countAt loaded g) output →
+        Reached t loaded input buffer output′ (place + sizeAt loaded g) count′
     unfolding covered
     reached-step output′ count′ q e =
         let text = flatText loaded (r .log) in
-        let word : length (emission .word) ≡ at loaded (blockSize * g) =
-        length-take-le (at loaded (blockSize * g)) (drop place input) (omega (arith, k .room, length-drop place input)) in
+        let word : length (emission .word) ≡ sizeAt loaded g =
+        length-take-le (sizeAt loaded g) (drop place input) (omega (arith, k .room, length-drop place input)) in
         record {
           log = r .log ++ emission ∷ [];
           whole = whole-after;
@@ -314,7 +354,7 @@ module _ {t : Table} {loaded input buffer output : List ℕ} {place count : ℕ}
           placed = omega (arith, covered-append (r .log) (emission ∷ []), r .placed, word);
           counted = count-after ∙ sym q;
           written =
-              e ∙ ap (λ o. take count o ++ more ++ drop (count + at loaded (blockSize * g + 2)) o) (r .written)
+              e ∙ ap (λ o. take count o ++ more ++ drop (count + countAt loaded g) o) (r .written)
               ∙ ap₂ (λ c m. take c (over text buffer) ++ more ++ drop (c + m) (over text buffer)) (sym (r .counted)) (sym more-length)
               ∙ over-more text more buffer ∙ ap (λ u. over u buffer) (sym text-after);
         }

@@ -1,7 +1,7 @@
 -- A table as one flat array, and what is read back of it.
 use mathlib.Core.Bool.{Bool, _&&_, cond}
 use mathlib.Core.List.{List, [], _∷_, _++_, map}
-use mathlib.Core.Option.{none, some}
+use mathlib.Core.Option.{Option, none, some}
 use mathlib.Core.Path.{_≡_}
 use Prim.Native.Nat.{ℕ, zero, suc, max, _+_, _-_, _*_, _%_, _/_, _^_, _≤_, _<_}
 use lib.Dec.{eqb, ltb}
@@ -9,7 +9,7 @@ use lib.IntN.{ℤ, pos, negsuc}
 use lib.ListN.{length, take, drop}
 use Rattle.lists.specs.Lists.{flatMap, tabFrom, pad, optional}
 use Rattle.lists.specs.Decide.{forBelow, implies, select}
-use Rattle.meaning.specs.Table.{Range, Output, sum, digit, Group, Table, defaultNumber}
+use Rattle.meaning.specs.Table.{Range, Output, sum, digit, Group, Mark, unmarked, marked, Mode, Absent, Single, Paired, Table, present, least, defaultNumber, pairNumber}
 use Rattle.meaning.specs.Reader.{signed}
 use Rattle.meaning.specs.Block.{at, block, blockOutput, blockSize, blocksSize, entrySize}
 use Rattle.meaning.specs.Value.{safeOutput}
@@ -86,12 +86,24 @@ groupAt loaded g =
     let size = at loaded (blockSize * g) in
     record { size = size; anchored = eqb (at loaded (blockSize * g + 1)) 1; ranges = patternAt loaded g size; outputs = [] }
 
+-- a mode's default, and its mark
+abbrev pub defaultBy : Mode → Group → Option Group
+defaultBy Absent g = none
+defaultBy Single g = some g
+defaultBy Paired g = some g
+
+abbrev pub markBy : Mode → Mark
+markBy Absent = unmarked
+markBy Single = unmarked
+markBy Paired = marked
+
 -- the first n groups as rules, and group 32 as the default if there is one
-unfoldable pub tableAt : List ℕ → ℕ → Bool → Table
-tableAt loaded n defaulted =
+unfoldable pub tableAt : List ℕ → ℕ → Mode → Table
+tableAt loaded n m =
     record {
       rules = tabFrom 0 n (groupAt loaded);
-      default = cond defaulted (some (groupAt loaded defaultNumber)) none;
+      default = defaultBy m (groupAt loaded defaultNumber);
+      mark = markBy m;
     }
 
 -- output character j of group g is a sum
@@ -112,32 +124,36 @@ safeOutputAt loaded g j =
 unfoldable pub safeGroupAt : List ℕ → ℕ → Bool
 safeGroupAt loaded g = forBelow (at loaded (blockSize * g + 2)) (safeOutputAt loaded g)
 
-unfoldable pub safeAt : List ℕ → ℕ → Bool → Bool
-safeAt loaded n defaulted = forBelow n (safeGroupAt loaded) && implies defaulted (safeGroupAt loaded defaultNumber)
+unfoldable pub safeAt : List ℕ → ℕ → Mode → Bool
+safeAt loaded n m = forBelow n (safeGroupAt loaded) && implies (present m) (safeGroupAt loaded defaultNumber)
 
 -- E by the array
 unfoldable pub expansionFrom : List ℕ → ℕ → ℕ → ℕ
 expansionFrom loaded zero most = most
 expansionFrom loaded (suc n) most = max (expansionFrom loaded n most) (at loaded (blockSize * n + 2))
 
-abbrev pub expansionAt : List ℕ → ℕ → Bool → ℕ
-expansionAt loaded n defaulted = expansionFrom loaded n (cond defaulted (at loaded (32 * blockSize + 2)) 0)
+abbrev pub expansionAt : List ℕ → ℕ → Mode → ℕ
+expansionAt loaded n m = expansionFrom loaded n (max (least m) (cond (present m) (at loaded (32 * blockSize + 2)) 0))
 
 -- Definition 7 by the array, and the text that its blocks write
-abbrev pub flatConversion : List ℕ → ℕ → Bool → List ℕ → Conversion
-flatConversion loaded n defaulted input = convert (tableAt loaded n defaulted) input
+abbrev pub flatConversion : List ℕ → ℕ → Mode → List ℕ → Conversion
+flatConversion loaded n m input = convert (tableAt loaded n m) input
+
+-- a pair is written unchanged, and has no block
+abbrev pub flatWrite : List ℕ → ℕ → List ℕ → List ℕ
+flatWrite loaded g w = cond (eqb g pairNumber) w (blockOutput (drop (blockSize * g) loaded) w)
 
 abbrev pub flatText : List ℕ → List Emission → List ℕ
-flatText loaded log = textOf (λ g w. blockOutput (drop (blockSize * g) loaded) w) log
+flatText loaded log = textOf (flatWrite loaded) log
 
 -- "14, 15", then the conversion into the buffer
-unfoldable pub flatDirect : List ℕ → ℕ → Bool → List ℕ → List ℕ → DirectOutcome
-flatDirect loaded n defaulted input buffer =
-    let whole = flatConversion loaded n defaulted input in
+unfoldable pub flatDirect : List ℕ → ℕ → Mode → List ℕ → List ℕ → DirectOutcome
+flatDirect loaded n m input buffer =
+    let whole = flatConversion loaded n m input in
     let text = flatText loaded (whole .log) in
     select (
     (ltb limit (length input), record { answer = refused 14; output = buffer })
-    ∷ (ltb (length buffer) (expansionAt loaded n defaulted * length input), record { answer = refused 15; output = buffer })
+    ∷ (ltb (length buffer) (expansionAt loaded n m * length input), record { answer = refused 15; output = buffer })
     ∷ []) (record { answer = accepted (record { closed = whole .closed; place = covered (whole .log); count = length text }); output = over text buffer })
 
 -- the array is of its length, and the counts in it within their limits

@@ -164,7 +164,7 @@ pub sound-adds-up : SoundAddsUp
 unfolding SoundAddsUp
 sound-adds-up w s W t =
     let f = sound-facts w s t .uses in
-    record { sum = f .sum; lacking = f .lacking; undefaulted = λ z. f .undefaulted (omega arith) }
+    record { sum = f .sum; lacking = f .lacking; undefaulted = f .undefaulted; unmarked = f .unmarked }
 
 -- any list of calls leaves a sound session of eight places sound
 pub calls-stay : (w : List ℕ) (cs : List Call) (v : Served) → T (soundSession w (v .session)) → length (v .session .held) ≡ 8 →

@@ -1,7 +1,7 @@
 -- A feed in two parts does what one feed of the whole piece does, from any sound open session.
 -- The trace of held characters and whole piece goes on, where the first part's trace waits, from what is held there.
 use mathlib.Core.Bool.{Bool, false}
-use mathlib.Core.List.{List, _++_, append-assoc}
+use mathlib.Core.List.{List, [], _++_, append-assoc}
 use mathlib.Core.Path.{_≡_, refl, sym, ap, subst, _∙_}
 use Prim.Native.Nat.{ℕ, _+_, _≤_}
 use native.Mathlib.Omega.{arith}
@@ -20,7 +20,7 @@ use Rattle.automaton.specs.Sound.{sound, longestWord, expansionWord, stateCount
 use Rattle.automaton.specs.Automaton.{Automaton, fromWords, after}
 use Rattle.automaton.proofs.Laws.Good.{Good}
 use Rattle.automaton.proofs.Laws.Words.{sound-good, sound-longest}
-use Rattle.reckoning.specs.Machine.{Open, Stopped, Ended, start}
+use Rattle.reckoning.specs.Machine.{Open, Stopped, Ended}
 use Rattle.reckoning.specs.Uses.{usesAfter}
 use Rattle.reckoning.specs.Session.{Session, consumed, store, isOpen, soundSession}
 use Rattle.reckoning.specs.Calls.{Answer, CallOutcome, admits, receivedBy, resumed, later, callBy, feed, finish}
@@ -63,7 +63,7 @@ module _ (w : List ℕ) (W : T (sound w)) (s : Session) (sn : T (soundSession w 
   abbrev pub over : List ℕ → Bool → Trace
   over p e = trace A e 0 (store s ++ p)
 
-  pub tells-over : (p : List ℕ) (e : Bool) → Tells A (start (store s) p (s .state)) (over p e) (ranOn w s p e)
+  pub tells-over : (p : List ℕ) (e : Bool) → Tells A (length (store s)) [] 0 (over p e) (ranOn w s p e)
   tells-over p e = call-tells w W s p e sn o
 
   stored : length (store s) ≡ s .count
@@ -77,14 +77,14 @@ module _ (w : List ℕ) (W : T (sound w)) (s : Session) (sn : T (soundSession w 
     abbrev pub s₁ : Session
     s₁ = leftOn w s p false
 
-    first-tells : Tells A (start (store s) p (s .state)) first (ranOn w s p false)
+    first-tells : Tells A (length (store s)) [] 0 first (ranOn w s p false)
     first-tells = tells-over p false
 
     pub left-sound : T (soundSession w s₁)
     left-sound = kept-sound w W s p false sn o e8 fits
 
     held-few : length (heldOf first) ≤ 8
-    held-few = omega (arith, sound-longest w W, trace-held A L n G false (store s ++ p))
+    held-few = trace-held A L n G false (store s ++ p) (sound-longest w W)
 
     pub left-store : store s₁ ≡ heldOf first
     left-store = (λ i. take (length (first-tells .store i)) (pad 8 (first-tells .store i))) ∙ take-pad 8 (heldOf first) held-few
@@ -108,10 +108,10 @@ module _ (w : List ℕ) (W : T (sound w)) (s : Session) (sn : T (soundSession w 
           let z : statusOf first ≡ Open = sym (first-tells .status) ∙ open-after in
           rw (sym (append-assoc (store s) p q), trace-graft A e q 0 (store s ++ p) (omega arith)) (graft-open first (λ h. trace A e 0 (h ++ q)) z)
 
-      second-tells : Tells A (start (store s₁) q (s₁ .state)) second (ranOn w s₁ q e)
-      second-tells = subst (λ h. Tells A (start (store s₁) q (s₁ .state)) (trace A e 0 (h ++ q)) (ranOn w s₁ q e)) left-store (call-tells w W s₁ q e left-sound open-after)
+      second-tells : Tells A (length (store s₁)) [] 0 second (ranOn w s₁ q e)
+      second-tells = subst (λ h. Tells A (length (store s₁)) [] 0 (trace A e 0 (h ++ q)) (ranOn w s₁ q e)) left-store (call-tells w W s₁ q e left-sound open-after)
 
-      whole-tells : Tells A (start (store s) (p ++ q) (s .state)) whole (ranOn w s (p ++ q) e)
+      whole-tells : Tells A (length (store s)) [] 0 whole (ranOn w s (p ++ q) e)
       whole-tells = tells-over (p ++ q) e
 
       pub status-joins : ranOn w s₁ q e .status ≡ ranOn w s (p ++ q) e .status
@@ -165,8 +165,8 @@ module _ (w : List ℕ) (W : T (sound w)) (s : Session) (sn : T (soundSession w 
         let b = tells-over (p ++ q) e in
         let same : over (p ++ q) e ≡ over p false =
         ap (trace A e 0) (sym (append-assoc (store s) p q)) ∙ stopped-firm A (store s ++ p) q e (sym (a .status) ∙ stopped) in
-        tells-unique A (start (store s) p (s .state)) (over p false) (ranOn w s (p ++ q) e) (ranOn w s p false)
-        (subst (λ t. Tells A (start (store s) p (s .state)) t (ranOn w s (p ++ q) e)) same (record {
+        tells-unique A (length (store s)) [] 0 (over p false) (ranOn w s (p ++ q) e) (ranOn w s p false)
+        (subst (λ t. Tells A (length (store s)) [] 0 t (ranOn w s (p ++ q) e)) same (record {
           status = b .status;
           state = b .state;
           store = b .store;

@@ -24,14 +24,14 @@ use Rattle.automaton.specs.Sound.{sound, longestWord, expansionWord, stateCount
 use Rattle.automaton.specs.Automaton.{Automaton, fromTable, fromWords}
 use Rattle.automaton.proofs.Laws.Good.{after, Good, Reads, Alike, Writes}
 use Rattle.automaton.proofs.Laws.Words.{sound-good, sound-longest}
-use Rattle.reckoning.specs.Machine.{Status, Open, Closed, Stopped, Ended, start}
+use Rattle.reckoning.specs.Machine.{Status, Open, Closed, Stopped, Ended}
 use Rattle.reckoning.specs.Uses.{usesOf, usesAfter}
 use Rattle.reckoning.specs.Session.{Session, fresh, consumed, isOpen, soundSession}
 use Rattle.reckoning.specs.Calls.{Answer, CallOutcome, admits, receivedBy, resumed, later, callBy}
 use Rattle.reckoning.specs.Reckoning.{Call, piece, bufferOf, room, ends, Served, unserved, outputBy, serveCall, serve, Input, noInput, ran, ranText, reckoned, answerBy, inputBy, reckonCall, reckon}
 use Rattle.reckoning.specs.Claims.{Waits}
 use Rattle.reckoning.proofs.Laws.Trace.{Trace, trace, cost, logOf, heldOf, stateOf, statusOf}
-use Rattle.reckoning.proofs.Laws.Rounds.{Joined, trace-graft, graft-open, not-open, rests-open, trace-rests, Counted, bounded, trace-ended}
+use Rattle.reckoning.proofs.Laws.Rounds.{Joined, led, trace-graft, graft-open, not-open, rests-open, trace-rests, Counted, bounded, trace-ended}
 use Rattle.reckoning.proofs.Laws.Run.{Tells, run-tells, run-waits}
 use Rattle.reckoning.proofs.Laws.Swap.{trace-alike, trace-emits, text-same}
 use Rattle.reckoning.proofs.Laws.Uses.{uses-append}
@@ -79,10 +79,10 @@ module _ (B : Automaton) (L n : ℕ) (H : Good B L n) (small : L ≤ 8) (e : Boo
   abbrev ended-as : Ended
   ended-as = resumed B session p e
 
-  tells : Tells B (start (heldOf before) p (stateOf B before)) rest ended-as
+  tells : Tells B (length (heldOf before)) [] 0 rest ended-as
   tells =
       let k = rests-open B (trace B false 0 u) (trace-rests B L n H 0 u) o in
-      rw (take-pad 8 (heldOf (trace B false 0 u)) few) (run-tells B L n H small e (heldOf (trace B false 0 u)) p (stateOf B (trace B false 0 u)) (k .0) refl)
+      rw (take-pad 8 (heldOf (trace B false 0 u)) few) (run-tells B L n H small e (heldOf (trace B false 0 u)) p (stateOf B (trace B false 0 u)) (k .0))
 
   text-later : textOf (B .write) (logOf before) ++ textOf (B .write) (ended-as .final .log) ≡ textOf (B .write) (logOf after-call)
   text-later =
@@ -156,13 +156,13 @@ module _ (t : Table) (w : List ℕ) (K : Matched t w) where
     pub characters : Characters (i .characters)
 
   -- the table's machine over the input
-  pub ran-tells : (u : List ℕ) (e : Bool) → Tells (fromTable t) (start [] u 0) (trace (fromTable t) e 0 u) (ran t u e)
+  pub ran-tells : (u : List ℕ) (e : Bool) → Tells (fromTable t) 0 [] 0 (trace (fromTable t) e 0 u) (ran t u e)
   unfolding ran after
-  ran-tells u e = run-tells (fromTable t) (longest t) (length (states t)) (K .good) (K .small) e [] u 0 tt refl
+  ran-tells u e = run-tells (fromTable t) (longest t) (length (states t)) (K .good) (K .small) e [] u 0 (led refl tt)
 
   pub ran-waits : (u : List ℕ) (e : Bool) → ran t u e .status ≡ Open → Waits (fromTable t) e (ran t u e .final)
   unfolding ran after
-  ran-waits u e = run-waits (fromTable t) (longest t) (length (states t)) (K .good) (K .small) e [] u 0 tt refl
+  ran-waits u e = run-waits (fromTable t) (longest t) (length (states t)) (K .good) (K .small) e [] u 0 (led refl tt)
 
   pub same-trace : (u : List ℕ) (e : Bool) → Characters u → trace (fromTable t) e 0 u ≡ trace machine e 0 u
   same-trace u e c = trace-alike (fromTable t) machine (K .alike) e 0 u c

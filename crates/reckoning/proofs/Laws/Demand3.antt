@@ -8,10 +8,10 @@ use Prim.Native.Nat.{ℕ, _-_, _<_}
 use native.Mathlib.Omega.{arith}
 use lib.Dec.{T}
 use lib.ListN.{length, drop}
-use Rattle.lists.specs.Lists.{Each, pad, isSome}
+use Rattle.lists.specs.Lists.{Each, pad}
 use Rattle.lists.proofs.Laws.Each.{each-append}
 use Rattle.meaning.specs.Refusal.{Outcome, refused, accepted}
-use Rattle.meaning.specs.Table.{Characters, Table, group, longest}
+use Rattle.meaning.specs.Table.{Characters, Table, mode, group, longest}
 use Rattle.meaning.specs.Meaning.{Emission, written, textOf, covered, convert}
 use Rattle.meaning.proofs.Laws.Groups.{longest-small}
 use Rattle.meaning.proofs.Laws.Described.{well-formed-shaped}
@@ -105,7 +105,7 @@ module _ (t : Table) where
   input-pieces cs = let g = reckon-grown cs noInput in g .characters ∙ ap (acceptedPieces cs) (sym (g .answers))
 
 module _ (t : Table) (w : List ℕ) (K : Matched t w) where
-  default-is : fromTable t .default ≡ isSome (t .default)
+  default-is : fromTable t .default ≡ mode t
   unfolding fromTable
   default-is = refl
 

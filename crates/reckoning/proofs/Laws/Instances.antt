@@ -1,4 +1,4 @@
--- Demand 3 holds of two lists of calls with document 01's values.
+-- Demand 3 holds of two lists of calls with document 01's values, and of one of request [8].
 -- The reckoning and Definition 7 are computed from the tables' bytes; what was served follows by the demand.
 use mathlib.Core.Bool.{_||_}
 use mathlib.Core.List.{List, []}
@@ -12,10 +12,10 @@ use Rattle.lists.specs.Lists.{all, pad}
 use Rattle.lists.proofs.Laws.Each.{all-each}
 use Rattle.lists.proofs.Laws.Parts.{length-pad}
 use Rattle.meaning.specs.Refusal.{Outcome, refused, accepted}
-use Rattle.meaning.specs.Table.{Table}
+use Rattle.meaning.specs.Table.{unmarked, Table}
 use Rattle.meaning.specs.Reader.{readTable}
 use Rattle.meaning.specs.Meaning.{covered, convert, meaningText, meaningPlace}
-use Rattle.meaning.specs.Samples.{characters, t1, t2}
+use Rattle.meaning.specs.Samples.{t1, t2, t3Marked}
 use Rattle.meaning.proofs.Laws.Direct.{read-keeps}
 use Rattle.meaning.proofs.Laws.Opened.{rules-opened}
 use Rattle.automaton.specs.Classes.{starts}
@@ -30,11 +30,11 @@ use Rattle.reckoning.specs.Session.{Session, consumed}
 use Rattle.reckoning.specs.Calls.{receivedBy}
 use Rattle.reckoning.specs.Reckoning.{piece, Served, unserved, serve, noInput, ran, ranText, reckoned, reckon}
 use Rattle.reckoning.specs.Claims.{isStopped, Agrees, OutcomesAgree}
-use Rattle.reckoning.specs.Instances.{Case, servedAs, inputAs, Holds, closing, stopping, Firm, Instances}
+use Rattle.reckoning.specs.Instances.{Case, servedAs, inputAs, Holds, closing, stopping, pairing, Firm, Instances}
 use Rattle.reckoning.proofs.Laws.Demand3.{outcomes-agree}
 
 abbrev tableIn : Outcome Table → Table
-tableIn (refused n) = record { rules = []; default = none }
+tableIn (refused n) = record { rules = []; default = none; mark = unmarked }
 tableIn (accepted t) = t
 
 -- the session that a run over n characters leaves
@@ -53,7 +53,7 @@ leftBy t r n =
 
 module _ (x : Case) (t : Table) where
   abbrev input : List ℕ
-  input = characters (x .input)
+  input = x .input
 
   -- what is computed of a case: its table's bytes, its table, the reckoning, the plain machine's run over the input, and Definition 7
   record Computed : Type 0 where
@@ -63,10 +63,10 @@ module _ (x : Case) (t : Table) where
     states : T (leb (length (states t)) 256)
     pieces : T (all (λ c. all (λ z. ltb z 65536) (piece c)) (x .calls))
     reckons : reckon t (x .calls) noInput ≡ inputAs x
-    writes : ranText t (ran t input (x .ended)) ≡ characters (x .output)
+    writes : ranText t (ran t input (x .ended)) ≡ x .output
     leaves : leftBy t (ran t input (x .ended)) (length input) ≡ x .session
     over : T (x .ended || isStopped (x .session .status))
-    text : meaningText t input ≡ characters (x .output)
+    text : meaningText t input ≡ x .output
     closes : convert t input .closed ≡ x .closed
     place : meaningPlace t input ≡ consumed (x .session)
 
@@ -132,6 +132,9 @@ table1 = tableIn (readTable t1)
 abbrev table2 : Table
 table2 = tableIn (readTable t2)
 
+abbrev table3 : Table
+table3 = tableIn (readTable t3Marked)
+
 closing-computed : Computed closing table1
 unfolding rules-opened machine-opened fallBack step steps run ran reckoned reckon closing
 closing-computed = record {
@@ -166,6 +169,23 @@ stopping-computed = record {
   place = refl;
 }
 
+pairing-computed : Computed pairing table3
+unfolding rules-opened machine-opened fallBack step steps run ran reckoned reckon pairing
+pairing-computed = record {
+  bytes = tt;
+  read = refl;
+  classes = tt;
+  states = tt;
+  pieces = tt;
+  reckons = refl;
+  writes = refl;
+  leaves = refl;
+  over = tt;
+  text = refl;
+  closes = refl;
+  place = refl;
+}
+
 -- the demand's last field, whose conditions the case meets
 stopping-firm : (h : Holds stopping) → Firm (h .read)
 unfolding stopping Firm
@@ -178,4 +198,4 @@ pub instances : Instances
 unfolding Instances
 instances =
     let h = holds stopping table2 stopping-computed in
-    (holds closing table1 closing-computed, (h, stopping-firm h))
+    (holds closing table1 closing-computed, (h, stopping-firm h), holds pairing table3 pairing-computed)

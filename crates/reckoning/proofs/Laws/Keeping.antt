@@ -20,7 +20,7 @@ use Rattle.automaton.specs.Sound.{stateCount, longestWord, expansionWord, used,
 use Rattle.automaton.specs.Automaton.{Automaton, fromWords}
 use Rattle.automaton.proofs.Laws.Words.{sound-header, sound-good}
 use Rattle.reckoning.specs.Uses.{soundUses}
-use Rattle.reckoning.specs.Session.{Session, consumed, store, isOpen, settled, pathIf, path, isAt, soundSession}
+use Rattle.reckoning.specs.Session.{Session, consumed, store, isOpen, settled, pathIf, path, soundSession, standsAt}
 
 and-none : (b : Bool) → b && false ≡ false
 and-none true = refl
@@ -120,7 +120,7 @@ module _ (w : List ℕ) (s : Session) where
 
   abbrev pub openTest : Bool
   openTest =
-      allOf (isAt (s .state) (path (fromWords w) 0 (store s)) ∷ leb (s .steps) ((longestWord w + 3) * consumed s + s .count) ∷ [])
+      allOf (standsAt (fromWords w) (s .state) (store s) ∷ leb (s .steps) ((longestWord w + 3) * consumed s + s .count) ∷ [])
 
   abbrev pub endedTest : Bool
   endedTest = allOf (eqb (s .state) 0 ∷ eqb (s .count) 0 ∷ leb (s .steps) ((longestWord w + 3) * (consumed s + 1)) ∷ [])

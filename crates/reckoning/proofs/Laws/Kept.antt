@@ -12,33 +12,33 @@ use lib.Seq.{length-take-le}
 use Rattle.lists.specs.Lists.{all}
 use Rattle.lists.specs.Decide.{allOf}
 use Rattle.lists.proofs.Laws.Parts.{take-pad, pad-zeros}
-use Rattle.lists.proofs.Laws.Tests.{and-left, both, holds, to-allOf, to-T, neqb→ne, ne→neqb}
-use Rattle.meaning.specs.Table.{defaultNumber}
+use Rattle.lists.proofs.Laws.Tests.{and-left, and-right, or-left, or-right, or-cases, both, holds, to-allOf, to-T, neqb→ne, ne→neqb}
+use Rattle.meaning.specs.Table.{Mode, Absent, Single, Paired, present, isFirst, isSecond}
 use Rattle.meaning.specs.Meaning.{Emission, textOf, covered}
 use Rattle.meaning.specs.Direct.{limit}
 use Rattle.automaton.specs.Sound.{used, longestWord, expansionWord, stateCount, sound}
 use Rattle.automaton.specs.Automaton.{Automaton, fromWords}
 use Rattle.automaton.proofs.Laws.Good.{after, Leads, Good, go-none, after-inside, Short}
 use Rattle.automaton.proofs.Laws.Words.{sound-good, sound-short, sound-longest}
-use Rattle.reckoning.specs.Machine.{Status, Open, Closed, Stopped, Ended, start}
+use Rattle.reckoning.specs.Machine.{Status, Open, Closed, Stopped, Ended, Fall, nowhere, taking, keeping, fallOne, fallTwo, fall}
 use Rattle.reckoning.specs.Uses.{usesAfter, soundUses}
-use Rattle.reckoning.specs.Session.{Session, fresh, consumed, store, isOpen, settled, pathIf, path, isAt, soundSession}
+use Rattle.reckoning.specs.Session.{Session, fresh, consumed, store, isOpen, settled, pathIf, path, isAt, soundSession, isPaired, isLeft, standsAt}
 use Rattle.reckoning.specs.Calls.{receivedBy, resumed, later}
-use Rattle.reckoning.proofs.Laws.Trace.{Round, waits, closes, stops, accepts, defaults, back, onWait, onEnd, walk, Trace, lastOf, handle, trace, cost, logOf, heldOf, stateOf, statusOf}
-use Rattle.reckoning.proofs.Laws.Walk.{settled-both, settled-hit, on-character-elim, Takes, walk-takes}
-use Rattle.reckoning.proofs.Laws.Rounds.{NotOpen, not-open, trace-rests, rests-open, ended-empty, trace-ended, Counted, spare-of, bounded}
+use Rattle.reckoning.proofs.Laws.Trace.{Round, waits, closes, stops, accepts, defaults, back, onWait, onEnd, walk, fallAt, round, Trace, lastOf, handle, trace, cost, logOf, heldOf, stateOf, statusOf}
+use Rattle.reckoning.proofs.Laws.Walk.{settled-both, settled-hit, on-character-elim, Room, Falls, Takes, walk-takes}
+use Rattle.reckoning.proofs.Laws.Rounds.{NotOpen, not-open, round-room, round-falls, Stood, led, leftover, trace-rests, rests-open, ended-empty, trace-ended, Counted, spare-of, bounded}
 use Rattle.reckoning.proofs.Laws.Run.{Tells, run-tells, tells-unique}
 use Rattle.reckoning.proofs.Laws.Uses.{UsesFacts, uses-facts, facts-uses, uses-fresh, uses-kept, trace-fits}
 
 -- What is written against what is covered.
 module _ (A : Automaton) (L E n : ℕ) (G : Good A L n) (S : Short A E n) where
-  -- what a round emits is short
+  -- what a round accepts is short
   abbrev Brief : Round → Type 0
   Brief waits = Unit {0}
   Brief closes = Unit {0}
   Brief (stops d) = Unit {0}
   Brief (accepts r d) = (w : List ℕ) → length (A .write r w) ≤ E
-  Brief (defaults d) = (w : List ℕ) → length (A .write defaultNumber w) ≤ E
+  Brief (defaults d g k) = Unit {0}
 
   brief-wait : (h : Bool) (d q : ℕ) → q < n → settled A q ≡ h → Brief (onWait h (A .accept q) d)
   brief-wait true d q i p =
@@ -46,37 +46,63 @@ module _ (A : Automaton) (L E n : ℕ) (G : Good A L n) (S : Short A E n) where
       λ w. subst (λ g. length (A .write (pred g) w) ≤ E) (sym (k .1)) (S .of-accept q (k .0) i (k .1) w)
   brief-wait false d q i p = tt
 
-  brief-back : (b : Bool) (d : ℕ) → A .default ≡ b → Brief (back b d)
-  brief-back true d p = S .of-default p
-  brief-back false d p = tt
+  brief-back : (b : Fall) (d : ℕ) → Brief (back b d)
+  brief-back nowhere d = tt
+  brief-back (taking g k) d = tt
+  brief-back keeping d = tt
 
-  brief-end : (m : ℕ) (b : Bool) (d q : ℕ) → q < n → A .acceptAtEnd q ≡ m → A .default ≡ b → Brief (onEnd m b d)
-  brief-end (suc r) b d q i p p′ = S .of-end q r i p
-  brief-end zero b zero q i p p′ = tt
-  brief-end zero b (suc d) q i p p′ = brief-back b (suc d) p′
+  brief-end : (m : ℕ) (b : Fall) (d q : ℕ) → q < n → A .acceptAtEnd q ≡ m → Brief (onEnd m b d)
+  brief-end (suc r) b d q i p = S .of-end q r i p
+  brief-end zero b zero q i p = tt
+  brief-end zero b (suc d) q i p = brief-back b (suc d)
 
-  walk-brief : (e : Bool) (d q : ℕ) (u : List ℕ) → q < n → Brief (walk A e d q u)
+  walk-brief : (e : Bool) (b : Fall) (d q : ℕ) (u : List ℕ) → q < n → Brief (walk A e b d q u)
   unfolding walk
-  walk-brief false d q [] i = brief-wait (settled A q) d q i refl
-  walk-brief true d q [] i = brief-end (A .acceptAtEnd q) (A .default) d q i refl refl
-  walk-brief e d q (x ∷ u) i =
-      on-character-elim Brief (A .accept q) (A .target q x) (A .default) d (λ p. walk A e (suc d) p u)
-      (λ r p. S .of-accept q r i p) (λ t. walk-brief e (suc d) (A .target q x) u (G .inside q x i)) (S .of-default) tt
+  walk-brief false b d q [] i = brief-wait (settled A q) d q i refl
+  walk-brief true b d q [] i = brief-end (A .acceptAtEnd q) b d q i refl
+  walk-brief e b d q (x ∷ u) i =
+      on-character-elim Brief (A .accept q) (A .target q x) b d (λ p. walk A e b (suc d) p u)
+      (λ r p. S .of-accept q r i p) (λ t. walk-brief e b (suc d) (A .target q x) u (G .inside q x i)) (brief-back b d)
+
+  -- what a fall takes of z is short for its characters
+  abbrev Modest : List ℕ → Fall → Type 0
+  Modest z nowhere = Unit {0}
+  Modest z (taking g k) = length (A .write g (take k z)) ≤ E * k
+  Modest z keeping = Unit {0}
+
+  fall-modest : (m : Mode) (e : Bool) (x : ℕ) (u : List ℕ) → A .default ≡ m → Modest (x ∷ u) (fall m e (x ∷ u))
+  fall-modest Absent e x u p = tt
+  fall-modest Single e x u p = omega (arith, S .of-default (ap present p) (x ∷ []))
+  fall-modest Paired e x [] p = one (not e && isFirst x)
+    where
+      one : (b : Bool) → Modest (x ∷ []) (fallOne b)
+      one true = tt
+      one false = omega (arith, S .of-default (ap present p) (x ∷ []))
+  fall-modest Paired e x (y ∷ u) p = two (isFirst x && isSecond y)
+    where
+      two : (b : Bool) → Modest (x ∷ y ∷ u) (fallTwo b)
+      two true = S .of-pair p x y
+      two false = omega (arith, S .of-default (ap present p) (x ∷ []))
 
   abbrev Few : List Emission → Type 0
   Few log = length (textOf (A .write) log) ≤ E * covered log
 
-  few-round : (o : Round) (x : ℕ) (u : List ℕ) (f : ℕ → Trace) → Takes o → Brief o → ((k : ℕ) → Few (logOf (f k))) → Few (logOf (handle o (x ∷ u) f))
+  few-round : (b : Fall) (o : Round) (x : ℕ) (u : List ℕ) (f : ℕ → Trace) → Takes o → Brief o → Room (suc (length u)) b → Falls b o → Modest (x ∷ u) b →
+      ((k : ℕ) → Few (logOf (f k))) → Few (logOf (handle o (x ∷ u) f))
   unfolding logOf textOf covered
-  few-round waits x u f k b h = omega arith
-  few-round closes x u f k b h = omega arith
-  few-round (stops d) x u f k b h = omega arith
-  few-round (accepts r zero) x u f k b h = absurd (omega arith)
-  few-round (accepts r (suc d)) x u f k b h =
+  few-round b waits x u f k br rm fl mo h = omega arith
+  few-round b closes x u f k br rm fl mo h = omega arith
+  few-round b (stops d) x u f k br rm fl mo h = omega arith
+  few-round b (accepts r zero) x u f k br rm fl mo h = absurd (omega arith)
+  few-round b (accepts r (suc d)) x u f k br rm fl mo h =
       let w : List ℕ = x ∷ take d u in
-      omega (arith, length-append (A .write r w) (textOf (A .write) (logOf (f d))), b w, h d)
-  few-round (defaults d) x u f k b h =
-      omega (arith, length-append (A .write defaultNumber (x ∷ [])) (textOf (A .write) (logOf (f 0))), b (x ∷ []), h 0)
+      omega (arith, length-append (A .write r w) (textOf (A .write) (logOf (f d))), br w, h d)
+  few-round b (defaults d g c) x u f k br rm fl mo h =
+      let w : List ℕ = take c (x ∷ u) in
+      let i : (1 ≤ c) × (c ≤ 2) × (c ≤ suc (length u)) = subst (Room (suc (length u))) fl rm in
+      let j : length (A .write g w) ≤ E * c = subst (Modest (x ∷ u)) fl mo in
+      let rest = logOf (f (pred c)) in
+      omega (arith, length-append (A .write g w) (textOf (A .write) rest), h (pred c), ap (λ z. E * (z + covered rest)) (length-take-le c (x ∷ u) (i .2)))
 
   few-nothing : (e : Bool) → Few (logOf (lastOf e))
   unfolding logOf textOf covered
@@ -88,7 +114,9 @@ module _ (A : Automaton) (L E n : ℕ) (G : Good A L n) (S : Short A E n) where
   trace-few e k [] = few-nothing e
   trace-few e (suc k) (x ∷ u) = trace-few e k u
   trace-few e zero (x ∷ u) =
-      few-round (walk A e 0 0 (x ∷ u)) x u (λ k. trace A e k u) (walk-takes A L n G e x u) (walk-brief e 0 0 (x ∷ u) (G .some-state)) (λ k. trace-few e k u)
+      let b = fallAt A e (x ∷ u) in
+      few-round b (round A e (x ∷ u)) x u (λ k. trace A e k u) (walk-takes A L n G e b x u) (walk-brief e b 0 0 (x ∷ u) (G .some-state))
+      (round-room A e x u) (round-falls A e (x ∷ u)) (fall-modest (A .default) e x u refl) (λ k. trace-few e k u)
 
 -- Where the characters lead, by the test and by the automaton.
 
@@ -137,25 +165,57 @@ module _ (A : Automaton) (L n : ℕ) (G : Good A L n) where
 
   -- where a trace waits
   pub trace-open : (e : Bool) (u : List ℕ) → statusOf (trace A e 0 u) ≡ Open →
-      Leads A 0 (heldOf (trace A e 0 u)) × (settled A (stateOf A (trace A e 0 u)) ≡ false)
+      Stood A (heldOf (trace A e 0 u)) (stateOf A (trace A e 0 u)) × (settled A (stateOf A (trace A e 0 u)) ≡ false)
   trace-open false u o = rests-open A (trace A false 0 u) (trace-rests A L n G 0 u) o
   trace-open true u o = absurd (not-open (statusOf (trace A true 0 u)) (trace-ended A 0 u) o)
 
-  pub trace-held : (e : Bool) (u : List ℕ) → length (heldOf (trace A e 0 u)) ≤ L
-  trace-held e u = by-status (statusOf (trace A e 0 u)) refl
+  stood-short : (h : List ℕ) (q : ℕ) → L ≤ 8 → Stood A h q → length h ≤ 8
+  stood-short h q s (led p l) = omega (arith, leads-short h l)
+  stood-short h q s (leftover x ph pq pm i k) = omega (arith, ap length ph)
+
+  pub trace-held : (e : Bool) (u : List ℕ) → L ≤ 8 → length (heldOf (trace A e 0 u)) ≤ 8
+  trace-held e u s = by-status (statusOf (trace A e 0 u)) refl
     where
-      nothing : NotOpen (statusOf (trace A e 0 u)) → length (heldOf (trace A e 0 u)) ≤ L
+      nothing : NotOpen (statusOf (trace A e 0 u)) → length (heldOf (trace A e 0 u)) ≤ 8
       nothing k = let z : length (heldOf (trace A e 0 u)) ≡ 0 = ap length (ended-empty (trace A e 0 u) k) in omega arith
 
-      by-status : (b : Status) → statusOf (trace A e 0 u) ≡ b → length (heldOf (trace A e 0 u)) ≤ L
-      by-status Open p = leads-short (heldOf (trace A e 0 u)) (trace-open e u p .0)
+      by-status : (b : Status) → statusOf (trace A e 0 u) ≡ b → length (heldOf (trace A e 0 u)) ≤ 8
+      by-status Open p = stood-short (heldOf (trace A e 0 u)) (stateOf A (trace A e 0 u)) s (trace-open e u p .0)
       by-status Closed p = nothing (rw p tt)
       by-status Stopped p = nothing (rw p tt)
+
+  -- the test of where a session stands passes just where it does
+  stood-stands : (h : List ℕ) (q : ℕ) → Stood A h q → settled A q ≡ false → T (standsAt A q h)
+  stood-stands h q (led p l) s =
+      or-left (isAt q (path A 0 h)) (isLeft A q h) (rw p (leads-path 0 h (G .some-state) l (rw (← p) s)))
+  stood-stands h q (leftover x ph pq pm i k) s =
+      or-right (isAt q (path A 0 h)) (isLeft A q h) (rw (ph, pq, pm, k) (both (isFirst x) true i tt))
+
+isPaired-is : (m : Mode) → T (isPaired m) → m ≡ Paired
+isPaired-is Absent t = absurd t
+isPaired-is Single t = absurd t
+isPaired-is Paired t = refl
+
+left-stood : (A : Automaton) (q : ℕ) (h : List ℕ) → T (isLeft A q h) → Stood A h q
+left-stood A q [] t = absurd t
+left-stood A q (x ∷ []) t =
+    let c = eqb (A .target 0 x) 0 in
+    let b = isFirst x && c in
+    let a = isPaired (A .default) && b in
+    let y = and-right (eqb q 0) a t in
+    let z = and-right (isPaired (A .default)) b y in
+    leftover x refl (eqb→eq q 0 (and-left (eqb q 0) a t)) (isPaired-is (A .default) (and-left (isPaired (A .default)) b y)) (and-left (isFirst x) c z)
+    (eqb→eq (A .target 0 x) 0 (and-right (isFirst x) c z))
+left-stood A q (x ∷ (y ∷ h)) t = absurd t
+
+pub stands-stood : (A : Automaton) (q : ℕ) (h : List ℕ) → T (standsAt A q h) → Stood A h q
+stands-stood A q h t =
+    or-cases (isAt q (path A 0 h)) (isLeft A q h) t (λ a. let l = path-leads A 0 q h a in led (l .1) (l .0)) (left-stood A q h)
 
 -- Soundness of a session, as facts.
 
 abbrev pub Stands : List ℕ → Session → Status → Type 0
-Stands w s Open = T (isAt (s .state) (path (fromWords w) 0 (store s))) × (s .steps ≤ (longestWord w + 3) * consumed s + s .count)
+Stands w s Open = T (standsAt (fromWords w) (s .state) (store s)) × (s .steps ≤ (longestWord w + 3) * consumed s + s .count)
 Stands w s Closed = (s .state ≡ 0) × (s .count ≡ 0) × (s .steps ≤ (longestWord w + 3) * (consumed s + 1))
 Stands w s Stopped = (s .state ≡ 0) × (s .count ≡ 0) × (s .steps ≤ (longestWord w + 3) * (consumed s + 1))
 
@@ -170,7 +230,7 @@ pub record SoundFacts (w : List ℕ) (s : Session) : Type 0 where
 
 module _ (w : List ℕ) (s : Session) where
   abbrev whenOpen : List Bool
-  whenOpen = isAt (s .state) (path (fromWords w) 0 (store s)) ∷ leb (s .steps) ((longestWord w + 3) * consumed s + s .count) ∷ []
+  whenOpen = standsAt (fromWords w) (s .state) (store s) ∷ leb (s .steps) ((longestWord w + 3) * consumed s + s .count) ∷ []
 
   abbrev whenEnded : List Bool
   whenEnded = eqb (s .state) 0 ∷ eqb (s .count) 0 ∷ leb (s .steps) ((longestWord w + 3) * (consumed s + 1)) ∷ []
@@ -269,11 +329,11 @@ nothing-after A = refl
 
 -- a call's run on a sound open session tells the trace of what is held and the piece
 pub call-tells : (w : List ℕ) → T (sound w) → (s : Session) (piece : List ℕ) (ended : Bool) → T (soundSession w s) → s .status ≡ Open →
-    Tells (fromWords w) (start (store s) piece (s .state)) (trace (fromWords w) ended 0 (store s ++ piece)) (resumed (fromWords w) s piece ended)
+    Tells (fromWords w) (length (store s)) [] 0 (trace (fromWords w) ended 0 (store s ++ piece)) (resumed (fromWords w) s piece ended)
 call-tells w W s piece ended sn o =
     let v : Stands w s Open = subst (Stands w s) o (sound-facts w s sn .stands) in
-    let l = path-leads (fromWords w) 0 (s .state) (store s) (v .0) in
-    run-tells (fromWords w) (longestWord w) (stateCount w) (sound-good w W) (sound-longest w W) ended (store s) piece (s .state) (l .0) (l .1)
+    run-tells (fromWords w) (longestWord w) (stateCount w) (sound-good w W) (sound-longest w W) ended (store s) piece (s .state)
+    (stands-stood (fromWords w) (s .state) (store s) (v .0))
 
 module _ (w : List ℕ) (W : T (sound w)) (s : Session) (piece : List ℕ) (ended : Bool) where
   abbrev A : Automaton
@@ -318,8 +378,8 @@ module _ (w : List ℕ) (W : T (sound w)) (s : Session) (piece : List ℕ) (ende
       left-stands : (b : Status) → statusOf t ≡ b → Stands w (left k) b
       left-stands Open p =
           let r = trace-open A (longestWord w) n G ended (store s ++ piece) p in
-          let i : length (heldOf t) ≤ 8 = omega (arith, sound-longest w W, trace-held A (longestWord w) n G ended (store s ++ piece)) in
-          (rw (take-pad 8 (heldOf t) i) (leads-path A (longestWord w) n G 0 (heldOf t) (G .some-state) (r .0) (r .1)), spent Open p)
+          let i : length (heldOf t) ≤ 8 = trace-held A (longestWord w) n G ended (store s ++ piece) (sound-longest w W) in
+          (rw (take-pad 8 (heldOf t) i) (stood-stands A (longestWord w) n G (heldOf t) (stateOf A t) (r .0) (r .1)), spent Open p)
       left-stands Closed p = let z = ended-empty t (rw p tt) in (ap (after A 0) z ∙ nothing-after A, ap length z, omega (arith, spent Closed p))
       left-stands Stopped p = let z = ended-empty t (rw p tt) in (ap (after A 0) z ∙ nothing-after A, ap length z, omega (arith, spent Stopped p))
 
@@ -331,7 +391,7 @@ module _ (w : List ℕ) (W : T (sound w)) (s : Session) (piece : List ℕ) (ende
             subst (λ z. s .produced + length (textOf (A .write) (logOf t)) ≤ expansionWord w * z) (sym (add-up .2))
             (few-sum (expansionWord w) (consumed s) (covered (logOf t)) (s .produced) (length (textOf (A .write) (logOf t))) (f .few)
             (trace-few A (longestWord w) (expansionWord w) n G (sound-short w W) ended 0 (store s ++ piece)));
-        places = omega (arith, sound-longest w W, trace-held A (longestWord w) n G ended (store s ++ piece));
+        places = trace-held A (longestWord w) n G ended (store s ++ piece) (sound-longest w W);
         zeros = pad-zeros 8 (heldOf t);
         uses =
             subst (UsesFacts w (usesAfter (s .uses) (logOf t))) (sym (add-up .2))
@@ -345,10 +405,10 @@ module _ (w : List ℕ) (W : T (sound w)) (s : Session) (piece : List ℕ) (ende
   kept-sound sn o e8 h =
       let f : SoundFacts w s = sound-facts w s sn in
       let r : Ended = resumed A s piece ended in
-      let a : Tells A (start (store s) piece (s .state)) t r = call-tells w W s piece ended sn o in
+      let a : Tells A (length (store s)) [] 0 t r = call-tells w W s piece ended sn o in
       let k : ℕ = r .final .steps in
-      let b : Tells A (start (store s) piece (s .state)) t (told A t k) =
+      let b : Tells A (length (store s)) [] 0 t (told A t k) =
       record { status = refl; state = refl; store = refl; unread = refl; log = refl; steps = a .steps; due = refl } in
-      let same : told A t k ≡ r = tells-unique A (start (store s) piece (s .state)) t (told A t k) r b a in
+      let same : told A t k ≡ r = tells-unique A (length (store s)) [] 0 t (told A t k) r b a in
       subst (λ z. T (soundSession w (later s (length piece) (length (textOf (A .write) (z .final .log))) z))) same
       (facts-sound w (left k) (left-facts f o e8 k (omega (arith, a .steps)) h))

@@ -1,27 +1,28 @@
 -- The machine, step by step, does what the trace of its store and unread characters tells; its fuel is enough.
 -- By recursion on a bound of the steps: each step is one of the paper's cases, and in each the trace of what is left tells the rest.
-use mathlib.Core.Bool.{Bool, true, false}
+use mathlib.Core.Bool.{Bool, true, false, _&&_, not}
 use mathlib.Core.List.{List, [], _∷_, _++_, append-assoc, append-nil}
 use mathlib.Core.Logic.{_≢_}
 use mathlib.Core.Path.{_≡_, refl, sym, ap, subst, _∙_}
 use Prim.Native.Nat.{ℕ, zero, suc, pred, _+_, _*_, _≤_, _<_}
 use native.Mathlib.Nat.{zero-add, mul-le-mul-right}
 use native.Mathlib.Omega.{arith}
-use lib.Dec.{eqb·suc-zero}
+use borrow.Author.Tests.{ne-eqb}
+use lib.Dec.{eqb, eqb·suc-zero, ltb}
 use lib.ListN.{length, take, drop, length-append}
 use lib.Seq.{length-take-le, take-append-seam, drop-append-seam}
+use Rattle.lists.specs.Lists.{isEmpty}
 use Rattle.lists.specs.Decide.{select}
-use Rattle.lists.proofs.Laws.Tests.{to-T, either, by-cases}
-use Rattle.meaning.specs.Table.{defaultNumber}
+use Rattle.lists.proofs.Laws.Tests.{to-T, either, by-cases, of-cond}
 use Rattle.meaning.specs.Meaning.{Emission}
 use Rattle.automaton.specs.Automaton.{Automaton}
 use Rattle.automaton.proofs.Laws.Good.{after, after-snoc, Leads, leads-snoc, Good}
-use Rattle.reckoning.specs.Machine.{Configuration, Status, Open, Closed, Stopped, Step, onward, halt, emit, read, rollBack, end, fallBack, step, Ended, follow, steps, run, start}
+use Rattle.reckoning.specs.Machine.{Configuration, Status, Open, Closed, Stopped, Step, onward, halt, emit, read, rollBack, end, fallBack, step, Ended, follow, steps, run, start, Fall, nowhere, taking, keeping, fallBy, startBy, fall}
 use Rattle.reckoning.specs.Session.{settled}
 use Rattle.reckoning.specs.Claims.{Waits}
-use Rattle.reckoning.proofs.Laws.Trace.{Round, waits, closes, stops, accepts, defaults, back, walk, Trace, waiting, closing, stopping, accepting, defaulting, handle, trace, cost, logOf, heldOf, stateOf, statusOf}
-use Rattle.reckoning.proofs.Laws.Walk.{settled-both, Span, walk-span, walk-resume}
-use Rattle.reckoning.proofs.Laws.Rounds.{trace-round, not-open, trace-rests, rests-open, trace-ended, bounded}
+use Rattle.reckoning.proofs.Laws.Trace.{Round, waits, closes, stops, accepts, defaults, back, walk, fallAt, Trace, waiting, closing, stopping, accepting, defaulting, handle, trace, cost, logOf, heldOf, stateOf, statusOf}
+use Rattle.reckoning.proofs.Laws.Walk.{settled-both, Sure, fall-ended, Room, fall-room, Span, walk-span, walk-resume}
+use Rattle.reckoning.proofs.Laws.Rounds.{trace-round, not-open, Stood, led, leftover, left-alone, trace-rests, rests-open, trace-ended, bounded}
 
 abbrev pub at : List ℕ → List ℕ → ℕ → List Emission → ℕ → Configuration
 at w u q l s = record { store = w; unread = u; state = q; due = false; log = l; steps = s }
@@ -77,18 +78,11 @@ module _ (A : Automaton) (q : ℕ) (l : List Emission) (s : ℕ) where
   unfolding step select
   step-giveBack y w p = rw (step, select, unsettled A q p, p)
 
-module _ (A : Automaton) (e : Bool) (u : List ℕ) (l : List Emission) (s : ℕ) where
-  pub due-read : A .default ≡ true → step A e (dueAt [] u l s) ≡ read (dueAt [] u l s) 0
-  unfolding step fallBack select
-  due-read p = rw (step, select, fallBack, select, p)
-
-  pub due-stop : A .default ≡ false → step A e (dueAt [] u l s) ≡ end Stopped (dueAt [] u l s)
-  unfolding step fallBack select
-  due-stop p = rw (step, select, fallBack, select, p)
-
-  pub due-emit : (y : ℕ) → step A e (dueAt (y ∷ []) u l s) ≡ emit (dueAt (y ∷ []) u l s) defaultNumber
-  unfolding step fallBack select
-  due-emit y = refl
+-- after a roll-back, what was taken and what is unread decide
+pub due-step : (A : Automaton) (e : Bool) (w u : List ℕ) (l : List Emission) (s : ℕ) (b : Fall) → fallAt A e (w ++ u) ≡ b →
+    step A e (dueAt w u l s) ≡ fallBy b (dueAt w u l s)
+unfolding step fallBack select
+due-step A e w u l s b p = ap (λ x. fallBy x (dueAt w u l s)) p
 
 pub steps-onward : (A : Automaton) (e : Bool) (m : ℕ) (c d : Configuration) → step A e c ≡ onward d → steps A e (suc m) c ≡ steps A e m d
 unfolding steps
@@ -99,19 +93,19 @@ pub steps-halt : (A : Automaton) (e : Bool) (m : ℕ) (c d : Configuration) (s :
 unfolding steps
 steps-halt A e m c d s p = rw p
 
--- A's run from c ended as the trace t says
-pub record Tells (A : Automaton) (c : Configuration) (t : Trace) (r : Ended) : Type 0 where
+-- A's run ended as the trace t says: from the log l and s steps, of the trace's steps so many being made
+pub record Tells (A : Automaton) (made : ℕ) (l : List Emission) (s : ℕ) (t : Trace) (r : Ended) : Type 0 where
   pub status : r .status ≡ statusOf t
   pub state : r .final .state ≡ stateOf A t
   pub store : r .final .store ≡ heldOf t
   pub unread : r .final .unread ≡ []
-  pub log : r .final .log ≡ c .log ++ logOf t
-  pub steps : r .final .steps + length (c .store) ≡ c .steps + cost t
+  pub log : r .final .log ≡ l ++ logOf t
+  pub steps : r .final .steps + made ≡ s + cost t
   pub due : r .final .due ≡ false
 
--- the trace and the first configuration leave nothing open
-pub tells-unique : (A : Automaton) (c : Configuration) (t : Trace) (r r′ : Ended) → Tells A c t r → Tells A c t r′ → r ≡ r′
-tells-unique A c t r r′ a b =
+-- the trace and where the run began leave nothing open
+pub tells-unique : (A : Automaton) (made : ℕ) (l : List Emission) (s : ℕ) (t : Trace) (r r′ : Ended) → Tells A made l s t r → Tells A made l s t r′ → r ≡ r′
+tells-unique A made l s t r r′ a b =
     let p : r .final .steps ≡ r′ .final .steps = omega arith in
     λ i. record {
       status = (a .status ∙ sym (b .status)) i;
@@ -127,10 +121,10 @@ tells-unique A c t r r′ a b =
 
 -- What becomes of the telling by an emission, a read, and at the run's end.
 
-tells-emit : (A : Automaton) (w u : List ℕ) (q : ℕ) (l : List Emission) (s s′ i : ℕ) (g : Emission) (t t′ : Trace) (r : Ended) → s′ ≡ s + i →
-    statusOf t ≡ statusOf t′ → heldOf t ≡ heldOf t′ → logOf t ≡ g ∷ logOf t′ → cost t ≡ length w + i + cost t′ →
-    (v : List ℕ) → Tells A (at [] v 0 (l ++ g ∷ []) s′) t′ r → Tells A (at w u q l s) t r
-tells-emit A w u q l s s′ i g t t′ r p₀ p₁ p₃ p₄ p₅ v a = record {
+tells-emit : (A : Automaton) (made : ℕ) (l : List Emission) (s s′ i : ℕ) (g : Emission) (t t′ : Trace) (r : Ended) → s′ ≡ s + i →
+    statusOf t ≡ statusOf t′ → heldOf t ≡ heldOf t′ → logOf t ≡ g ∷ logOf t′ → cost t ≡ made + i + cost t′ →
+    Tells A 0 (l ++ g ∷ []) s′ t′ r → Tells A made l s t r
+tells-emit A made l s s′ i g t t′ r p₀ p₁ p₃ p₄ p₅ a = record {
   status = a .status ∙ sym p₁;
   state = a .state ∙ ap (after A 0) (sym p₃);
   store = a .store ∙ sym p₃;
@@ -140,22 +134,22 @@ tells-emit A w u q l s s′ i g t t′ r p₀ p₁ p₃ p₄ p₅ v a = record {
   due = a .due;
 }
 
-tells-read : (A : Automaton) (w u u′ : List ℕ) (y q q′ : ℕ) (l : List Emission) (s : ℕ) (t : Trace) (r : Ended) →
-    Tells A (at (w ++ y ∷ []) u′ q′ l (s + 1)) t r → Tells A (at w u q l s) t r
-tells-read A w u u′ y q q′ l s t r a = record {
+-- by one step more
+tells-next : (A : Automaton) (made made′ : ℕ) (l : List Emission) (s : ℕ) (t : Trace) (r : Ended) → made′ ≡ made + 1 → Tells A made′ l (s + 1) t r → Tells A made l s t r
+tells-next A made made′ l s t r p a = record {
   status = a .status;
   state = a .state;
   store = a .store;
   unread = a .unread;
   log = a .log;
-  steps = omega (arith, length-append w (y ∷ []));
+  steps = omega arith;
   due = a .due;
 }
 
 -- t has no emission
-tells-last : (A : Automaton) (w u : List ℕ) (q : ℕ) (l : List Emission) (s : ℕ) (t : Trace) (b : Status) (w′ : List ℕ) (q′ s′ : ℕ) → b ≡ statusOf t → q′ ≡ after A 0 w′ →
-    w′ ≡ heldOf t → [] ≡ logOf t → s′ + length w ≡ s + cost t → Tells A (at w u q l s) t (record { status = b; final = at w′ [] q′ l s′ })
-tells-last A w u q l s t b w′ q′ s′ p₁ p₂ p₃ p₄ p₅ = record {
+tells-last : (A : Automaton) (made : ℕ) (l : List Emission) (s : ℕ) (t : Trace) (b : Status) (w′ : List ℕ) (q′ s′ : ℕ) → b ≡ statusOf t → q′ ≡ after A 0 w′ →
+    w′ ≡ heldOf t → [] ≡ logOf t → s′ + made ≡ s + cost t → Tells A made l s t (record { status = b; final = at w′ [] q′ l s′ })
+tells-last A made l s t b w′ q′ s′ p₁ p₂ p₃ p₄ p₅ = record {
   status = p₁;
   state = p₂ ∙ ap (after A 0) p₃;
   store = p₃;
@@ -165,8 +159,8 @@ tells-last A w u q l s t b w′ q′ s′ p₁ p₂ p₃ p₄ p₅ = record {
   due = refl;
 }
 
-tells-via : (A : Automaton) (c : Configuration) (t t′ : Trace) (r r′ : Ended) → t ≡ t′ → r ≡ r′ → Tells A c t′ r′ → Tells A c t r
-tells-via A c t t′ r r′ p p′ a = rw (p, p′) a
+tells-via : (A : Automaton) (made : ℕ) (l : List Emission) (s : ℕ) (t t′ : Trace) (r r′ : Ended) → t ≡ t′ → r ≡ r′ → Tells A made l s t′ r′ → Tells A made l s t r
+tells-via A made l s t t′ r r′ p p′ a = rw (p, p′) a
 
 cost-least : (o : Round) (w u : List ℕ) (f : ℕ → Trace) → Span (length w) (length w + length u) o → length w ≤ cost (handle o (w ++ u) f)
 unfolding cost
@@ -175,13 +169,18 @@ cost-least closes w u f s = omega arith
 cost-least (stops d) w u f s = omega arith
 cost-least (accepts r d) w u f s =
     let z : length (take d (w ++ u)) ≡ d = length-take-le d (w ++ u) (omega (arith, length-append w u)) in omega arith
-cost-least (defaults d) w u f s = omega arith
+cost-least (defaults d g k) w u f s = omega arith
 
 -- The trace seen from the middle of a round.
 module _ (A : Automaton) (L n : ℕ) (G : Good A L n) (e : Bool) (w u : List ℕ) (q : ℕ) (l : Leads A 0 w) (p : q ≡ after A 0 w) where
-  trace-mid : trace A e 0 (w ++ u) ≡ handle (walk A e (length w) q u) (w ++ u) (λ k. trace A e 0 (drop (suc k) (w ++ u)))
+  -- what the round comes to
+  abbrev pub mid : Round
+  mid = walk A e (fallAt A e (w ++ u)) (length w) q u
+
+  trace-mid : trace A e 0 (w ++ u) ≡ handle mid (w ++ u) (λ k. trace A e 0 (drop (suc k) (w ++ u)))
   trace-mid =
-      let r : walk A e 0 0 (w ++ u) ≡ walk A e (length w) q u = walk-resume A L n G e 0 0 w u (G .some-state) l ∙ rw (p, zero-add) in
+      let b : Fall = fallAt A e (w ++ u) in
+      let r : walk A e b 0 0 (w ++ u) ≡ walk A e b (length w) q u = walk-resume A L n G e b 0 0 w u (G .some-state) l ∙ rw (p, zero-add) in
       trace-round A L n G e (w ++ u) ∙ ap (λ (o : Round). handle o (w ++ u) (λ k. trace A e 0 (drop (suc k) (w ++ u)))) r
 
   no-fuel : (t : Trace) → t ≡ trace A e 0 (w ++ u) → cost t < 0 + length w → ⊥
@@ -189,28 +188,21 @@ module _ (A : Automaton) (L n : ℕ) (G : Good A L n) (e : Bool) (w u : List ℕ
       omega (
         arith,
         ap cost (tr ∙ trace-mid),
-        cost-least (walk A e (length w) q u) w u (λ k. trace A e 0 (drop (suc k) (w ++ u))) (walk-span A e (length w) q u),
+        cost-least mid w u (λ k. trace A e 0 (drop (suc k) (w ++ u))) (walk-span A e (fallAt A e (w ++ u)) (length w) q u),
       )
 
-  mid-accept : (g : ℕ) → walk A e (length w) q u ≡ accepts g (length w) → w ≢ [] → trace A e 0 (w ++ u) ≡ accepting g w (trace A e 0 u)
+  mid-accept : (g : ℕ) → mid ≡ accepts g (length w) → w ≢ [] → trace A e 0 (w ++ u) ≡ accepting g w (trace A e 0 u)
   mid-accept g k h = trace-mid ∙ rw (k, take-append-seam w u) (ap (λ z. accepting g w (trace A e 0 z)) (rest w h))
     where
       rest : (v : List ℕ) → v ≢ [] → drop (suc (pred (length v))) (v ++ u) ≡ u
       rest [] z = absurd (z refl)
       rest (x ∷ v) z = drop-append-seam v u
 
-  mid-default : (y : ℕ) (v : List ℕ) → walk A e (length w) q u ≡ defaults (length w) → w ++ u ≡ y ∷ v →
-      trace A e 0 (w ++ u) ≡ defaulting (length w) y (trace A e 0 v)
-  mid-default y v k h = trace-mid ∙ rw (k, h)
-
-  mid-stop : walk A e (length w) q u ≡ stops (length w) → trace A e 0 (w ++ u) ≡ stopping (length w)
-  mid-stop k = trace-mid ∙ rw k
-
 -- With b a bound of the cost and fuel m, every run tells its trace.
 abbrev Holds : Automaton → Bool → ℕ → Type 0
 Holds A e b =
     (m : ℕ) (w u : List ℕ) (q : ℕ) (l : List Emission) (s : ℕ) (t : Trace) → Leads A 0 w → q ≡ after A 0 w → t ≡ trace A e 0 (w ++ u) →
-    cost t < b + length w → cost t < m + length w → Tells A (at w u q l s) t (steps A e m (at w u q l s))
+    cost t < b + length w → cost t < m + length w → Tells A (length w) l s t (steps A e m (at w u q l s))
 
 module _ (A : Automaton) (L n : ℕ) (G : Good A L n) where
   -- in state 0 nothing is accepted, so what accepts has a store
@@ -226,10 +218,17 @@ module _ (A : Automaton) (L n : ℕ) (G : Good A L n) where
   unfolding after
   after-nothing = refl
 
+  -- where nothing was read the state is 0, and the next character the first
+  first-unread : (w : List ℕ) (y : ℕ) (u : List ℕ) (z : ℕ) (v : List ℕ) (q : ℕ) → length w ≡ 0 → w ++ y ∷ u ≡ z ∷ v → q ≡ after A 0 w →
+      A .target q y ≡ 0 → A .target 0 z ≡ 0
+  unfolding after
+  first-unread [] y u z v q n h p k = let i : y ≡ z = cc in subst (λ x. A .target 0 x ≡ 0) i (subst (λ r. A .target r y ≡ 0) p k)
+  first-unread (x ∷ w) y u z v q n h p k = absurd (omega arith)
+
   module _ (e : Bool) (b : ℕ) (ih : Holds A e b) (m : ℕ) (w u : List ℕ) (q : ℕ) (l : List Emission) (s : ℕ) (t : Trace)
       (ld : Leads A 0 w) (p : q ≡ after A 0 w) (tr : t ≡ trace A e 0 (w ++ u)) (few : cost t < suc b + length w) (fuel : cost t < suc m + length w) where
-    accept-case : (g : ℕ) → walk A e (length w) q u ≡ accepts g (length w) → w ≢ [] → step A e (at w u q l s) ≡ emit (at w u q l s) g →
-        Tells A (at w u q l s) t (steps A e (suc m) (at w u q l s))
+    accept-case : (g : ℕ) → mid A L n G e w u q ld p ≡ accepts g (length w) → w ≢ [] → step A e (at w u q l s) ≡ emit (at w u q l s) g →
+        Tells A (length w) l s t (steps A e (suc m) (at w u q l s))
     unfolding statusOf heldOf logOf cost
     accept-case g k h st =
         let c : Configuration = at w u q l s in
@@ -237,57 +236,122 @@ module _ (A : Automaton) (L n : ℕ) (G : Good A L n) where
         let x : Emission = record { group = g; word = w } in
         let d : Configuration = at [] u 0 (l ++ x ∷ []) (s + 1) in
         let p′ : t ≡ accepting g w t′ = tr ∙ mid-accept A L n G e w u q ld p g k h in
-        tells-via A c t (accepting g w t′) (steps A e (suc m) c) (steps A e m d) p′ (steps-onward A e m c d st)
-        (tells-emit A w u q l s (s + 1) 1 x (accepting g w t′) t′ (steps A e m d) refl refl refl refl refl u
+        tells-via A (length w) l s t (accepting g w t′) (steps A e (suc m) c) (steps A e m d) p′ (steps-onward A e m c d st)
+        (tells-emit A (length w) l s (s + 1) 1 x (accepting g w t′) t′ (steps A e m d) refl refl refl refl refl
         (ih m [] u 0 (l ++ x ∷ []) (s + 1) t′ tt after-nothing refl (omega (arith, ap cost p′)) (omega (arith, ap cost p′))))
 
-  -- after a roll-back the store is unread again: the default takes one character, or the run stops
+  -- After a roll-back from d reads, all of z is unread: the run stops, takes one or two characters, or waits with the one that is there.
+  module _ (e : Bool) (b : ℕ) (ih : Holds A e b) (d : ℕ) (z : List ℕ) (l : List Emission) (s : ℕ) where
+    abbrev fallen : Fall → Trace
+    fallen x = handle (back x d) z (λ k. trace A e 0 (drop (suc k) z))
+
+    stop-case : (m : ℕ) → fallAt A e z ≡ nowhere → cost (fallen nowhere) < m + (d + 1) → Tells A (d + 1) l s (fallen nowhere) (steps A e m (dueAt [] z l s))
+    unfolding statusOf heldOf logOf cost
+    stop-case zero pf fuel = absurd (omega arith)
+    stop-case (suc m) pf fuel =
+        let c : Configuration = dueAt [] z l s in
+        tells-via A (d + 1) l s (stopping d) (stopping d) (steps A e (suc m) c) (record { status = Stopped; final = at [] [] 0 l (s + 1) }) refl
+        (steps-halt A e m c (at [] [] 0 l (s + 1)) Stopped (due-step A e [] z l s nowhere pf))
+        (tells-last A (d + 1) l s (stopping d) Stopped [] 0 (s + 1) refl after-nothing refl refl (omega arith))
+
+    keep-case : (m : ℕ) → fallAt A e z ≡ keeping → d ≡ 0 → length z ≡ 1 → after A 0 z ≡ 0 → cost (fallen keeping) < m + (d + 1) →
+        Tells A (d + 1) l s (fallen keeping) (steps A e m (dueAt [] z l s))
+    unfolding statusOf heldOf logOf cost
+    keep-case zero pf zd zl there fuel = absurd (omega arith)
+    keep-case (suc m) pf zd zl there fuel =
+        let c : Configuration = dueAt [] z l s in
+        tells-via A (d + 1) l s (waiting z) (waiting z) (steps A e (suc m) c) (record { status = Open; final = at z [] 0 l s }) refl
+        (steps-halt A e m c (at z [] 0 l s) Open (due-step A e [] z l s keeping pf))
+        (tells-last A (d + 1) l s (waiting z) Open z 0 s refl (sym there) refl refl (omega arith))
+
+  -- a take, or two, and the emission
+  module _ (e : Bool) (b : ℕ) (ih : Holds A e b) (d : ℕ) (l : List Emission) (s : ℕ) (g : ℕ) where
+    one-case : (m y : ℕ) (v : List ℕ) → fallAt A e (y ∷ v) ≡ taking g 1 → cost (trace A e 0 v) + 3 < suc b → cost (trace A e 0 v) + 3 < m + 1 →
+        Tells A (d + 1) l s (defaulting d g (y ∷ []) (trace A e 0 v)) (steps A e m (dueAt [] (y ∷ v) l s))
+    unfolding statusOf heldOf logOf cost
+    one-case zero y v pf few fuel = absurd (omega arith)
+    one-case (suc zero) y v pf few fuel = absurd (omega arith)
+    one-case (suc (suc m)) y v pf few fuel =
+        let t′ : Trace = trace A e 0 v in
+        let x : Emission = record { group = g; word = y ∷ [] } in
+        let c₁ : Configuration = dueAt [] (y ∷ v) l s in
+        let c₂ : Configuration = dueAt (y ∷ []) v l (s + 1) in
+        let c₃ : Configuration = at [] v 0 (l ++ x ∷ []) (s + 1 + 1) in
+        let t : Trace = defaulting d g (y ∷ []) t′ in
+        tells-via A (d + 1) l s t t (steps A e (suc (suc m)) c₁) (steps A e m c₃) refl
+        (steps-onward A e (suc m) c₁ c₂ (due-step A e [] (y ∷ v) l s (taking g 1) pf) ∙ steps-onward A e m c₂ c₃ (due-step A e (y ∷ []) v l (s + 1) (taking g 1) pf))
+        (tells-emit A (d + 1) l s (s + 1 + 1) 2 x t t′ (steps A e m c₃) (omega arith) refl refl refl (omega arith)
+        (ih m [] v 0 (l ++ x ∷ []) (s + 1 + 1) t′ tt after-nothing refl (omega arith) (omega arith)))
+
+    two-case : (m y y′ : ℕ) (v : List ℕ) → fallAt A e (y ∷ y′ ∷ v) ≡ taking g 2 → cost (trace A e 0 v) + 4 < suc b → cost (trace A e 0 v) + 4 < m + 1 →
+        Tells A (d + 1) l s (defaulting d g (y ∷ y′ ∷ []) (trace A e 0 v)) (steps A e m (dueAt [] (y ∷ y′ ∷ v) l s))
+    unfolding statusOf heldOf logOf cost
+    two-case zero y y′ v pf few fuel = absurd (omega arith)
+    two-case (suc zero) y y′ v pf few fuel = absurd (omega arith)
+    two-case (suc (suc zero)) y y′ v pf few fuel = absurd (omega arith)
+    two-case (suc (suc (suc m))) y y′ v pf few fuel =
+        let t′ : Trace = trace A e 0 v in
+        let x : Emission = record { group = g; word = y ∷ y′ ∷ [] } in
+        let c₁ : Configuration = dueAt [] (y ∷ y′ ∷ v) l s in
+        let c₂ : Configuration = dueAt (y ∷ []) (y′ ∷ v) l (s + 1) in
+        let c₃ : Configuration = dueAt (y ∷ y′ ∷ []) v l (s + 1 + 1) in
+        let c₄ : Configuration = at [] v 0 (l ++ x ∷ []) (s + 1 + 1 + 1) in
+        let t : Trace = defaulting d g (y ∷ y′ ∷ []) t′ in
+        tells-via A (d + 1) l s t t (steps A e (suc (suc (suc m))) c₁) (steps A e m c₄) refl
+        (steps-onward A e (suc (suc m)) c₁ c₂ (due-step A e [] (y ∷ y′ ∷ v) l s (taking g 2) pf)
+        ∙ steps-onward A e (suc m) c₂ c₃ (due-step A e (y ∷ []) (y′ ∷ v) l (s + 1) (taking g 2) pf)
+        ∙ steps-onward A e m c₃ c₄ (due-step A e (y ∷ y′ ∷ []) v l (s + 1 + 1) (taking g 2) pf))
+        (tells-emit A (d + 1) l s (s + 1 + 1 + 1) 3 x t t′ (steps A e m c₄) (omega arith) refl refl refl (omega arith)
+        (ih m [] v 0 (l ++ x ∷ []) (s + 1 + 1 + 1) t′ tt after-nothing refl (omega arith) (omega arith)))
+
+  module _ (e : Bool) (b : ℕ) (ih : Holds A e b) (d : ℕ) (l : List Emission) (s : ℕ) where
+    take-case : (m g k : ℕ) (z : List ℕ) → fallAt A e z ≡ taking g k → Room (length z) (taking g k) →
+        cost (fallen e b ih d z l s (taking g k)) < suc b + d → cost (fallen e b ih d z l s (taking g k)) < m + (d + 1) →
+        Tells A (d + 1) l s (fallen e b ih d z l s (taking g k)) (steps A e m (dueAt [] z l s))
+    unfolding cost
+    take-case m g zero z pf r few fuel = absurd (omega arith)
+    take-case m g (suc zero) [] pf r few fuel = absurd (omega arith)
+    take-case m g (suc zero) (y ∷ v) pf r few fuel = one-case e b ih d l s g m y v pf (omega arith) (omega arith)
+    take-case m g (suc (suc zero)) [] pf r few fuel = absurd (omega arith)
+    take-case m g (suc (suc zero)) (y ∷ []) pf r few fuel = absurd (omega arith)
+    take-case m g (suc (suc zero)) (y ∷ (y′ ∷ v)) pf r few fuel = two-case e b ih d l s g m y y′ v pf (omega arith) (omega arith)
+    take-case m g (suc (suc (suc k))) z pf r few fuel = absurd (omega arith)
+
+    -- all of z is unread, and begins with y
+    due-case : (m : ℕ) (x : Fall) (y : ℕ) (v : List ℕ) → fallAt A e (y ∷ v) ≡ x → (x ≡ keeping → (d ≡ 0) × (A .target 0 y ≡ 0)) →
+        cost (fallen e b ih d (y ∷ v) l s x) < suc b + d → cost (fallen e b ih d (y ∷ v) l s x) < m + (d + 1) →
+        Tells A (d + 1) l s (fallen e b ih d (y ∷ v) l s x) (steps A e m (dueAt [] (y ∷ v) l s))
+    unfolding after
+    due-case m nowhere y v pf alone few fuel = stop-case e b ih d (y ∷ v) l s m pf fuel
+    due-case m (taking g k) y v pf alone few fuel = take-case m g k (y ∷ v) pf (subst (Room (suc (length v))) pf (fall-room (A .default) e y v)) few fuel
+    due-case m keeping y v pf alone few fuel =
+        let i : v ≡ [] = left-alone (A .default) e y v pf .1 in
+        keep-case e b ih d (y ∷ v) l s m pf (alone refl .0) (ap (λ w. suc (length w)) i) (ap (λ w. after A 0 (y ∷ w)) i ∙ alone refl .1) fuel
+
+  -- a roll-back
   module _ (e : Bool) (b : ℕ) (ih : Holds A e b) (w u : List ℕ) (q : ℕ) (l : List Emission) (s : ℕ) (t : Trace)
       (ld : Leads A 0 w) (p : q ≡ after A 0 w) (tr : t ≡ trace A e 0 (w ++ u)) (few : cost t < suc b + length w)
       (st : step A e (at w u q l s) ≡ rollBack (at w u q l s)) where
-    default-case : (m y : ℕ) (v : List ℕ) → A .default ≡ true → w ++ u ≡ y ∷ v → t ≡ defaulting (length w) y (trace A e 0 v) →
-        cost t < m + length w → Tells A (at w u q l s) t (steps A e m (at w u q l s))
-    unfolding statusOf heldOf logOf cost
-    default-case zero y v pf pv p′ fuel = absurd (omega (arith, ap cost p′))
-    default-case (suc zero) y v pf pv p′ fuel = absurd (omega (arith, ap cost p′))
-    default-case (suc (suc zero)) y v pf pv p′ fuel = absurd (omega (arith, ap cost p′))
-    default-case (suc (suc (suc m))) y v pf pv p′ fuel =
-        let t′ : Trace = trace A e 0 v in
-        let x : Emission = record { group = defaultNumber; word = y ∷ [] } in
+    back-case : (m : ℕ) (x : Fall) (y : ℕ) (v : List ℕ) → fallAt A e (w ++ u) ≡ x → w ++ u ≡ y ∷ v → mid A L n G e w u q ld p ≡ back (fallAt A e (w ++ u)) (length w) →
+        (x ≡ keeping → (length w ≡ 0) × (A .target 0 y ≡ 0)) → cost t < suc m + length w → Tells A (length w) l s t (steps A e (suc m) (at w u q l s))
+    back-case m x y v pf pv k alone fuel =
+        let d : ℕ = length w in
+        let t′ : Trace = fallen e b ih d (y ∷ v) l (s + 1) x in
+        let p′ : t ≡ t′ =
+        tr ∙ trace-mid A L n G e w u q ld p ∙ ap (λ o. handle o (w ++ u) (λ k. trace A e 0 (drop (suc k) (w ++ u)))) (k ∙ ap (λ x. back x d) pf)
+        ∙ ap (λ z. handle (back x d) z (λ k. trace A e 0 (drop (suc k) z))) pv in
         let c : Configuration = at w u q l s in
         let c₁ : Configuration = dueAt [] (y ∷ v) l (s + 1) in
-        let c₂ : Configuration = dueAt (y ∷ []) v l (s + 1 + 1) in
-        let c₃ : Configuration = at [] v 0 (l ++ x ∷ []) (s + 1 + 1 + 1) in
         let st₁ : step A e c ≡ onward c₁ = st ∙ ap (λ z. onward (dueAt [] z l (s + 1))) pv in
-        tells-via A c t (defaulting (length w) y t′) (steps A e (suc (suc (suc m))) c) (steps A e m c₃) p′
-        (steps-onward A e (suc (suc m)) c c₁ st₁ ∙ steps-onward A e (suc m) c₁ c₂ (due-read A e (y ∷ v) l (s + 1) pf)
-        ∙ steps-onward A e m c₂ c₃ (due-emit A e v l (s + 1 + 1) y))
-        (tells-emit A w u q l s (s + 1 + 1 + 1) 3 x (defaulting (length w) y t′) t′ (steps A e m c₃) (omega arith) refl refl refl refl v
-        (ih m [] v 0 (l ++ x ∷ []) (s + 1 + 1 + 1) t′ tt after-nothing refl (omega (arith, ap cost p′)) (omega (arith, ap cost p′))))
-
-    stop-case : (m : ℕ) → A .default ≡ false → t ≡ stopping (length w) → cost t < m + length w →
-        Tells A (at w u q l s) t (steps A e m (at w u q l s))
-    unfolding statusOf heldOf logOf cost
-    stop-case zero pf p′ fuel = absurd (omega (arith, ap cost p′))
-    stop-case (suc zero) pf p′ fuel = absurd (omega (arith, ap cost p′))
-    stop-case (suc (suc m)) pf p′ fuel =
-        let c : Configuration = at w u q l s in
-        let d : Configuration = dueAt [] (w ++ u) l (s + 1) in
-        let f : Configuration = at [] [] 0 l (s + 1 + 1) in
-        tells-via A c t (stopping (length w)) (steps A e (suc (suc m)) c) (record { status = Stopped; final = f }) p′
-        (steps-onward A e (suc m) c d st ∙ steps-halt A e m d f Stopped (due-stop A e (w ++ u) l (s + 1) pf))
-        (tells-last A w u q l s (stopping (length w)) Stopped [] 0 (s + 1 + 1) refl after-nothing refl refl (omega arith))
-
-    back-case : (m : ℕ) (f : Bool) (y : ℕ) (v : List ℕ) → A .default ≡ f → w ++ u ≡ y ∷ v → walk A e (length w) q u ≡ back f (length w) →
-        cost t < m + length w → Tells A (at w u q l s) t (steps A e m (at w u q l s))
-    back-case m true y v pf pv k fuel = default-case m y v pf pv (tr ∙ mid-default A L n G e w u q ld p y v k pv) fuel
-    back-case m false y v pf pv k fuel = stop-case m pf (tr ∙ mid-stop A L n G e w u q ld p k) fuel
+        tells-via A d l s t t′ (steps A e (suc m) c) (steps A e m c₁) p′ (steps-onward A e m c c₁ st₁)
+        (tells-next A d (d + 1) l s t′ (steps A e m c₁) refl
+        (due-case e b ih d l (s + 1) m x y v (ap (fallAt A e) (sym pv) ∙ pf) alone (omega (arith, ap cost p′)) (omega (arith, ap cost p′))))
 
   -- a character is unread
   module _ (e : Bool) (b : ℕ) (ih : Holds A e b) (m : ℕ) (w : List ℕ) (y : ℕ) (u : List ℕ) (q : ℕ) (l : List Emission) (s : ℕ) (t : Trace)
       (ld : Leads A 0 w) (p : q ≡ after A 0 w) (tr : t ≡ trace A e 0 (w ++ y ∷ u))
       (few : cost t < suc b + length w) (fuel : cost t < suc m + length w) where
-    character-case : (g k : ℕ) → A .accept q ≡ g → A .target q y ≡ k → Tells A (at w (y ∷ u) q l s) t (steps A e (suc m) (at w (y ∷ u) q l s))
+    character-case : (g k : ℕ) → A .accept q ≡ g → A .target q y ≡ k → Tells A (length w) l s t (steps A e (suc m) (at w (y ∷ u) q l s))
     unfolding walk
     character-case (suc r) k pg pk =
         accept-case e b ih m w (y ∷ u) q l s t ld p tr few fuel r (rw pg) (accept-store w q r p pg) (step-accept A e w y u q l s r pg)
@@ -295,48 +359,53 @@ module _ (A : Automaton) (L n : ℕ) (G : Good A L n) where
         let h : A .target (after A 0 w) y ≡ suc k = rw (← p) pk in
         let c : Configuration = at w (y ∷ u) q l s in
         let d : Configuration = at (w ++ y ∷ []) u (suc k) l (s + 1) in
-        tells-via A c t t (steps A e (suc m) c) (steps A e m d) refl (steps-onward A e m c d (step-read A e w y u q l s k pg pk))
-        (tells-read A w (y ∷ u) u y q (suc k) l s t (steps A e m d)
+        tells-via A (length w) l s t t (steps A e (suc m) c) (steps A e m d) refl (steps-onward A e m c d (step-read A e w y u q l s k pg pk))
+        (tells-next A (length w) (length (w ++ y ∷ [])) l s t (steps A e m d) (length-append w (y ∷ []))
         (ih m (w ++ y ∷ []) u (suc k) l (s + 1) t (leads-snoc A 0 w y ld (omega arith)) (sym h ∙ sym (after-snoc A 0 w y))
         (tr ∙ ap (trace A e 0) (sym (append-assoc w (y ∷ []) u)))
         (omega (arith, length-append w (y ∷ []))) (omega (arith, length-append w (y ∷ [])))))
     character-case zero zero pg pk = back-now (w ++ y ∷ u) refl
       where
-        back-now : (v : List ℕ) → w ++ y ∷ u ≡ v → Tells A (at w (y ∷ u) q l s) t (steps A e (suc m) (at w (y ∷ u) q l s))
+        back-now : (v : List ℕ) → w ++ y ∷ u ≡ v → Tells A (length w) l s t (steps A e (suc m) (at w (y ∷ u) q l s))
         back-now [] h = absurd (omega (arith, length-append w (y ∷ u), ap length h))
         back-now (z ∷ v) h =
-            back-case e b ih w (y ∷ u) q l s t ld p tr few (step-back A e w y u q l s pg pk) (suc m) (A .default) z v refl h (rw (pg, pk)) fuel
+            back-case e b ih w (y ∷ u) q l s t ld p tr few (step-back A e w y u q l s pg pk) m (fallAt A e (w ++ y ∷ u)) z v refl h (rw (pg, pk))
+            (λ a.
+            let i = left-alone (A .default) e z v (ap (fallAt A e) (sym h) ∙ a) .1 in
+            let none-read : length w ≡ 0 = omega (arith, length-append w (y ∷ u), ap length h, ap length i) in
+            (none-read, first-unread w y u z v q none-read h p pk)) fuel
 
   -- nothing is unread, and more may come
   module _ (b : ℕ) (ih : Holds A false b) (m : ℕ) (w : List ℕ) (q : ℕ) (l : List Emission) (s : ℕ) (t : Trace)
       (ld : Leads A 0 w) (p : q ≡ after A 0 w) (tr : t ≡ trace A false 0 (w ++ []))
       (few : cost t < suc b + length w) (fuel : cost t < suc m + length w) where
-    open-case : (h : Bool) → settled A q ≡ h → Tells A (at w [] q l s) t (steps A false (suc m) (at w [] q l s))
+    open-case : (h : Bool) → settled A q ≡ h → Tells A (length w) l s t (steps A false (suc m) (at w [] q l s))
     unfolding walk statusOf heldOf logOf cost
     open-case true h =
         accept-case false b ih m w [] q l s t ld p tr few fuel (pred (A .accept q)) (rw h)
         (let k = settled-both A q (to-T (settled A q) h) in accept-store w q (k .0) p (k .1)) (step-settled A w q l s h)
     open-case false h =
         let c : Configuration = at w [] q l s in
-        tells-via A c t (waiting w) (steps A false (suc m) c) (record { status = Open; final = c })
+        tells-via A (length w) l s t (waiting w) (steps A false (suc m) c) (record { status = Open; final = c })
         (tr ∙ trace-mid A L n G false w [] q ld p ∙ rw (h, append-nil)) (steps-halt A false m c c Open (step-wait A w q l s h))
-        (tells-last A w [] q l s (waiting w) Open w q s refl p refl refl refl)
+        (tells-last A (length w) l s (waiting w) Open w q s refl p refl refl refl)
 
   -- nothing is unread, and the input has ended
   end-case : (b : ℕ) → Holds A true b → (m : ℕ) (w : List ℕ) (q : ℕ) (l : List Emission) (s : ℕ) (t : Trace) →
       Leads A 0 w → q ≡ after A 0 w → t ≡ trace A true 0 (w ++ []) → cost t < suc b + length w → cost t < suc m + length w →
-      (k : ℕ) → A .acceptAtEnd q ≡ k → Tells A (at w [] q l s) t (steps A true (suc m) (at w [] q l s))
+      (k : ℕ) → A .acceptAtEnd q ≡ k → Tells A (length w) l s t (steps A true (suc m) (at w [] q l s))
   unfolding walk statusOf heldOf logOf cost
   end-case b ih m w q l s t ld p tr few fuel (suc r) k =
       accept-case true b ih m w [] q l s t ld p tr few fuel r (rw k) (end-store w q r p k) (step-end A w q l s r k)
   end-case b ih m [] q l s t ld p tr few fuel zero k =
       let c : Configuration = at [] [] q l s in
       let d : Configuration = at [] [] 0 l (s + 1) in
-      tells-via A c t closing (steps A true (suc m) c) (record { status = Closed; final = d })
+      tells-via A 0 l s t closing (steps A true (suc m) c) (record { status = Closed; final = d })
       (tr ∙ trace-mid A L n G true [] [] q ld p ∙ rw k) (steps-halt A true m c d Closed (step-close A q l s k))
-      (tells-last A [] [] q l s closing Closed [] 0 (s + 1) refl after-nothing refl refl (omega arith))
+      (tells-last A 0 l s closing Closed [] 0 (s + 1) refl after-nothing refl refl (omega arith))
   end-case b ih m (y ∷ w) q l s t ld p tr few fuel zero k =
-      back-case true b ih (y ∷ w) [] q l s t ld p tr few (step-giveBack A q l s y w k) (suc m) (A .default) y w refl (append-nil (y ∷ w)) (rw k) fuel
+      back-case true b ih (y ∷ w) [] q l s t ld p tr few (step-giveBack A q l s y w k) m (fallAt A true (y ∷ w ++ [])) y w refl (append-nil (y ∷ w)) (rw k)
+      (λ a. absurd (subst Sure a (fall-ended (A .default) (y ∷ w ++ [])))) fuel
 
   tells : (e : Bool) (b : ℕ) → Holds A e b
   tells e zero m w u q l s t ld p tr few fuel = absurd (no-fuel A L n G e w u q ld p t tr few)
@@ -346,34 +415,86 @@ module _ (A : Automaton) (L n : ℕ) (G : Good A L n) where
   tells false (suc b) (suc m) w [] q l s t ld p tr few fuel = open-case b (tells false b) m w q l s t ld p tr few fuel (settled A q) refl
   tells true (suc b) (suc m) w [] q l s t ld p tr few fuel = end-case b (tells true b) m w q l s t ld p tr few fuel (A .acceptAtEnd q) refl
 
+  -- Where a run is resumed.
+
+  led-nonzero : (q x : ℕ) (w : List ℕ) → Leads A q (x ∷ w) → after A q (x ∷ w) ≢ 0
+  unfolding after
+  led-nonzero q x [] ld = ld .0
+  led-nonzero q x (y ∷ w) ld = led-nonzero (A .target q x) y w (ld .1)
+
+  start-led : (w u : List ℕ) (q : ℕ) → Leads A 0 w → q ≡ after A 0 w → start w u q ≡ at w u q [] 0
+  start-led [] u q ld p = refl
+  start-led (x ∷ w) u q ld p = rw (ne-eqb q 0 (λ z. led-nonzero 0 x w ld (sym p ∙ z)))
+
   -- the same with fuel that always suffices
-  fuel-tells : L ≤ 8 → (e : Bool) (w u : List ℕ) (q : ℕ) → Leads A 0 w → q ≡ after A 0 w → (m : ℕ) → 11 * (length w + length u + 1) ≤ m →
-      Tells A (start w u q) (trace A e 0 (w ++ u)) (steps A e m (start w u q))
-  fuel-tells h e w u q ld p m enough =
+  fuel-tells : L ≤ 8 → (e : Bool) (w u : List ℕ) (q : ℕ) → Stood A w q → (m : ℕ) → 11 * (length w + length u + 1) ≤ m →
+      Tells A (length w) [] 0 (trace A e 0 (w ++ u)) (steps A e m (start w u q))
+  unfolding walk
+  fuel-tells h e w u q (led p ld) m enough =
       let eleven : L + 3 ≤ 11 = omega arith in
       let few : cost (trace A e 0 (w ++ u)) < m + length w =
       omega (arith, bounded A L n G e (w ++ u) .whole, mul-le-mul-right (length (w ++ u)) eleven, length-append w u) in
-      tells e m m w u q [] 0 (trace A e 0 (w ++ u)) ld p refl few few
+      subst (λ c. Tells A (length w) [] 0 (trace A e 0 (w ++ u)) (steps A e m c)) (sym (start-led w u q ld p))
+      (tells e m m w u q [] 0 (trace A e 0 (w ++ u)) ld p refl few few)
+  fuel-tells h e w u q (leftover x pw pq pm i k) m enough =
+      subst (λ w. Tells A (length w) [] 0 (trace A e 0 (w ++ u)) (steps A e m (start w u q))) (sym pw)
+      (subst (λ q. Tells A 1 [] 0 (trace A e 0 (x ∷ u)) (steps A e m (start (x ∷ []) u q))) (sym pq) again)
+    where
+      is : trace A e 0 (x ∷ u) ≡ handle (back (fallAt A e (x ∷ u)) 0) (x ∷ u) (λ k. trace A e 0 (drop (suc k) (x ∷ u)))
+      is = trace-round A L n G e (x ∷ u) ∙ rw (G .accept-0, k)
 
-  pub run-tells : L ≤ 8 → (e : Bool) (w u : List ℕ) (q : ℕ) → Leads A 0 w → q ≡ after A 0 w →
-      Tells A (start w u q) (trace A e 0 (w ++ u)) (run A e (start w u q))
+      again : Tells A 1 [] 0 (trace A e 0 (x ∷ u)) (steps A e m (dueAt [] (x ∷ u) [] 0))
+      again =
+          let eleven : L + 3 ≤ 11 = omega arith in
+          let held : length w ≡ 1 = ap length pw in
+          let few : cost (trace A e 0 (x ∷ u)) < m =
+          omega (arith, bounded A L n G e (x ∷ u) .whole, mul-le-mul-right (suc (length u)) eleven) in
+          subst (λ t. Tells A 1 [] 0 t (steps A e m (dueAt [] (x ∷ u) [] 0))) (sym is)
+          (due-case e m (tells e m) 0 [] 0 m (fallAt A e (x ∷ u)) x u refl (λ _. (refl, k)) (omega (arith, ap cost is)) (omega (arith, ap cost is)))
+
+  start-length : (w u : List ℕ) (q : ℕ) → length (start w u q .store) + length (start w u q .unread) ≡ length w + length u
+  start-length w u q = by (not (isEmpty w) && eqb q 0)
+    where
+      by : (b : Bool) → length (startBy b w u q .store) + length (startBy b w u q .unread) ≡ length w + length u
+      by false = refl
+      by true = omega (arith, length-append w u)
+
+  pub run-tells : L ≤ 8 → (e : Bool) (w u : List ℕ) (q : ℕ) → Stood A w q →
+      Tells A (length w) [] 0 (trace A e 0 (w ++ u)) (run A e (start w u q))
   unfolding run
-  run-tells h e w u q ld p = fuel-tells h e w u q ld p _ (omega arith)
+  run-tells h e w u q S =
+      fuel-tells h e w u q S (11 * (length (start w u q .store) + length (start w u q .unread) + 1)) (omega (arith, start-length w u q))
+
+  -- a resumed run is the run from the start over what is held and the piece, less the steps that were made: one for each character held
+  pub run-again : L ≤ 8 → (e : Bool) (w u : List ℕ) (q : ℕ) → Stood A w q → (let r = run A e (start w u q) in let r′ = run A e (start [] (w ++ u) 0) in
+      (r .status ≡ r′ .status) × (r .final .state ≡ r′ .final .state) × (r .final .store ≡ r′ .final .store) × (r .final .log ≡ r′ .final .log)
+      × (r .final .steps + length w ≡ r′ .final .steps))
+  run-again h e w u q S =
+      let a = run-tells h e w u q S in
+      let b = run-tells h e [] (w ++ u) 0 (led after-nothing tt) in (
+        a .status ∙ sym (b .status),
+        a .state ∙ sym (b .state),
+        a .store ∙ sym (b .store),
+        a .log ∙ sym (b .log),
+        let x : run A e (start w u q) .final .steps + length w ≡ 0 + cost (trace A e 0 (w ++ u)) = a .steps in
+            let y : run A e (start [] (w ++ u) 0) .final .steps + 0 ≡ 0 + cost (trace A e 0 (w ++ u)) = b .steps in
+            omega arith,
+      )
 
   -- more fuel changes nothing
-  pub fuel-enough : L ≤ 8 → (e : Bool) (w u : List ℕ) (q : ℕ) → Leads A 0 w → q ≡ after A 0 w → (m : ℕ) → 11 * (length w + length u + 1) ≤ m →
+  pub fuel-enough : L ≤ 8 → (e : Bool) (w u : List ℕ) (q : ℕ) → Stood A w q → (m : ℕ) → 11 * (length w + length u + 1) ≤ m →
       steps A e m (start w u q) ≡ run A e (start w u q)
-  fuel-enough h e w u q ld p m enough =
-      tells-unique A (start w u q) (trace A e 0 (w ++ u)) (steps A e m (start w u q)) (run A e (start w u q)) (fuel-tells h e w u q ld p m enough)
-      (run-tells h e w u q ld p)
+  fuel-enough h e w u q S m enough =
+      tells-unique A (length w) [] 0 (trace A e 0 (w ++ u)) (steps A e m (start w u q)) (run A e (start w u q)) (fuel-tells h e w u q S m enough)
+      (run-tells h e w u q S)
 
   -- a run that ends open waits, and the end is not known
-  pub run-waits : L ≤ 8 → (e : Bool) (w u : List ℕ) (q : ℕ) → Leads A 0 w → q ≡ after A 0 w → run A e (start w u q) .status ≡ Open →
+  pub run-waits : L ≤ 8 → (e : Bool) (w u : List ℕ) (q : ℕ) → Stood A w q → run A e (start w u q) .status ≡ Open →
       Waits A e (run A e (start w u q) .final)
-  run-waits h true w u q ld p o =
-      absurd (not-open (statusOf (trace A true 0 (w ++ u))) (trace-ended A 0 (w ++ u)) (sym (run-tells h true w u q ld p .status) ∙ o))
-  run-waits h false w u q ld p o =
-      let a = run-tells h false w u q ld p in
+  run-waits h true w u q S o =
+      absurd (not-open (statusOf (trace A true 0 (w ++ u))) (trace-ended A 0 (w ++ u)) (sym (run-tells h true w u q S .status) ∙ o))
+  run-waits h false w u q S o =
+      let a = run-tells h false w u q S in
       record {
         no-end = refl;
         unread = a .unread;
@@ -392,11 +513,16 @@ abbrev LeadsOn : Step → Type 0
 LeadsOn (onward c) = Unit {0}
 LeadsOn (halt s c) = NotClosed s
 
+fall-leads : (b : Fall) (c : Configuration) → LeadsOn (fallBy b c)
+fall-leads nowhere c = tt
+fall-leads (taking g k) c = of-cond LeadsOn (ltb (length (c .store)) k) (read c 0) (emit c g) (λ _. tt) (λ _. tt)
+fall-leads keeping c = tt
+
 step-leads : (A : Automaton) (c : Configuration) → LeadsOn (step A false c)
 unfolding step fallBack
 step-leads A c =
     by-cases LeadsOn _ (end Closed c) (
-      λ _. by-cases LeadsOn _ (end Stopped c) (λ _. tt, λ _. (λ _. tt, λ _. tt)),
+      λ _. fall-leads (fall (A .default) false (c .store ++ c .unread)) c,
       λ _. (λ _. tt, λ _. (λ _. tt, λ _. (λ _. tt, λ _. (λ _. tt, λ _. (λ _. tt, λ z. absurd z))))),
     )
 

@@ -13,16 +13,16 @@ use Rattle.automaton.specs.States.{states}
 use Rattle.automaton.specs.Automaton.{fromTable}
 use Rattle.automaton.proofs.Laws.Good.{after}
 use Rattle.automaton.proofs.Laws.States.{table-good, table-reads}
-use Rattle.reckoning.specs.Machine.{start}
 use Rattle.reckoning.specs.Reckoning.{ran}
 use Rattle.reckoning.proofs.Laws.Trace.{trace, logOf, statusOf}
+use Rattle.reckoning.proofs.Laws.Rounds.{led}
 use Rattle.reckoning.proofs.Laws.Run.{Tells, run-tells}
 use Rattle.reckoning.proofs.Laws.Meaning.{ending, meaning-law}
 
 module _ (t : Table) (s : Shaped t) where
-  pub run-is : (u : List ℕ) (e : Bool) → Tells (fromTable t) (start [] u 0) (trace (fromTable t) e 0 u) (ran t u e)
+  pub run-is : (u : List ℕ) (e : Bool) → Tells (fromTable t) 0 [] 0 (trace (fromTable t) e 0 u) (ran t u e)
   unfolding ran after
-  run-is u e = run-tells (fromTable t) (longest t) (length (states t)) (table-good t s) (longest-small t s) e [] u 0 tt refl
+  run-is u e = run-tells (fromTable t) (longest t) (length (states t)) (table-good t s) (longest-small t s) e [] u 0 (led refl tt)
 
   pub meaning-is : (u : List ℕ) → Characters u →
       (logOf (trace (fromTable t) true 0 u) ≡ convert t u .log) × (statusOf (trace (fromTable t) true 0 u) ≡ ending (convert t u .closed))
