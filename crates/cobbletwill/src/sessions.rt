@@ -148,7 +148,7 @@ fn hand_over(called: Went, written: &mut u64) -> CalledNumbers
 fn feed_numbers(
     words: &[u16],
     numbers: SessionNumbers,
-    uses: &mut [u64; 33],
+    uses: &mut [u64; 34],
     piece: &[u16],
     output: &mut [u16],
     written: &mut u64,
@@ -172,7 +172,7 @@ fn feed_numbers(
 fn finish_numbers(
     words: &[u16],
     numbers: SessionNumbers,
-    uses: &mut [u64; 33],
+    uses: &mut [u64; 34],
     output: &mut [u16],
     written: &mut u64,
 ) -> CalledNumbers
@@ -195,9 +195,9 @@ fn finish_numbers(
 fn preview_numbers(
     words: &[u16],
     numbers: SessionNumbers,
-    uses: &[u64; 33],
+    uses: &[u64; 34],
     piece: &[u16],
-    counts: &mut [u64; 33],
+    counts: &mut [u64; 34],
     written: &mut u64,
 ) -> CalledNumbers
     ensures { λ r. ⌜ Foresees (now (words .entry)) numbers (now (uses .entry)) (now (piece .entry)) (now (counts .entry)) (now (written .entry))
@@ -220,7 +220,7 @@ fn preview_numbers(
 pub extern "C" fn cobbletwill_feed_parts(
     words: &[u16],
     session: &mut SessionNumbers,
-    uses: &mut [u64; 33],
+    uses: &mut [u64; 34],
     piece: &[u16],
     output: &mut [u16],
     written: &mut u64,
@@ -241,7 +241,7 @@ pub extern "C" fn cobbletwill_feed_parts(
 pub extern "C" fn cobbletwill_finish_parts(
     words: &[u16],
     session: &mut SessionNumbers,
-    uses: &mut [u64; 33],
+    uses: &mut [u64; 34],
     output: &mut [u16],
     written: &mut u64,
 ) -> u32
@@ -262,10 +262,10 @@ pub extern "C" fn cobbletwill_finish_parts(
 pub extern "C" fn cobbletwill_preview_parts(
     words: &[u16],
     session: &SessionNumbers,
-    uses: &[u64; 33],
+    uses: &[u64; 34],
     piece: &[u16],
     later: &mut SessionNumbers,
-    counts: &mut [u64; 33],
+    counts: &mut [u64; 34],
     written: &mut u64,
 ) -> u32
     ensures { λ r. ⌜ Previews (now (words .entry)) (now (session .entry)) (now (uses .entry)) (now (piece .entry)) (now (later .entry)) (now (counts .entry))

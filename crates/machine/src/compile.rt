@@ -4,10 +4,11 @@ ghost use mathlib.Core.Path.{_≡_};
 ghost use Prim.Native.Nat.{_≤_};
 ghost use lib.ListN.{length, take, drop};
 ghost use Rattle.lists.specs.Lists.{pad};
-ghost use Rattle.meaning.specs.Block.{bit, blocksSize};
+ghost use Rattle.meaning.specs.Block.{blocksSize};
 ghost use Rattle.meaning.specs.bridge.Flat.{Flat, blocksOf};
-ghost use Rattle.automaton.specs.Layout.{wordCount, blocksFrom, classesFrom};
+ghost use Rattle.automaton.specs.Layout.{wordCount, blocksFrom, classesFrom, modeWord};
 ghost use Rattle.automaton.specs.Compile as Spec;
+ghost use Rattle.rules.specs.bridge.Modes.{theMode};
 ghost use Rattle.machine.specs.Compiled.{compiledOf};
 ghost use Rattle.machine.specs.bridge.Building.{longestAt, built};
 use crate::gather::gather_starts;
@@ -18,7 +19,7 @@ use rules::layout::BLOCKS;
 use rules::layout::LOADED;
 use rules::load::Load;
 use rules::load::load_table;
-use rules::reader::bit_of;
+use rules::mode::Mode;
 use words::layout::BLOCKS_FROM;
 use words::layout::CLASS_COUNT;
 use words::layout::DEFAULTED;
@@ -74,6 +75,17 @@ fn longest_of(loaded: &[u16], rules: usize) -> usize
     most
 }
 
+// The word of a default's mode: "Header word 5 is 2 for this mode."
+fn mode_word(mode: Mode) -> u16
+    ensures { λ r. ⌜ r ≡ modeWord (theMode mode) ⌝ }
+{
+    match mode {
+        Mode::Absent => 0,
+        Mode::Single => 1,
+        Mode::Paired => 2,
+    }
+}
+
 // The six words of the header.
 fn put_header(
     words: &mut [u16],
@@ -82,13 +94,13 @@ fn put_header(
     longest: usize,
     expansion: usize,
     rules: usize,
-    defaulted: bool,
+    mode: Mode,
 )
     requires { ⌜ (6 ≤ length (now words)) × (states ≤ 256) × (classes ≤ 64) × (longest ≤ 8) × (expansion ≤ 8) × (rules ≤ 32) ⌝ }
     ensures { λ _.
-        ⌜ now (words .exit) ≡ (states ∷ classes ∷ longest ∷ expansion ∷ rules ∷ bit defaulted ∷ []) ++ drop classesFrom (now (words .entry)) ⌝ }
+        ⌜ now (words .exit) ≡ (states ∷ classes ∷ longest ∷ expansion ∷ rules ∷ modeWord (theMode mode) ∷ []) ++ drop classesFrom (now (words .entry)) ⌝ }
 {
-    let last = bit_of(defaulted);
+    let last = mode_word(mode);
     words[STATE_COUNT] = states as u16;
     words[CLASS_COUNT] = classes as u16;
     words[LONGEST] = longest as u16;
@@ -98,13 +110,13 @@ fn put_header(
 }
 
 // Refusals 8 and 9, then the words by the array of a table, into words that are 0.
-fn build(loaded: &[u16], rules: usize, defaulted: bool, words: &mut [u16]) -> Compiled
+fn build(loaded: &[u16], rules: usize, mode: Mode, words: &mut [u16]) -> Compiled
     requires { ⌜ Flat (now loaded) × (rules ≤ 32) ⌝ }
     requires { ⌜ (wordCount ≤ length (now words)) × (now words ≡ pad wordCount [] ++ drop wordCount (now words)) ⌝ }
     ensures answer { λ r.
-        ⌜ compiledOf r ≡ built (now (loaded .entry)) rules defaulted (now (words .entry)) .answer ⌝ }
+        ⌜ compiledOf r ≡ built (now (loaded .entry)) rules (theMode mode) (now (words .entry)) .answer ⌝ }
     ensures words { λ _.
-        ⌜ now (words .exit) ≡ built (now (loaded .entry)) rules defaulted (now (words .entry)) .words ⌝ }
+        ⌜ now (words .exit) ≡ built (now (loaded .entry)) rules (theMode mode) (now (words .entry)) .words ⌝ }
 {
     let classes = gather_starts(loaded, rules, words);
     if classes > 64 {
@@ -118,8 +130,8 @@ fn build(loaded: &[u16], rules: usize, defaulted: bool, words: &mut [u16]) -> Co
         return Compiled::Refused(9);
     }
     let longest = longest_of(loaded, rules);
-    let most = expansion(loaded, rules, defaulted);
-    put_header(words, states, classes, longest, most, rules, defaulted);
+    let most = expansion(loaded, rules, mode);
+    put_header(words, states, classes, longest, most, rules, mode);
     copy_blocks(words, loaded);
     Compiled::Accepted
 }
@@ -137,6 +149,6 @@ pub fn compile(table: &[u8], words: &mut [u16]) -> Compiled
     let load = load_table(table, &mut loaded);
     match load {
         Load::Refused(n) => Compiled::Refused(n),
-        Load::Accepted { rules, defaulted } => build(&loaded, rules, defaulted, words),
+        Load::Accepted { rules, mode } => build(&loaded, rules, mode, words),
     }
 }

@@ -1,11 +1,11 @@
 // The class starts of a table, put into their places in the machine words as they are met.
-ghost use mathlib.Core.Bool.{false, _&&_};
+ghost use mathlib.Core.Bool.{_&&_};
 ghost use mathlib.Core.List.{List, [], _∷_, _++_};
 ghost use mathlib.Core.Path.{_≡_};
 ghost use Prim.Native.Nat.{_+_, _-_, _*_, _≤_, _<_};
 ghost use lib.Dec.{eqb, ltb};
 ghost use lib.ListN.{length, take, drop};
-ghost use Rattle.meaning.specs.Table.{Range};
+ghost use Rattle.meaning.specs.Table.{Absent, Range};
 ghost use Rattle.meaning.specs.Block.{at, blockSize};
 ghost use Rattle.meaning.specs.bridge.Flat.{slotsFrom, loadedSize, rangesAt, patternAt, tableAt, Flat};
 ghost use Rattle.automaton.specs.Layout.{classesFrom, wordCount};
@@ -139,7 +139,7 @@ pub fn gather_starts(loaded: &[u16], rules: usize, words: &mut [u16]) -> usize
     requires { ⌜ Flat (now loaded) × (rules ≤ 32) ⌝ }
     requires { ⌜ wordCount ≤ length (now words) ⌝ }
     ensures { λ r.
-        ⌜ holding (now (words .exit)) r ≡ meetRanges (rangesOf (tableAt (now (loaded .entry)) rules false)) (holding (now (words .entry)) 1) ⌝ }
+        ⌜ holding (now (words .exit)) r ≡ meetRanges (rangesOf (tableAt (now (loaded .entry)) rules Absent)) (holding (now (words .entry)) 1) ⌝ }
 {
     let mut met: usize = 1;
     let mut rule = RuleNo(0);

@@ -1,11 +1,11 @@
 // Sets of rules kept as numbers, rule r by bit r: built by doubling and adding, taken apart by halves.
-ghost use mathlib.Core.Bool.{false, _&&_, not};
+ghost use mathlib.Core.Bool.{_&&_, not};
 ghost use mathlib.Core.Path.{_≡_};
 ghost use Prim.Native.Nat.{_+_, _*_, _^_, _≤_, _<_};
 ghost use lib.Dec.{eqb, ltb};
 ghost use lib.ListN.{length};
 ghost use Rattle.lists.specs.Lists.{filter, upTo};
-ghost use Rattle.meaning.specs.Table.{inRanges};
+ghost use Rattle.meaning.specs.Table.{Absent, inRanges};
 ghost use Rattle.meaning.specs.Block.{at, blockSize, blocksSize};
 ghost use Rattle.meaning.specs.bridge.Flat.{Flat, rangesAt, tableAt};
 ghost use Rattle.automaton.specs.States.{firstNumber, longerRules, acceptOf, acceptAtEndOf};
@@ -45,7 +45,7 @@ pub fn longer_rules(loaded: &[u16], rules: usize, set: u32, depth: usize, c: u16
     requires { ⌜ Flat (now loaded) ⌝ }
     requires { ⌜ (rules ≤ 32) × (set < 2 ^ rules) ⌝ }
     ensures { λ r.
-        ⌜ (membersFrom 0 rules r ≡ longerRules (tableAt (now (loaded .entry)) rules false) (stateOf rules depth set) c)
+        ⌜ (membersFrom 0 rules r ≡ longerRules (tableAt (now (loaded .entry)) rules Absent) (stateOf rules depth set) c)
         × (r < 2 ^ rules) ⌝ }
 {
     let mut longer: u64 = 0;
@@ -103,7 +103,7 @@ fn lowest_ending(loaded: &[u16], rules: usize, set: u32, depth: usize, free: boo
 // The rule + 1 that a state accepts at once, or 0.
 pub fn accept_of(loaded: &[u16], rules: usize, set: u32, depth: usize) -> u16
     requires { ⌜ (blocksSize ≤ length (now loaded)) × (rules ≤ 32) × (set < 2 ^ rules) ⌝ }
-    ensures { λ r. ⌜ r ≡ acceptOf (tableAt (now (loaded .entry)) rules false) (stateOf rules depth set) ⌝ }
+    ensures { λ r. ⌜ r ≡ acceptOf (tableAt (now (loaded .entry)) rules Absent) (stateOf rules depth set) ⌝ }
 {
     lowest_ending(loaded, rules, set, depth, true)
 }
@@ -111,7 +111,7 @@ pub fn accept_of(loaded: &[u16], rules: usize, set: u32, depth: usize) -> u16
 // The rule + 1 that a state accepts where the input ends, or 0.
 pub fn accept_at_end_of(loaded: &[u16], rules: usize, set: u32, depth: usize) -> u16
     requires { ⌜ (blocksSize ≤ length (now loaded)) × (rules ≤ 32) × (set < 2 ^ rules) ⌝ }
-    ensures { λ r. ⌜ r ≡ acceptAtEndOf (tableAt (now (loaded .entry)) rules false) (stateOf rules depth set) ⌝ }
+    ensures { λ r. ⌜ r ≡ acceptAtEndOf (tableAt (now (loaded .entry)) rules Absent) (stateOf rules depth set) ⌝ }
 {
     lowest_ending(loaded, rules, set, depth, false)
 }

@@ -1,10 +1,11 @@
 // The loop over states: each state's accepts and targets are noted, and the states that it leads to are added as they are met.
-ghost use mathlib.Core.Bool.{false, cond};
+ghost use mathlib.Core.Bool.{cond};
 ghost use mathlib.Core.List.{_++_};
 ghost use mathlib.Core.Path.{_≡_};
 ghost use Prim.Native.Nat.{ℕ, suc, _+_, _*_, _^_, _≤_, _<_};
 ghost use lib.Dec.{ltb};
 ghost use lib.ListN.{length, getD, take, drop};
+ghost use Rattle.meaning.specs.Table.{Absent};
 ghost use Rattle.lists.specs.Lists.{flatMap, pad};
 ghost use Rattle.meaning.specs.Block.{at};
 ghost use Rattle.meaning.specs.bridge.Flat.{Flat, tableAt};
@@ -63,11 +64,11 @@ fn note_class(
     class: ClassNo,
 ) -> usize
     requires { ⌜ Flat (now loaded) ⌝ }
-    requires { ⌜ (let t = tableAt (now loaded) rules false in
+    requires { ⌜ (let t = tableAt (now loaded) rules Absent in
         (rules ≤ 32) × (state .0 < count) × (state .0 < length (states t)) × (class .0 < length (starts t)) × (acceptOf t (getD (states t) (state .0) (initial t)) ≡ 0)) ⌝ }
-    requires { ⌜ NotedAt (tableAt (now loaded) rules false) rules (suc (state .0)) (state .0) (class .0) (now words) (now sets) count ⌝ }
+    requires { ⌜ NotedAt (tableAt (now loaded) rules Absent) rules (suc (state .0)) (state .0) (class .0) (now words) (now sets) count ⌝ }
     ensures { λ r.
-        ⌜ Onward (tableAt (now (loaded .entry)) rules false)
+        ⌜ Onward (tableAt (now (loaded .entry)) rules Absent)
         rules (suc (state .0)) (state .0) (suc (class .0)) (now (words .entry)) (now (words .exit)) (now (sets .exit)) r ⌝ }
 {
     let s = state.0 as usize;
@@ -103,11 +104,11 @@ fn note_classes(
     state: StateNo,
 ) -> usize
     requires { ⌜ Flat (now loaded) ⌝ }
-    requires { ⌜ (let t = tableAt (now loaded) rules false in
+    requires { ⌜ (let t = tableAt (now loaded) rules Absent in
         (rules ≤ 32) × (classes ≡ length (starts t)) × (state .0 < length (states t)) × (acceptOf t (getD (states t) (state .0) (initial t)) ≡ 0)) ⌝ }
-    requires { ⌜ NotedAt (tableAt (now loaded) rules false) rules (suc (state .0)) (state .0) 0 (now words) (now sets) count ⌝ }
+    requires { ⌜ NotedAt (tableAt (now loaded) rules Absent) rules (suc (state .0)) (state .0) 0 (now words) (now sets) count ⌝ }
     ensures { λ r.
-        ⌜ Onward (tableAt (now (loaded .entry)) rules false)
+        ⌜ Onward (tableAt (now (loaded .entry)) rules Absent)
         rules (suc (state .0)) (suc (state .0)) 0 (now (words .entry)) (now (words .exit)) (now (sets .exit)) r ⌝ }
 {
     let mut total = count;
@@ -133,11 +134,11 @@ fn note_state(
     state: StateNo,
 ) -> usize
     requires { ⌜ Flat (now loaded) ⌝ }
-    requires { ⌜ (let t = tableAt (now loaded) rules false in
+    requires { ⌜ (let t = tableAt (now loaded) rules Absent in
         (rules ≤ 32) × (classes ≡ length (starts t)) × (state .0 < length (states t)) × (state .0 < count)) ⌝ }
-    requires { ⌜ NotedAt (tableAt (now loaded) rules false) rules (state .0) (state .0) 0 (now words) (now sets) count ⌝ }
+    requires { ⌜ NotedAt (tableAt (now loaded) rules Absent) rules (state .0) (state .0) 0 (now words) (now sets) count ⌝ }
     ensures { λ r.
-        ⌜ Onward (tableAt (now (loaded .entry)) rules false)
+        ⌜ Onward (tableAt (now (loaded .entry)) rules Absent)
         rules (suc (state .0)) (suc (state .0)) 0 (now (words .entry)) (now (words .exit)) (now (sets .exit)) r ⌝ }
 {
     let s = state.0 as usize;
@@ -162,14 +163,14 @@ pub fn build_states(
     sets: &mut [u32],
 ) -> usize
     requires { ⌜ Flat (now loaded) ⌝ }
-    requires { ⌜ (let t = tableAt (now loaded) rules false in
+    requires { ⌜ (let t = tableAt (now loaded) rules Absent in
         (rules ≤ 32) × (classes ≡ length (starts t)) × (classes ≤ 64) × ((k : ℕ) → k < length (starts t) → at (now words) (classesFrom + k) ≡ getD (starts t) k 0)) ⌝ }
     requires { ⌜ (wordCount ≤ length (now words)) × (length (now sets) ≡ 256) × ((i : ℕ) → statesFrom ≤ i → i < blocksFrom → at (now words) i ≡ 0) ⌝ }
     ensures answer { λ r.
-        ⌜ (let t = tableAt (now (loaded .entry)) rules false in
+        ⌜ (let t = tableAt (now (loaded .entry)) rules Absent in
         r ≡ cond (ltb 256 (length (states t))) 257 (length (states t))) ⌝ }
     ensures words { λ _.
-        ⌜ (let t = tableAt (now (loaded .entry)) rules false in
+        ⌜ (let t = tableAt (now (loaded .entry)) rules Absent in
         length (states t) ≤ 256 →
         now (words .exit)
         ≡ take statesFrom (now (words .entry)) ++ pad statesSize (flatMap (stateWords t) (states t)) ++ pad targetsSize (flatMap (targetWords t) (states t)) ++ drop blocksFrom (now (words .entry))) ⌝ }

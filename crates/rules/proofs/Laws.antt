@@ -12,4 +12,5 @@ pub mod Admitted
 pub mod Flattened
 pub mod Loading
 pub mod Converting
+pub mod Pairs
 pub mod Plain

@@ -1,3 +1,4 @@
+pub mod Modes
 pub mod Summary
 pub mod Readings
 pub mod Plain

@@ -9,6 +9,9 @@ pub const BLOCKS: usize = 33 * BLOCK;
 // The default's group, which is the last, its block, and its output count.
 pub const DEFAULT_GROUP: usize = 32;
 
+// The number of a marked default's pairs, which have no block.
+pub const PAIR_GROUP: usize = 33;
+
 pub const DEFAULT_BLOCK: usize = DEFAULT_GROUP * BLOCK;
 
 pub const DEFAULT_OUTPUTS: usize = DEFAULT_BLOCK + 2;

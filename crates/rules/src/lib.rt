@@ -2,6 +2,7 @@
 pub mod convert;
 pub mod layout;
 pub mod load;
+pub mod mode;
 pub mod output;
 pub mod pattern;
 pub mod plain;

@@ -8,7 +8,9 @@ ghost use Rattle.lists.specs.Lists.{pad};
 ghost use Rattle.meaning.specs.Reader.{readTable};
 ghost use Rattle.rules.specs.bridge.Summary.{gap, takeRecords, Fitting};
 ghost use Rattle.meaning.specs.bridge.Flat.{Flat, loadedSize, safeAt};
+ghost use Rattle.rules.specs.bridge.Modes.{theMode};
 ghost use Rattle.rules.specs.bridge.Readings.{stepOf, endOf, LoadedBy};
+use crate::mode::Mode;
 use crate::reader::Reader;
 use crate::reader::Step;
 use crate::reader::has_gap;
@@ -18,7 +20,7 @@ use crate::record::record_at;
 use crate::safe::all_safe;
 
 pub enum Load {
-    Accepted { rules: usize, defaulted: bool },
+    Accepted { rules: usize, mode: Mode },
     Refused(u8),
 }
 
@@ -47,7 +49,7 @@ pub fn load_records(reader: Reader, table: &[u8], loaded: &mut [u16]) -> Step
 pub fn finish_load(reader: Reader, loaded: &[u16]) -> Load
     requires { ⌜ reader .rules ≤ 32 ⌝ }
     requires { ⌜ (gap reader ≡ false → 1 ≤ reader .rules → Flat (now loaded)) ⌝ }
-    ensures { λ r. ⌜ r ≡ endOf reader (safeAt (now (loaded .entry)) (reader .rules) (reader .defaulted)) ⌝ }
+    ensures { λ r. ⌜ r ≡ endOf reader (safeAt (now (loaded .entry)) (reader .rules) (theMode (reader .mode))) ⌝ }
 {
     if has_gap(reader) {
         return Load::Refused(4);
@@ -56,9 +58,9 @@ pub fn finish_load(reader: Reader, loaded: &[u16]) -> Load
     if rules == 0 {
         return Load::Refused(5);
     }
-    let defaulted = reader.defaulted;
-    if all_safe(loaded, rules, defaulted) {
-        return Load::Accepted { rules, defaulted };
+    let mode = reader.mode;
+    if all_safe(loaded, rules, mode) {
+        return Load::Accepted { rules, mode };
     }
     Load::Refused(7)
 }

@@ -1,6 +1,7 @@
 // Definition 7's choice, on a loaded table's array.
 ghost use mathlib.Core.Path.{_≡_};
 ghost use mathlib.Core.Bool.{_&&_};
+ghost use mathlib.Core.Option.{none};
 ghost use Prim.Native.Nat.{_+_, _*_, _≤_, _<_};
 ghost use lib.Dec.{leb};
 ghost use lib.ListN.{length, take, drop};
@@ -8,12 +9,17 @@ ghost use Rattle.lists.specs.Lists.{tabFrom};
 ghost use Rattle.meaning.specs.Table.{inRanges};
 ghost use Rattle.meaning.specs.Block.{at};
 ghost use Rattle.meaning.specs.Value.{fitsWord};
-ghost use Rattle.meaning.specs.Meaning.{fits, choose};
+ghost use Rattle.meaning.specs.Meaning.{fits, startsPair, orDefault, choose};
 ghost use Rattle.meaning.specs.bridge.Flat.{slotsFrom, loadedSize, rangesAt, groupAt, tableAt, Flat};
+ghost use Rattle.rules.specs.bridge.Modes.{theMode};
 ghost use Rattle.rules.specs.bridge.Readings.{choiceOf};
 use crate::layout::BLOCK;
+use crate::layout::DEFAULT_GROUP;
+use crate::layout::PAIR_GROUP;
 use crate::layout::RANGES_FROM;
 use crate::layout::SLOTS_FROM;
+use crate::mode::Mode;
+use crate::mode::is_pair;
 
 // The number of the group chosen, or nothing where no rule fits and there is no default.
 pub enum Choice {
@@ -87,11 +93,39 @@ fn fits_at(loaded: &[u16], group: usize, input: &[u16], at: usize) -> bool
     positions_fit(loaded, 8 * group, size, input, at)
 }
 
+// "the next two characters are such a pair"
+fn starts_pair(input: &[u16], at: usize) -> bool
+    requires { ⌜ at ≤ length (now input) ⌝ }
+    ensures { λ r. ⌜ r ≡ startsPair (drop at (now (input .entry))) ⌝ }
+{
+    if input.len() - at < 2 {
+        return false;
+    }
+    is_pair(input[at], input[at + 1])
+}
+
+// The choice for the input from `at` on where no rule fits: "the default is chosen", and under the mark a pair if one is next.
+pub fn fall(mode: Mode, input: &[u16], at: usize) -> Choice
+    requires { ⌜ at ≤ length (now input) ⌝ }
+    ensures { λ r. ⌜ choiceOf r ≡ orDefault (theMode mode) (drop at (now (input .entry))) none ⌝ }
+{
+    match mode {
+        Mode::Absent => Choice::Nothing,
+        Mode::Single => Choice::Group(DEFAULT_GROUP),
+        Mode::Paired => {
+            if starts_pair(input, at) {
+                return Choice::Group(PAIR_GROUP);
+            }
+            Choice::Group(DEFAULT_GROUP)
+        }
+    }
+}
+
 // The group chosen for the input from `at` on. A rule that is no shorter than the best so far can't win, and is not tried.
-pub fn choose_at(loaded: &[u16], rules: usize, defaulted: bool, input: &[u16], at: usize) -> Choice
+pub fn choose_at(loaded: &[u16], rules: usize, mode: Mode, input: &[u16], at: usize) -> Choice
     requires { ⌜ Flat (now loaded) ⌝ }
     requires { ⌜ (rules ≤ 32) × (at ≤ length (now input)) ⌝ }
-    ensures { λ r. ⌜ choiceOf r ≡ choose (tableAt (now (loaded .entry)) rules defaulted) (drop at (now (input .entry))) ⌝ }
+    ensures { λ r. ⌜ choiceOf r ≡ choose (tableAt (now (loaded .entry)) rules (theMode mode)) (drop at (now (input .entry))) ⌝ }
 {
     // none so far: above every rule and every length
     let mut best: usize = rules;
@@ -110,8 +144,5 @@ pub fn choose_at(loaded: &[u16], rules: usize, defaulted: bool, input: &[u16], a
     if best < rules {
         return Choice::Group(best);
     }
-    if defaulted {
-        return Choice::Group(32);
-    }
-    Choice::Nothing
+    fall(mode, input, at)
 }

@@ -1,15 +1,17 @@
-// Plain characters, which begin no rule: where one is next, no rule can fit, and the choice is the default or nothing.
+// Plain characters, which begin no rule: where one is next, no rule can fit, and the choice is the default, a pair or nothing.
 ghost use mathlib.Core.Path.{_≡_};
 ghost use Prim.Native.Nat.{ℕ, _*_, _≤_, _<_};
 ghost use lib.ListN.{length, drop};
 ghost use Rattle.meaning.specs.Block.{at, blockSize};
 ghost use Rattle.meaning.specs.Meaning.{choose};
 ghost use Rattle.meaning.specs.bridge.Flat.{Flat, tableAt};
+ghost use Rattle.rules.specs.bridge.Modes.{theMode};
 ghost use Rattle.rules.specs.bridge.Readings.{choiceOf};
 ghost use Rattle.rules.specs.bridge.Plain.{isPlain, Marked};
-use crate::layout::DEFAULT_GROUP;
+use crate::mode::Mode;
 use crate::pattern::Choice;
 use crate::pattern::choose_at;
+use crate::pattern::fall;
 use crate::pattern::in_ranges;
 
 // How many characters can be marked: the first ones, which most texts are made of.
@@ -52,7 +54,7 @@ pub fn mark_plain(loaded: &[u16], rules: usize, size: usize) -> [bool; MARKS]
 pub fn choose_marked(
     loaded: &[u16],
     rules: usize,
-    defaulted: bool,
+    mode: Mode,
     marks: &[bool; MARKS],
     input: &[u16],
     place: usize,
@@ -61,16 +63,13 @@ pub fn choose_marked(
     requires { ⌜ (rules ≤ 32) × (place < length (now input)) ⌝ }
     requires { ⌜ ((g : ℕ) → g < rules → 1 ≤ at (now loaded) (blockSize * g)) ⌝ }
     requires { ⌜ Marked (now loaded) rules (now marks) ⌝ }
-    ensures { λ r. ⌜ choiceOf r ≡ choose (tableAt (now (loaded .entry)) rules defaulted) (drop place (now (input .entry))) ⌝ }
+    ensures { λ r. ⌜ choiceOf r ≡ choose (tableAt (now (loaded .entry)) rules (theMode mode)) (drop place (now (input .entry))) ⌝ }
 {
     let c = input[place] as usize;
     if c < MARKS {
         if marks[c] {
-            if defaulted {
-                return Choice::Group(DEFAULT_GROUP);
-            }
-            return Choice::Nothing;
+            return fall(mode, input, place);
         }
     }
-    choose_at(loaded, rules, defaulted, input, place)
+    choose_at(loaded, rules, mode, input, place)
 }

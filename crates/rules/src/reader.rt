@@ -5,11 +5,11 @@ ghost use Prim.Native.Nat.{_+_, _*_, _≤_, _<_};
 ghost use lib.Dec.{eqb, leb, ltb};
 ghost use lib.ListN.{length, set};
 ghost use Rattle.meaning.specs.Table.{Range};
-ghost use Rattle.meaning.specs.Record.{rule, range, output, term, default, hexadecimal};
+ghost use Rattle.meaning.specs.Record.{rule, range, output, term, default, hexadecimal, markOf};
 ghost use Rattle.meaning.specs.Block.{bit, blockSize, entrySize};
 ghost use Rattle.meaning.specs.bridge.Flat.{loadedSize};
 ghost use Rattle.rules.specs.bridge.Readings.{recordOf, stepOf};
-ghost use Rattle.rules.specs.bridge.Summary.{Fitting, everyLast, started, rangesRead, gap, isNamed, groupNumber, slotNumber, rangedTo, summedTo, rangePut, outputPut, digitPut, admit, admitted, ifAdmitted, ifTaken};
+ghost use Rattle.rules.specs.bridge.Summary.{Fitting, defaulted, everyLast, started, rangesRead, gap, isNamed, groupNumber, slotNumber, rangedTo, summedTo, rangePut, outputPut, digitPut, admit, admitted, ifAdmitted, ifTaken};
 use crate::layout::BLOCK;
 use crate::layout::DEFAULT_BLOCK;
 use crate::layout::DEFAULT_HIGHEST;
@@ -18,6 +18,9 @@ use crate::layout::ENTRY;
 use crate::layout::HIGHS_FROM;
 use crate::layout::RANGES_FROM;
 use crate::layout::SLOTS_FROM;
+use crate::mode::Mode;
+use crate::mode::is_present;
+use crate::mode::mode_of;
 use crate::record::Record;
 
 // What is kept of the group read last: its length, the positions that have a range, the last position's ranges and the highest character of the
@@ -31,11 +34,11 @@ pub struct Last {
     pub named: usize,
 }
 
-// A summary of the table read so far: its last record's kind (0 for none), its rules, whether it has a default, and its last group.
+// A summary of the table read so far: its last record's kind (0 for none), its rules, its default's mode, and its last group.
 pub struct Reader {
     pub kind: u8,
     pub rules: usize,
-    pub defaulted: bool,
+    pub mode: Mode,
     pub last: Last,
 }
 
@@ -65,7 +68,7 @@ pub fn start() -> Reader
     Reader {
         kind: 0,
         rules: 0,
-        defaulted: false,
+        mode: Mode::Absent,
         last: every_character(),
     }
 }
@@ -97,12 +100,20 @@ pub fn has_gap(reader: Reader) -> bool
     false
 }
 
+// There is a default.
+fn has_default(reader: Reader) -> bool
+    ensures { λ r. ⌜ r ≡ defaulted reader ⌝ }
+{
+    let mode = reader.mode;
+    is_present(mode)
+}
+
 // The last group's number.
 fn group_number(reader: Reader) -> usize
-    requires { ⌜ (reader .defaulted ≡ false → 1 ≤ reader .rules) ⌝ }
+    requires { ⌜ (defaulted reader ≡ false → 1 ≤ reader .rules) ⌝ }
     ensures { λ r. ⌜ r ≡ groupNumber reader ⌝ }
 {
-    if reader.defaulted {
+    if has_default(reader) {
         return 32;
     }
     reader.rules - 1
@@ -123,10 +134,11 @@ pub fn bit_of(flag: bool) -> u16
 fn ranged(reader: Reader, positions: usize, slots: usize, highest: u16) -> Reader
     ensures { λ r. ⌜ r ≡ rangedTo reader positions slots highest ⌝ }
 {
+    let mode = reader.mode;
     Reader {
         kind: 2,
         rules: reader.rules,
-        defaulted: reader.defaulted,
+        mode,
         last: Last {
             size: reader.last.size,
             positions,
@@ -142,10 +154,11 @@ fn ranged(reader: Reader, positions: usize, slots: usize, highest: u16) -> Reade
 fn summed(reader: Reader, kind: u8, outputs: usize, named: usize) -> Reader
     ensures { λ r. ⌜ r ≡ summedTo reader kind outputs named ⌝ }
 {
+    let mode = reader.mode;
     Reader {
         kind,
         rules: reader.rules,
-        defaulted: reader.defaulted,
+        mode,
         last: Last {
             size: reader.last.size,
             positions: reader.last.positions,
@@ -164,7 +177,7 @@ fn on_rule(reader: Reader, size: u8, anchored: bool, loaded: &mut [u16]) -> Step
     ensures { λ r. ⌜ stepOf r ≡ admit reader (rule size anchored) ⌝ }
     ensures { λ _. ⌜ now (loaded .exit) ≡ ifAdmitted reader (rule size anchored) (now (loaded .entry)) ⌝ }
 {
-    if reader.defaulted {
+    if has_default(reader) {
         return Step::Refused(3);
     }
     if has_gap(reader) {
@@ -180,7 +193,7 @@ fn on_rule(reader: Reader, size: u8, anchored: bool, loaded: &mut [u16]) -> Step
     Step::Next(Reader {
         kind: 1,
         rules: rules + 1,
-        defaulted: false,
+        mode: Mode::Absent,
         last: Last {
             size: size as usize,
             positions: 0,
@@ -398,12 +411,12 @@ fn on_term(reader: Reader, position: u8, coefficient: u16, loaded: &mut [u16]) -
 }
 
 // The default: a group of length 1 whose position takes every character.
-fn on_default(reader: Reader, loaded: &mut [u16]) -> Step
+fn on_default(reader: Reader, marked: bool, loaded: &mut [u16]) -> Step
     requires { ⌜ length (now loaded) ≡ loadedSize ⌝ }
-    ensures { λ r. ⌜ stepOf r ≡ admit reader default ⌝ }
-    ensures { λ _. ⌜ now (loaded .exit) ≡ ifAdmitted reader default (now (loaded .entry)) ⌝ }
+    ensures { λ r. ⌜ stepOf r ≡ admit reader (default (markOf marked)) ⌝ }
+    ensures { λ _. ⌜ now (loaded .exit) ≡ ifAdmitted reader (default (markOf marked)) (now (loaded .entry)) ⌝ }
 {
-    if reader.defaulted {
+    if has_default(reader) {
         return Step::Refused(3);
     }
     if has_gap(reader) {
@@ -412,10 +425,11 @@ fn on_default(reader: Reader, loaded: &mut [u16]) -> Step
     loaded[DEFAULT_BLOCK] = 1;
     loaded[DEFAULT_SLOT] = 1;
     loaded[DEFAULT_HIGHEST] = 65535;
+    let mode = mode_of(marked);
     Step::Next(Reader {
         kind: 5,
         rules: reader.rules,
-        defaulted: true,
+        mode,
         last: every_character(),
     })
 }
@@ -439,7 +453,7 @@ pub fn take_record(reader: Reader, record: Record, loaded: &mut [u16]) -> Step
             position,
             coefficient,
         } => on_term(reader, position, coefficient, loaded),
-        Record::Default => on_default(reader, loaded),
+        Record::Default { marked } => on_default(reader, marked, loaded),
         Record::Hexadecimal { position, shift } => on_hexadecimal(reader, position, shift, loaded),
         Record::Bad => Step::Refused(2),
     }

@@ -23,7 +23,9 @@ pub enum Record {
         position: u8,
         coefficient: u16,
     },
-    Default,
+    Default {
+        marked: bool,
+    },
     Hexadecimal {
         position: u8,
         shift: u8,
@@ -141,13 +143,10 @@ fn term_record(position: u8, b2: u8, b3: u8, b4: u8, b5: u8, b6: u8, b7: u8) -> 
     }
 }
 
-// Kind 5, the default: no fields.
-fn default_record(b1: u8, b2: u8, b3: u8, b4: u8, b5: u8, b6: u8, b7: u8) -> Record
-    ensures { λ r. ⌜ recordOf r ≡ decode (5 ∷ b1 ∷ b2 ∷ b3 ∷ b4 ∷ b5 ∷ b6 ∷ b7 ∷ []) ⌝ }
+// Kind 5, the default: it "may carry 1 in byte 1".
+fn default_record(mark: u8, b2: u8, b3: u8, b4: u8, b5: u8, b6: u8, b7: u8) -> Record
+    ensures { λ r. ⌜ recordOf r ≡ decode (5 ∷ mark ∷ b2 ∷ b3 ∷ b4 ∷ b5 ∷ b6 ∷ b7 ∷ []) ⌝ }
 {
-    if b1 != 0 {
-        return Record::Bad;
-    }
     if !both_zero(b2, b3) {
         return Record::Bad;
     }
@@ -157,7 +156,10 @@ fn default_record(b1: u8, b2: u8, b3: u8, b4: u8, b5: u8, b6: u8, b7: u8) -> Rec
     if !both_zero(b6, b7) {
         return Record::Bad;
     }
-    Record::Default
+    match mark {
+        0..=1 => Record::Default { marked: mark == 1 },
+        _ => Record::Bad,
+    }
 }
 
 // Kind 6, a hexadecimal digit: its position, 0 to 7, and its shift, 0, 4, 8 or 12.

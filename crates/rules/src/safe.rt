@@ -10,11 +10,14 @@ ghost use Rattle.meaning.specs.Block.{at, blockSize, entrySize};
 ghost use Rattle.meaning.specs.Reader.{signed};
 ghost use Rattle.meaning.specs.Value.{dot, lowestOf, highestOf, extreme};
 ghost use Rattle.meaning.specs.bridge.Flat.{Flat, slotsFrom, highsFrom, loadedSize, rangeAt, rangesAt, patternAt, safeOutputAt, safeGroupAt, safeAt};
+ghost use Rattle.rules.specs.bridge.Modes.{theMode};
 use crate::layout::BLOCK;
 use crate::layout::ENTRY;
 use crate::layout::HIGHS_FROM;
 use crate::layout::RANGES_FROM;
 use crate::layout::SLOTS_FROM;
+use crate::mode::Mode;
+use crate::mode::is_present;
 
 // A number that may be negative: `plus` less `minus`.
 pub struct Difference {
@@ -180,9 +183,9 @@ fn group_safe(loaded: &[u16], group: usize) -> bool
 }
 
 // Refusal 7's test of the whole table.
-pub fn all_safe(loaded: &[u16], rules: usize, defaulted: bool) -> bool
+pub fn all_safe(loaded: &[u16], rules: usize, mode: Mode) -> bool
     requires { ⌜ Flat (now loaded) × (rules ≤ 32) ⌝ }
-    ensures { λ r. ⌜ r ≡ safeAt (now (loaded .entry)) rules defaulted ⌝ }
+    ensures { λ r. ⌜ r ≡ safeAt (now (loaded .entry)) rules (theMode mode) ⌝ }
 {
     let mut group = 0;
     while group < rules {
@@ -191,7 +194,7 @@ pub fn all_safe(loaded: &[u16], rules: usize, defaulted: bool) -> bool
         }
         group += 1;
     }
-    if defaulted {
+    if is_present(mode) {
         return group_safe(loaded, 32);
     }
     true

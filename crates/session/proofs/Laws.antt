@@ -7,3 +7,5 @@ pub mod Resuming
 pub mod Lending
 pub mod Lent
 pub mod Foreseen
+pub mod Beginning
+pub mod Falling

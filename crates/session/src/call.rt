@@ -66,11 +66,11 @@ fn admit_open(most: u64, received: u64, held: u64, size: u64, room: u64) -> Verd
 }
 
 // "Feed and finish 11 to 15", for a piece of `size` characters and a buffer of so much room.
-fn admit(words: &[u16], kept: Kept, uses: &[u64; 33], size: usize, room: usize) -> Verdict
-    ensures { λ _. ⌜ length (now (uses .entry)) ≡ 33 ⌝ }
+fn admit(words: &[u16], kept: Kept, uses: &[u64; 34], size: usize, room: usize) -> Verdict
+    ensures { λ _. ⌜ length (now (uses .entry)) ≡ 34 ⌝ }
     ensures { λ r. ⌜ checkOf r ≡ admits (now (words .entry)) (sessionOf (together kept (now (uses .entry)))) size room ⌝ }
 {
-    // No work for the machine: lent as a slice, the array is known to have its 33 places.
+    // No work for the machine: lent as a slice, the array is known to have its 34 places.
     let places = &uses[..];
     if !is_sound(words) {
         return Verdict::Refused(11);
@@ -123,12 +123,12 @@ fn later(kept: Kept, size: usize, ran: Ran, held: [u16; 8]) -> Kept
 fn resume(
     words: &[u16],
     kept: Kept,
-    uses: &mut [u64; 33],
+    uses: &mut [u64; 34],
     piece: &[u16],
     ended: bool,
     output: &mut [u16],
 ) -> Went
-    requires { ⌜ length (now uses) ≡ 33 ⌝ }
+    requires { ⌜ length (now uses) ≡ 34 ⌝ }
     requires { ⌜ Resumable (now words) (sessionOf (together kept (now uses))) (length (now piece)) (length (now output)) ⌝ }
     ensures { λ r. ⌜ r .accepted ≡ true ⌝ }
     ensures { λ r. ⌜ outcomeOf (r .answer) (together (r .kept) (now (uses .exit))) (now (output .exit))
@@ -167,7 +167,7 @@ fn refuse(number: u8, kept: Kept) -> Went
 pub fn feed_kept(
     words: &[u16],
     kept: Kept,
-    uses: &mut [u64; 33],
+    uses: &mut [u64; 34],
     piece: &[u16],
     output: &mut [u16],
 ) -> Went
@@ -182,7 +182,7 @@ pub fn feed_kept(
 }
 
 // A finish, likewise.
-pub fn finish_kept(words: &[u16], kept: Kept, uses: &mut [u64; 33], output: &mut [u16]) -> Went
+pub fn finish_kept(words: &[u16], kept: Kept, uses: &mut [u64; 34], output: &mut [u16]) -> Went
     ensures { λ r. ⌜ Said r kept (now (uses .entry)) (now (uses .exit)) ⌝ }
     ensures { λ r. ⌜ Finishes (now (words .entry)) (together kept (now (uses .entry))) (now (output .entry))
         (r .answer) (together (r .kept) (now (uses .exit))) (now (output .exit)) ⌝ }
@@ -194,13 +194,13 @@ pub fn finish_kept(words: &[u16], kept: Kept, uses: &mut [u64; 33], output: &mut
 }
 
 // A session's counts of uses, for a preview to change.
-fn copy_uses(uses: &[u64; 33], later: &mut [u64; 33])
+fn copy_uses(uses: &[u64; 34], later: &mut [u64; 34])
     ensures { λ _. ⌜ now (later .exit) ≡ now (uses .entry) ⌝ }
 {
     let from = &uses[..];
     let to = &mut later[..];
     let mut i: usize = 0;
-    while i < 33 {
+    while i < 34 {
         to[i] = from[i];
         i += 1;
     }
@@ -211,9 +211,9 @@ fn copy_uses(uses: &[u64; 33], later: &mut [u64; 33])
 pub fn preview_kept(
     words: &[u16],
     kept: Kept,
-    uses: &[u64; 33],
+    uses: &[u64; 34],
     piece: &[u16],
-    later: &mut [u64; 33],
+    later: &mut [u64; 34],
 ) -> Went
     ensures { λ r. ⌜ Said r kept (now (later .entry)) (now (later .exit)) ⌝ }
     ensures { λ r. ⌜ Previews (now (words .entry)) (together kept (now (uses .entry))) (now (piece .entry)) (r .answer) (together (r .kept) (now (later .exit))) ⌝ }
@@ -229,7 +229,7 @@ pub fn preview_kept(
 }
 
 // What a call comes to, with the counts of uses as it left them.
-fn with_uses(went: Went, uses: [u64; 33]) -> Called
+fn with_uses(went: Went, uses: [u64; 34]) -> Called
     ensures { λ r. ⌜ r ≡ joined went uses ⌝ }
 {
     let answer = went.answer;

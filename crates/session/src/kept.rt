@@ -2,13 +2,17 @@
 use crate::tally::Tally;
 use crate::tally::zero;
 use crate::uses::uses_sound;
+use rules::mode::Mode;
+use rules::mode::is_first;
 use words::numbers::StateNo;
 use words::read::Next;
 use words::read::class_of;
+use words::read::default_mode;
 use words::read::expansion;
 use words::read::longest;
 use words::read::settled;
 use words::read::target;
+ghost use mathlib.Core.Bool.{_&&_};
 ghost use mathlib.Core.List.{[], _∷_};
 ghost use mathlib.Core.Path.{_≡_};
 ghost use Prim.Native.Nat.{_+_, _*_, _-_, _≤_, _<_};
@@ -16,10 +20,12 @@ ghost use lib.Dec.{T, eqb, leb};
 ghost use lib.ListN.{length, take, drop};
 ghost use Rattle.lists.specs.Lists.{all};
 ghost use Rattle.lists.specs.Decide.{allOf};
+ghost use Rattle.meaning.specs.Table.{isFirst};
 ghost use Rattle.meaning.specs.Direct.{limit};
+ghost use Rattle.automaton.specs.Layout.{wordCount};
 ghost use Rattle.automaton.specs.Sound.{stateCount, longestWord, sound};
 ghost use Rattle.automaton.specs.Automaton.{fromWords};
-ghost use Rattle.reckoning.specs.Session.{path, isAt, soundSession};
+ghost use Rattle.reckoning.specs.Session.{path, isAt, isPaired, isLeft, standsAt, soundSession};
 ghost use Rattle.session.specs.Keeping.{together, sessionOf};
 ghost use Rattle.session.specs.bridge.Later.{pathOf};
 
@@ -39,11 +45,11 @@ pub struct Kept {
     pub tally: Tally,
 }
 
-// "The session gains 33 counts, one a rule and one for the default": how often each was used, a rule by its number, the default as 32. They
-// stand apart, so that a run is lent them and changes them in place.
+// "The session gains 33 counts, one a rule and one for the default": how often each was used, a rule by its number, the default as 32; and
+// "pairs have a count of their own", at 33. They stand apart, so that a run is lent them and changes them in place.
 pub struct Session {
     pub kept: Kept,
-    pub uses: [u64; 33],
+    pub uses: [u64; 34],
 }
 
 // Where characters lead from state 0 by targets, "neither through nor to a state whose go equals its end".
@@ -65,7 +71,7 @@ pub fn fresh() -> Session
             received: 0,
             tally: zero(),
         },
-        uses: [0; 33],
+        uses: [0; 34],
     }
 }
 
@@ -155,6 +161,61 @@ fn cost(words: &[u16]) -> u64
     longest(words) as u64 + 3
 }
 
+// The mark is set.
+fn is_marked(words: &[u16]) -> bool
+    requires { ⌜ wordCount ≤ length (now words) ⌝ }
+    ensures { λ r. ⌜ r ≡ isPaired (fromWords (now (words .entry)) .default) ⌝ }
+{
+    match default_mode(words) {
+        Mode::Absent => false,
+        Mode::Single => false,
+        Mode::Paired => true,
+    }
+}
+
+// "where the mark is set, the unit is a first unit and state 0 has no target for it"
+fn may_wait(words: &[u16], unit: u16) -> bool
+    requires { ⌜ T (sound (now words)) ⌝ }
+    ensures { λ r.
+        ⌜ r ≡ (let m = fromWords (now (words .entry)) in isPaired (m .default) && (isFirst unit && eqb (m .target 0 unit) 0)) ⌝ }
+{
+    if !is_marked(words) {
+        return false;
+    }
+    if !is_first(unit) {
+        return false;
+    }
+    match target(words, StateNo(0), class_of(words, unit)) {
+        Next::Nowhere => true,
+        Next::To(_) => false,
+    }
+}
+
+// "A waiting first unit left by a back is one held character at state 0."
+fn is_left(words: &[u16], held: &[u16; 8], count: usize, state: StateNo) -> bool
+    requires { ⌜ T (sound (now words)) × (length (now held) ≡ 8) × (count ≤ 8) ⌝ }
+    ensures { λ r. ⌜ r ≡ isLeft (fromWords (now (words .entry))) (state .0) (take count (now (held .entry))) ⌝ }
+{
+    if count != 1 {
+        return false;
+    }
+    if state.0 != 0 {
+        return false;
+    }
+    may_wait(words, held[0])
+}
+
+// An open session may be in the state and hold the characters.
+fn stands_at(words: &[u16], held: &[u16; 8], count: usize, state: StateNo) -> bool
+    requires { ⌜ T (sound (now words)) × (length (now held) ≡ 8) × (count ≤ 8) ⌝ }
+    ensures { λ r. ⌜ r ≡ standsAt (fromWords (now (words .entry))) (state .0) (take count (now (held .entry))) ⌝ }
+{
+    if leads_to(words, held, count, state) {
+        return true;
+    }
+    is_left(words, held, count, state)
+}
+
 // "open, the held characters lead from state 0 to the state, and steps are at most (L + 3) times consumed plus held"
 fn open_sound(
     words: &[u16],
@@ -166,11 +227,11 @@ fn open_sound(
 ) -> bool
     requires { ⌜ T (sound (now words)) × (length (now held) ≡ 8) × (count ≤ 8) × (consumed ≤ limit) ⌝ }
     ensures { λ r.
-        ⌜ r ≡ allOf (isAt (state .0) (path (fromWords (now (words .entry))) 0 (take count (now (held .entry))))
+        ⌜ r ≡ allOf (standsAt (fromWords (now (words .entry))) (state .0) (take count (now (held .entry)))
         ∷ leb steps ((longestWord (now (words .entry)) + 3) * consumed + count)
         ∷ []) ⌝ }
 {
-    if !leads_to(words, held, count as usize, state) {
+    if !stands_at(words, held, count as usize, state) {
         return false;
     }
     steps <= cost(words) * consumed + count as u64
@@ -195,8 +256,8 @@ fn ended_sound(words: &[u16], count: u16, state: StateNo, steps: u64, consumed: 
 }
 
 // A session as a call finds it is sound.
-pub fn is_sound_session(words: &[u16], kept: Kept, uses: &[u64; 33]) -> bool
-    requires { ⌜ T (sound (now words)) × (length (now uses) ≡ 33) ⌝ }
+pub fn is_sound_session(words: &[u16], kept: Kept, uses: &[u64; 34]) -> bool
+    requires { ⌜ T (sound (now words)) × (length (now uses) ≡ 34) ⌝ }
     ensures { λ r. ⌜ r ≡ soundSession (now (words .entry)) (sessionOf (together kept (now (uses .entry)))) ⌝ }
 {
     let count = kept.held_count as u64;

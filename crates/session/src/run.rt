@@ -1,7 +1,11 @@
 // The rollback machine's run over machine words: the unread characters are those given back and then the piece, seen as one text. A run that is
 // lent an output without places writes nothing and counts all the same, as a preview wants it.
 use crate::kept::Status;
+use crate::uses::PAIR_RULE;
 use crate::uses::count_uses;
+use rules::mode::Mode;
+use rules::mode::is_first;
+use rules::mode::is_pair;
 use words::numbers::ClassNo;
 use words::numbers::DEFAULT_RULE;
 use words::numbers::RuleNo;
@@ -13,26 +17,31 @@ use words::read::accept_at_end;
 use words::read::class_count;
 use words::read::class_of;
 use words::read::class_start;
+use words::read::default_mode;
+use words::read::default_word;
 use words::read::entry_value;
 use words::read::group_outputs;
-use words::read::has_default;
 use words::read::settled;
 use words::read::target;
 use words::read::write_rule;
+ghost use mathlib.Core.Bool.{cond, _&&_, _||_};
 ghost use mathlib.Core.List.{_++_};
+ghost use mathlib.Core.Logic.{_≢_};
 ghost use mathlib.Core.Path.{_≡_};
 ghost use Prim.Native.Nat.{_+_, _-_, _≤_, _<_};
-ghost use lib.Dec.{T};
+ghost use lib.Dec.{T, eqb, ltb};
 ghost use lib.ListN.{length, getD, take, drop, replicate};
+ghost use Rattle.meaning.specs.Table.{Paired};
 ghost use Rattle.meaning.specs.Block.{at, blockOutput};
 ghost use Rattle.meaning.specs.Direct.{over};
 ghost use Rattle.automaton.specs.Layout.{wordCount, classesFrom};
-ghost use Rattle.automaton.specs.Sound.{classCount, blockAt, sound};
+ghost use Rattle.automaton.specs.Sound.{classCount, expansionWord, blockAt, modeAt, sound};
+ghost use Rattle.reckoning.specs.Machine.{fall};
 ghost use Rattle.session.specs.Keeping.{meantStatus};
 ghost use Rattle.automaton.specs.Classes.{classOf};
 ghost use Rattle.words.specs.bridge.Readings.{wordOf};
 ghost use Rattle.session.specs.bridge.Counting.{Counted};
-ghost use Rattle.session.specs.bridge.Running.{put, firstOf, Classed, ClassEnds, Painted, SomewherePlaced, ReadsOn, lent, PassesByDefaults, Moves, Emit, Back, Between, Halted, Waits, Stands, acceptNow, Fits, Placed, Advances, Beyond, Runnable, RunsTo};
+ghost use Rattle.session.specs.bridge.Running.{put, firstOf, Classed, ClassEnds, Painted, SomewherePlaced, ReadsOn, lent, PassesByDefaults, Moves, MovesAt, Takes, LeavesUnit, lessSteps, fallOf, Emit, Back, Between, Halted, Waits, Stands, acceptNow, Fits, Placed, Advances, Beyond, Runnable, RunsTo};
 
 // A run: the store is the text from `from` on and below `at`; whether it is done, and how.
 pub struct Ran {
@@ -374,7 +383,7 @@ fn emit_rule<'a>(
     piece: &'a [u16],
     rule: RuleNo,
     run: Ran,
-    uses: &mut [u64; 33],
+    uses: &mut [u64; 34],
     output: &mut [u16],
 ) -> Ran
     requires { ⌜ T (sound (now words)) × Placed (now words) (now given ++ now piece) (length (now output)) run × Counted (now uses) (run .from) ⌝ }
@@ -422,28 +431,159 @@ fn waiting(run: Ran) -> Ran
     }
 }
 
-// *Back*, "then with a default *take* one and *emit* the default, without one *stop*".
-fn roll_back<'a>(
+// A first unit is left: "the back is counted before the wait".
+fn leaving(run: Ran) -> Ran
+    requires { ⌜ (run .from < 18446744073709551615) × (run .steps < 18446744073709551615) ⌝ }
+    ensures { λ r. ⌜ LeavesUnit run r ⌝ }
+{
+    Ran {
+        done: true,
+        status: Status::Open,
+        state: StateNo(0),
+        from: run.from,
+        at: run.from + 1,
+        count: run.count,
+        steps: run.steps + 1,
+    }
+}
+
+// What a roll-back leads to: nothing is taken, one unit is, a pair is, or a first unit waits.
+pub enum Fall {
+    Nowhere,
+    One,
+    Pair,
+    Keep,
+}
+
+// What it leads to under the mark: "A first unit with nothing readable after it waits, and at the input's end it is treated alone."
+fn fall_marked<'a>(given: &'a [u16], piece: &'a [u16], ended: bool, place: usize) -> Fall
+    requires { ⌜ place < length (now given) + length (now piece) ⌝ }
+    ensures { λ r. ⌜ fallOf r ≡ fall Paired ended (drop place (now (given .entry) ++ now (piece .entry))) ⌝ }
+{
+    let unit = character(given, piece, place);
+    if place + 1 < given.len() + piece.len() {
+        if is_pair(unit, character(given, piece, place + 1)) {
+            return Fall::Pair;
+        }
+        return Fall::One;
+    }
+    if ended {
+        return Fall::One;
+    }
+    if is_first(unit) {
+        return Fall::Keep;
+    }
+    Fall::One
+}
+
+// What a roll-back leads to, of the text from `place` on.
+fn fall_at<'a>(words: &[u16], given: &'a [u16], piece: &'a [u16], ended: bool, place: usize) -> Fall
+    requires { ⌜ (wordCount ≤ length (now words)) × (place < length (now given) + length (now piece)) ⌝ }
+    ensures { λ r. ⌜ fallOf r ≡ fall (modeAt (now (words .entry))) ended (drop place (now (given .entry) ++ now (piece .entry))) ⌝ }
+{
+    match default_mode(words) {
+        Mode::Absent => Fall::Nowhere,
+        Mode::Single => Fall::One,
+        Mode::Paired => fall_marked(given, piece, ended, place),
+    }
+}
+
+// A pair of the text goes to `output` from `count` on, "both unchanged"; the count after it. Where there is no output, it is only counted.
+fn write_pair<'a>(
+    given: &'a [u16],
+    piece: &'a [u16],
+    place: usize,
+    output: &mut [u16],
+    count: usize,
+) -> usize
+    requires { ⌜ place + 2 ≤ length (now given ++ now piece) ⌝ }
+    requires { ⌜ (1 ≤ length (now output) → count + 2 ≤ length (now output)) ⌝ }
+    requires { ⌜ count + 8 < 18446744073709551616 ⌝ }
+    ensures { λ r. ⌜ r ≡ count + 2 ⌝ }
+    ensures { λ _. ⌜ now (output .exit) ≡ put (now (output .entry)) count (take 2 (drop place (now (given .entry) ++ now (piece .entry)))) ⌝ }
+{
+    if output.len() == 0 {
+        return count + 2;
+    }
+    output[count] = character(given, piece, place);
+    output[count + 1] = character(given, piece, place + 1);
+    count + 2
+}
+
+// *Take* one and *emit* the default, after *back*.
+fn take_one<'a>(
     words: &[u16],
     given: &'a [u16],
     piece: &'a [u16],
     run: Ran,
-    uses: &mut [u64; 33],
+    uses: &mut [u64; 34],
     output: &mut [u16],
 ) -> Ran
     requires { ⌜ T (sound (now words)) × Placed (now words) (now given ++ now piece) (length (now output)) run × Counted (now uses) (run .from) ⌝ }
-    requires { ⌜ run .from < length (now given ++ now piece) ⌝ }
-    ensures { λ r. ⌜ Moves (now (words .entry)) (now (given .entry) ++ now (piece .entry)) (length (now (output .entry)))
-        run (lent (now (output .entry)) (now (uses .entry))) Back r (lent (now (output .exit)) (now (uses .exit))) ⌝ }
-    ensures { λ r. ⌜ Beyond run (now (output .entry)) r (now (output .exit)) ⌝ }
+    requires { ⌜ (run .from < length (now given ++ now piece)) × (at (now words) 5 ≢ 0) ⌝ }
+    ensures { λ r. ⌜ Takes (now (words .entry)) (now (given .entry) ++ now (piece .entry)) run
+        (lent (now (output .entry)) (now (uses .entry))) 32 1 r (lent (now (output .exit)) (now (uses .exit))) ⌝ }
 {
-    if !has_default(words) {
-        return halted(Status::Stopped, run, 2);
-    }
     let part = unread(given, piece, run.from);
     let written = emit_default(words, part, 0, output, run.count);
     count_uses(uses, DEFAULT_RULE, 1);
     between(run.from + 1, written, run.steps + 3)
+}
+
+// "The pair costs two takes and one emit after the back."
+fn take_pair<'a>(
+    words: &[u16],
+    given: &'a [u16],
+    piece: &'a [u16],
+    run: Ran,
+    uses: &mut [u64; 34],
+    output: &mut [u16],
+) -> Ran
+    requires { ⌜ T (sound (now words)) × Placed (now words) (now given ++ now piece) (length (now output)) run × Counted (now uses) (run .from) ⌝ }
+    requires { ⌜ (run .from + 2 ≤ length (now given ++ now piece)) × (1 ≤ expansionWord (now words)) ⌝ }
+    ensures { λ r. ⌜ Takes (now (words .entry)) (now (given .entry) ++ now (piece .entry)) run
+        (lent (now (output .entry)) (now (uses .entry))) 33 2 r (lent (now (output .exit)) (now (uses .exit))) ⌝ }
+{
+    let written = write_pair(given, piece, run.from, output, run.count);
+    count_uses(uses, PAIR_RULE, 1);
+    between(run.from + 2, written, run.steps + 4)
+}
+
+// *Back*, "then with a default *take* one and *emit* the default, without one *stop*"; under the mark a pair is taken whole, or a first unit waits.
+fn roll_back<'a>(
+    words: &[u16],
+    given: &'a [u16],
+    piece: &'a [u16],
+    ended: bool,
+    run: Ran,
+    uses: &mut [u64; 34],
+    output: &mut [u16],
+) -> Ran
+    requires { ⌜ T (sound (now words)) × Placed (now words) (now given ++ now piece) (length (now output)) run × Counted (now uses) (run .from) ⌝ }
+    requires { ⌜ run .from < length (now given ++ now piece) ⌝ }
+    ensures { λ r. ⌜ MovesAt (now (words .entry)) (now (given .entry) ++ now (piece .entry)) ended (length (now (output .entry)))
+        run (lent (now (output .entry)) (now (uses .entry))) Back r (lent (now (output .exit)) (now (uses .exit))) ⌝ }
+    ensures { λ r. ⌜ Beyond run (now (output .entry)) r (now (output .exit)) ⌝ }
+{
+    match fall_at(words, given, piece, ended, run.from) {
+        Fall::Nowhere => halted(Status::Stopped, run, 2),
+        Fall::One => take_one(words, given, piece, run, uses, output),
+        Fall::Pair => take_pair(words, given, piece, run, uses, output),
+        Fall::Keep => leaving(run),
+    }
+}
+
+// The machine rolls back: before a character without a target, or at the input's end with a store. One call of it, since the compiler inlines that.
+fn gives_back(stuck: bool, ended: bool, from: usize, at: usize) -> bool
+    ensures { λ r. ⌜ r ≡ (stuck || (ended && ltb from at)) ⌝ }
+{
+    if stuck {
+        return true;
+    }
+    if ended {
+        return from < at;
+    }
+    false
 }
 
 // Where the machine has read on and emits no rule: it rolls back before a character without a target, waits, or at the input's end rolls back or closes.
@@ -454,7 +594,7 @@ fn fall_back<'a>(
     stuck: bool,
     ended: bool,
     run: Ran,
-    uses: &mut [u64; 33],
+    uses: &mut [u64; 34],
     output: &mut [u16],
 ) -> Ran
     requires { ⌜ T (sound (now words)) × Placed (now words) (now given ++ now piece) (length (now output)) run × Counted (now uses) (run .from) ⌝ }
@@ -463,14 +603,11 @@ fn fall_back<'a>(
         run (lent (now (output .entry)) (now (uses .entry))) (r .done) r (lent (now (output .exit)) (now (uses .exit))) ⌝ }
     ensures { λ r. ⌜ Beyond run (now (output .entry)) r (now (output .exit)) ⌝ }
 {
-    if stuck {
-        return roll_back(words, given, piece, run, uses, output);
+    if gives_back(stuck, ended, run.from, run.at) {
+        return roll_back(words, given, piece, ended, run, uses, output);
     }
     if !ended {
         return waiting(run);
-    }
-    if run.from < run.at {
-        return roll_back(words, given, piece, run, uses, output);
     }
     halted(Status::Closed, run, 1)
 }
@@ -483,7 +620,7 @@ fn turn<'a>(
     piece: &'a [u16],
     ended: bool,
     run: Ran,
-    uses: &mut [u64; 33],
+    uses: &mut [u64; 34],
     output: &mut [u16],
 ) -> Ran
     requires { ⌜ T (sound (now words)) × Classed (now words) (now classes) ⌝ }
@@ -512,7 +649,16 @@ fn turn<'a>(
     emit_rule(words, given, piece, rule, read, uses, output)
 }
 
-// Where the run is between two words and there is a default, it is emitted first for the characters that begin no word; then comes a turn.
+// The default takes one unit each time: it is there, and carries no mark.
+fn takes_one(words: &[u16]) -> bool
+    requires { ⌜ wordCount ≤ length (now words) ⌝ }
+    ensures { λ r. ⌜ r ≡ eqb (at (now (words .entry)) 5) 1 ⌝ }
+{
+    default_word(words) == 1
+}
+
+// Where the run is between two words and there is a default without a mark, it is emitted first for the characters that begin no word; then comes
+// a turn.
 fn advance<'a>(
     words: &[u16],
     classes: &[u16],
@@ -520,7 +666,7 @@ fn advance<'a>(
     piece: &'a [u16],
     ended: bool,
     run: Ran,
-    uses: &mut [u64; 33],
+    uses: &mut [u64; 34],
     output: &mut [u16],
 ) -> Ran
     requires { ⌜ T (sound (now words)) × Classed (now words) (now classes) ⌝ }
@@ -529,12 +675,40 @@ fn advance<'a>(
         run (lent (now (output .entry)) (now (uses .entry))) (r .done) r (lent (now (output .exit)) (now (uses .exit))) ⌝ }
     ensures { λ r. ⌜ Beyond run (now (output .entry)) r (now (output .exit)) ⌝ }
 {
-    if run.from == run.at && has_default(words) {
+    if run.from == run.at && takes_one(words) {
         let next = emit_defaults(words, classes, given, piece, run, output);
         count_uses(uses, DEFAULT_RULE, (next.from - run.from) as u64);
         return turn(words, classes, given, piece, ended, next, uses, output);
     }
     turn(words, classes, given, piece, ended, run, uses, output)
+}
+
+// Where a run begins to read: behind the given characters, or before a unit that was left at state 0.
+fn beginning(state: StateNo, held: usize) -> usize
+    ensures { λ r. ⌜ r ≡ cond (eqb (state .0) 0) 0 held ⌝ }
+{
+    if state.0 == 0 {
+        return 0;
+    }
+    held
+}
+
+// A run without the steps that were counted before: the back of a unit that was left.
+fn counted_once(run: Ran, made: u64) -> Ran
+    requires { ⌜ made ≤ run .steps ⌝ }
+    ensures { λ r. ⌜ r ≡ lessSteps run made ⌝ }
+{
+    let status = run.status;
+    let state = run.state;
+    Ran {
+        done: run.done,
+        status,
+        state,
+        from: run.from,
+        at: run.at,
+        count: run.count,
+        steps: run.steps - made,
+    }
 }
 
 // The machine's run from a store of the given characters and the state that they lead to, over the piece, until it waits, closes or stops, with
@@ -546,7 +720,7 @@ fn run_from<'a>(
     piece: &'a [u16],
     state: StateNo,
     ended: bool,
-    uses: &mut [u64; 33],
+    uses: &mut [u64; 34],
     output: &mut [u16],
 ) -> Ran
     requires { ⌜ Classed (now words) (now classes) ⌝ }
@@ -554,19 +728,20 @@ fn run_from<'a>(
     ensures { λ r. ⌜ RunsTo (now (words .entry)) (now (given .entry)) (now (piece .entry)) (state .0) ended
         (lent (now (output .entry)) (now (uses .entry))) r (lent (now (output .exit)) (now (uses .exit))) ⌝ }
 {
+    let start = beginning(state, given.len());
     let mut ran = Ran {
         done: false, // a run begins
         status: Status::Open,
         state,
         from: 0,
-        at: given.len(),
+        at: start,
         count: 0,
         steps: 0,
     };
     while !ran.done {
         ran = advance(words, classes, given, piece, ended, ran, uses, output);
     }
-    ran
+    counted_once(ran, (given.len() - start) as u64)
 }
 
 // How many of the first characters have their classes worked out beforehand for a short piece: those below the last class, so that a character is
@@ -590,7 +765,7 @@ pub fn run_words<'a>(
     piece: &'a [u16],
     state: StateNo,
     ended: bool,
-    uses: &mut [u64; 33],
+    uses: &mut [u64; 34],
     output: &mut [u16],
 ) -> Ran
     requires { ⌜ Runnable (now words) (now given) (now piece) (state .0) (lent (now output) (now uses)) ⌝ }

@@ -7,7 +7,7 @@ use lib.Dec.{eqb}
 use lib.IntN.{natAbs}
 use lib.ListN.{length, getD}
 use Rattle.lists.specs.Lists.{flatMap}
-use Rattle.meaning.specs.Table.{Group, Table, everyCharacter, defaultNumber}
+use Rattle.meaning.specs.Table.{Group, unmarked, Table, everyCharacter, defaultNumber}
 use Rattle.meaning.specs.Meaning.{textOf, covered, Conversion, convert}
 use Rattle.expression.specs.Grammar.{Tree}
 use Rattle.expression.specs.Value.{valueAt}
@@ -34,7 +34,7 @@ firstOf (x ∷ xs) = some x
 
 -- the patterns alone: rules are numbered from 0 in the text's order, and `else` is the default
 unfoldable pub patterns : List Line → Table
-patterns ls = record { rules = map groupOf (flatMap ruleOf ls); default = firstOf (map groupOf (flatMap defaultOf ls)) }
+patterns ls = record { rules = map groupOf (flatMap ruleOf ls); default = firstOf (map groupOf (flatMap defaultOf ls)); mark = unmarked }
 
 abbrev pub silent : Line
 silent = record { head = otherwise; outputs = [] }

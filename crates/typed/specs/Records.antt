@@ -7,6 +7,7 @@ use lib.IntN.{ℤ, pos}
 use lib.ListN.{length, getD, drop}
 use lib.Signed.{mag}
 use Rattle.lists.specs.Lists.{all, flatMap}
+use Rattle.meaning.specs.Table.{unmarked}
 use Rattle.meaning.specs.Records.{ruleRecord, rangeRecords, outputRecord, termRecord, terms, defaultRecord}
 use Rattle.expression.specs.declared.part.Part.{Part}
 use Rattle.expression.specs.Grammar.{Tree, fold}
@@ -41,7 +42,7 @@ outputRecords p = outputRecord (constant p) ++ flatMap termRecord (terms 0 (coef
 
 unfoldable pub headRecords : Head → List ℕ
 headRecords (pattern p) = ruleRecord (length (p .items)) (p .anchored) ++ rangeRecords 0 (p .items)
-headRecords otherwise = defaultRecord
+headRecords otherwise = defaultRecord unmarked
 
 unfoldable pub lineRecords : Line → List ℕ
 lineRecords l = headRecords (l .head) ++ flatMap (λ t. outputRecords (partOf t)) (l .outputs)

@@ -3,6 +3,7 @@ ghost use mathlib.Core.Path.{_≡_};
 ghost use Prim.Native.Nat.{_≤_};
 ghost use lib.ListN.{length, drop};
 ghost use Rattle.expression.specs.bridge.Text.{mapRead};
+ghost use Rattle.meaning.specs.Table.{unmarked};
 ghost use Rattle.meaning.specs.Records.{defaultRecord};
 ghost use Rattle.typed.specs.Grammar.{elseWord};
 ghost use Rattle.typed.specs.bridge.Reader.{symbol, headOf, rightOf, lineOf, endsText, linesOf};
@@ -26,7 +27,7 @@ fn feed_default(s: &[u16], at: usize, sink: Sink, loaded: &mut [u16], buffer: &m
     requires { ⌜ Ready (stateOf sink (now loaded) (now buffer)) ⌝ }
     ensures { λ r. ⌜ (
         let found = stateOf sink (now (loaded .entry)) (now (buffer .entry)) in
-        Streams (now (s .entry)) at (mapRead (λ _. fed defaultRecord found) (symbol elseWord (drop at (now (s .entry)))))
+        Streams (now (s .entry)) at (mapRead (λ _. fed (defaultRecord unmarked) found) (symbol elseWord (drop at (now (s .entry)))))
         r (now (loaded .exit)) (now (buffer .exit))) ⌝ }
 {
     let mark = word_else(s, at);

@@ -2,6 +2,7 @@
 ghost use mathlib.Core.Path.{_≡_};
 ghost use Prim.Native.Nat.{_<_, _%_};
 ghost use lib.Signed.{mag};
+ghost use Rattle.meaning.specs.Table.{unmarked};
 ghost use Rattle.meaning.specs.Records.{ruleRecord, rangeRecord, outputRecord, termRecord, defaultRecord, twosComplement};
 ghost use Rattle.typed.specs.Grammar.{range};
 
@@ -79,9 +80,9 @@ pub fn term_record(position: u8, coefficient: i64) -> [u8; 8]
     [4, position, 0, 0, byte(x), byte(x / 256), 0, 0]
 }
 
-// Kind 5: the default.
+// Kind 5: the default, without a mark.
 pub fn default_record() -> [u8; 8]
-    ensures { λ r. ⌜ r ≡ defaultRecord ⌝ }
+    ensures { λ r. ⌜ r ≡ defaultRecord unmarked ⌝ }
 {
     [5, 0, 0, 0, 0, 0, 0, 0]
 }

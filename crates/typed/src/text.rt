@@ -53,10 +53,7 @@ fn survey(text: &[u16]) -> Typed
             let load = finish_load(reader, &loaded);
             match load {
                 Load::Refused(number) => Typed::Refused(number),
-                Load::Accepted {
-                    rules: _,
-                    defaulted: _,
-                } => Typed::Accepted(sink.count),
+                Load::Accepted { rules: _, mode: _ } => Typed::Accepted(sink.count),
             }
         }
     }

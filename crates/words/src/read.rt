@@ -11,7 +11,8 @@ ghost use lib.ListN.{length, take, drop};
 ghost use Rattle.meaning.specs.Block.{at, entryValue, blockOutput, blockSize};
 ghost use Rattle.automaton.specs.Classes.{classOf};
 ghost use Rattle.automaton.specs.Layout.{wordCount, classesFrom};
-ghost use Rattle.automaton.specs.Sound.{stateCount, classCount, ruleCount, longestWord, expansionWord, depthWord, acceptAtEndWord, acceptWord, targetWord, blockAt, used, sound};
+ghost use Rattle.automaton.specs.Sound.{stateCount, classCount, ruleCount, longestWord, expansionWord, depthWord, acceptAtEndWord, acceptWord, targetWord, blockAt, modeAt, used, sound};
+ghost use Rattle.rules.specs.bridge.Modes.{theMode};
 ghost use Rattle.words.specs.bridge.Readings.{wordOf, Leads};
 use crate::layout::ACCEPT_FROM;
 use crate::layout::AT_END_FROM;
@@ -26,6 +27,7 @@ use crate::layout::STATE_COUNT;
 use crate::layout::STATES_FROM;
 use crate::layout::TARGETS_FROM;
 use rules::layout::BLOCK;
+use rules::mode::Mode;
 
 // The rule that a state accepts, or nothing.
 pub enum Accept {
@@ -86,7 +88,7 @@ pub fn rule_count(words: &[u16]) -> usize
     size(words[RULE_COUNT])
 }
 
-// The word for a default: 1 where the table has one, else 0.
+// The word for a default: 0 for none, 1 for one, 2 for one with the mark.
 pub fn default_word(words: &[u16]) -> u16
     requires { ⌜ wordCount ≤ length (now words) ⌝ }
     ensures { λ r. ⌜ r ≡ at (now (words .entry)) 5 ⌝ }
@@ -97,9 +99,21 @@ pub fn default_word(words: &[u16]) -> u16
 // The table has a default.
 pub fn has_default(words: &[u16]) -> bool
     requires { ⌜ wordCount ≤ length (now words) ⌝ }
-    ensures { λ r. ⌜ r ≡ eqb (at (now (words .entry)) 5) 1 ⌝ }
+    ensures { λ r. ⌜ r ≡ used (at (now (words .entry)) 5) ⌝ }
 {
-    words[DEFAULTED] == 1
+    default_word(words) != 0
+}
+
+// The default's mode: "Header word 5 is 2 for this mode."
+pub fn default_mode(words: &[u16]) -> Mode
+    requires { ⌜ wordCount ≤ length (now words) ⌝ }
+    ensures { λ r. ⌜ theMode r ≡ modeAt (now (words .entry)) ⌝ }
+{
+    match default_word(words) {
+        0 => Mode::Absent,
+        1 => Mode::Single,
+        _ => Mode::Paired,
+    }
 }
 
 // The first character of a class.

@@ -23,6 +23,7 @@ use crate::read::accept_at_end_word;
 use crate::read::accept_word;
 use crate::read::class_count;
 use crate::read::class_start;
+use crate::read::default_mode;
 use crate::read::default_word;
 use crate::read::depth_word;
 use crate::read::expansion;
@@ -36,6 +37,7 @@ use crate::read::state_count;
 use crate::read::target;
 use rules::layout::BLOCK;
 use rules::layout::ENTRY;
+use rules::mode::least_expansion;
 
 fn within(low: usize, high: usize, x: usize) -> bool
     ensures { λ r. ⌜ r ≡ between low high x ⌝ }
@@ -46,7 +48,7 @@ fn within(low: usize, high: usize, x: usize) -> bool
     false
 }
 
-// "The header is within its limits."
+// "The header is within its limits", and under the mark "E is then at least 1, in sound words too".
 fn header_sound(words: &[u16]) -> bool
     requires { ⌜ wordCount ≤ length (now words) ⌝ }
     ensures { λ r. ⌜ r ≡ soundHeader (now (words .entry)) ⌝ }
@@ -66,7 +68,10 @@ fn header_sound(words: &[u16]) -> bool
     if !within(1, 32, rule_count(words)) {
         return false;
     }
-    default_word(words) <= 1
+    if default_word(words) > 2 {
+        return false;
+    }
+    least_expansion(default_mode(words)) <= expansion(words)
 }
 
 // "The class starts begin at 0 and rise strictly."

@@ -11,16 +11,18 @@ use borrow.Author.Tests.{lt-ltb, le-ltb}
 use lib.Dec.{eqb, ltb, ltb→lt, nltb→le}
 use lib.ListN.{length, getD, take, drop, set, length-map, length-append, List·getD-append}
 use lib.Seq.{take-at, drop-at, drop-drop, getD-drop, getD-append-add, length-take-le}
-use Rattle.lists.specs.Lists.{Each, filter, flatMap, greatest, tabFrom, upTo, pad, optional, isSome, orElse, findFrom}
+use Rattle.lists.specs.Lists.{Each, filter, flatMap, greatest, tabFrom, upTo, pad, optional, orElse, findFrom}
 use Rattle.lists.specs.Decide.{select}
 use Rattle.lists.proofs.Laws.Tests.{split}
 use Rattle.lists.proofs.Laws.Parts.{length-pad, getD-pad}
 use Rattle.meaning.specs.Refusal.{refused, accepted, andThen}
-use Rattle.meaning.specs.Table.{Group, Table, ruleAt, inRanges, longest}
-use Rattle.meaning.specs.Block.{at, bit, block, blockSize, blocksSize}
+use Rattle.meaning.specs.Table.{Group, unmarked, Mode, Absent, Table, mode, ruleAt, inRanges, longest}
+use Rattle.meaning.specs.Block.{at, block, blockSize, blocksSize}
 use Rattle.meaning.specs.Reader.{readTable}
 use Rattle.meaning.specs.bridge.Flat.{rows, blockWords, loadedWords, blocksOf, groupAt, tableAt, expansionAt, Flat}
+use Rattle.rules.specs.bridge.Modes.{theMode}
 use Rattle.rules.specs.bridge.Readings.{LoadedBy}
+use Rattle.rules.specs.declared.mode.Mode.{Mode as Kept}
 use Rattle.meaning.proofs.Laws.Shape.{Shaped}
 use Rattle.meaning.proofs.Laws.Narrow.{Narrow}
 use Rattle.meaning.proofs.Laws.Loaded.{loaded-blocks}
@@ -33,7 +35,7 @@ use Rattle.meaning.proofs.Laws.Direct.{table-refused}
 use Rattle.rules.proofs.Laws.Converting.{of-read, is-shaped, is-narrow, is-refused, expansion-flat}
 use Rattle.automaton.specs.Classes.{starts}
 use Rattle.automaton.specs.States.{State, firstNumber, initial, acceptAtEndOf, acceptOf, successor, sameState, inhabited, distinct, nextLevel, levels, states, targetOf}
-use Rattle.automaton.specs.Layout.{wordCount, stateWords, targetWords, parts, words, blocksFrom, classesFrom, statesFrom, statesSize, targetsSize}
+use Rattle.automaton.specs.Layout.{wordCount, modeWord, stateWords, targetWords, parts, words, blocksFrom, classesFrom, statesFrom, statesSize, targetsSize}
 use Rattle.automaton.specs.Compile.{CompileOutcome, small, compilable, compileBy, compile}
 use Rattle.machine.specs.bridge.Building.{longestAt, headerAt, wordsAt, builtBy, built}
 use Rattle.automaton.specs.Starts.{rangesOf, Cleared}
@@ -54,14 +56,14 @@ header-put (x ∷ y ∷ z ∷ u ∷ v ∷ s ∷ w) a b c d e f h = refl
 -- the table read back of the array, without its default
 
 abbrev plain : Table → Table
-plain t = record { rules = map bareGroup (t .rules); default = none }
+plain t = record { rules = map bareGroup (t .rules); default = none; mark = unmarked }
 
-table-plain : (t : Table) → Shaped t → Narrow t → tableAt (loadedWords t) (length (t .rules)) false ≡ plain t
+table-plain : (t : Table) → Shaped t → Narrow t → tableAt (loadedWords t) (length (t .rules)) Absent ≡ plain t
 unfolding tableAt
-table-plain t s w = ap (λ u. record { rules = u .rules; default = none }) (table-flat t s w)
+table-plain t s w = ap (λ u. record { rules = u .rules; default = none; mark = unmarked }) (table-flat t s w)
 
 -- the ranges that the compiler meets are the table's
-pub ranges-loaded : (t : Table) → Shaped t → Narrow t → rangesOf (tableAt (loadedWords t) (length (t .rules)) false) ≡ rangesOf t
+pub ranges-loaded : (t : Table) → Shaped t → Narrow t → rangesOf (tableAt (loadedWords t) (length (t .rules)) Absent) ≡ rangesOf t
 ranges-loaded t s w = ap rangesOf (table-plain t s w) ∙ ranges-bare t
 
 module _ (t : Table) where
@@ -138,7 +140,7 @@ module _ (loaded : List ℕ) where
       let e : at loaded (blockSize * (suc i + n)) ≡ at loaded (blockSize * (i + suc n)) = ap (λ k. at loaded (blockSize * k)) (omega arith) in
       let h = greatest-next (suc i) n in omega arith
 
-  longest-at : (n : ℕ) → longestAt loaded n ≡ longest (tableAt loaded n false)
+  longest-at : (n : ℕ) → longestAt loaded n ≡ longest (tableAt loaded n Absent)
   unfolding longestAt longest tableAt
   longest-at zero = refl
   longest-at (suc n) =
@@ -249,17 +251,17 @@ assembled w w1 w2 w3 w4 h s a b blocks room lh ls la lb e1 e2 e3 e4 =
         ∙ drop-drop blocksSize blocksFrom w1 ∙ drop-later statesFrom (wordCount - statesFrom) w1 w behind
 
 -- the same with the six words as they were counted
-pub put-together : (t : Table) (n : ℕ) (d : Bool) (w w1 w2 w3 w4 loaded : List ℕ) (q c l e : ℕ) → wordCount ≤ length w →
+pub put-together : (t : Table) (n : ℕ) (d : Mode) (w w1 w2 w3 w4 loaded : List ℕ) (q c l e : ℕ) → wordCount ≤ length w →
     q ≡ length (states t) → c ≡ length (starts t) → l ≡ longestAt loaded n → e ≡ expansionAt loaded n d →
     w1 ≡ take classesFrom w ++ pad 64 (starts t) ++ drop statesFrom w →
     w2 ≡ take statesFrom w1 ++ pad statesSize (flatMap (stateWords t) (states t)) ++ pad targetsSize (flatMap (targetWords t) (states t)) ++ drop blocksFrom w1 →
-    w3 ≡ (q ∷ c ∷ l ∷ e ∷ n ∷ bit d ∷ []) ++ drop classesFrom w2 → w4 ≡ take blocksFrom w3 ++ blocksOf loaded ++ drop wordCount w3 →
+    w3 ≡ (q ∷ c ∷ l ∷ e ∷ n ∷ modeWord d ∷ []) ++ drop classesFrom w2 → w4 ≡ take blocksFrom w3 ++ blocksOf loaded ++ drop wordCount w3 →
     w4 ≡ wordsAt t loaded n d ++ drop wordCount w
 unfolding wordsAt
 put-together t n d w w1 w2 w3 w4 loaded q c l e room eq ec el ee e1 e2 e3 e4 =
     assembled w w1 w2 w3 w4 (headerAt t loaded n d) (pad 64 (starts t)) (pad statesSize (flatMap (stateWords t) (states t)))
     (pad targetsSize (flatMap (targetWords t) (states t))) (blocksOf loaded) room refl (length-pad 64 _) (length-pad statesSize _) (length-pad targetsSize _) e1 e2
-    (e3 ∙ (λ i. (eq i ∷ ec i ∷ el i ∷ ee i ∷ n ∷ bit d ∷ []) ++ drop classesFrom w2)) e4
+    (e3 ∙ (λ i. (eq i ∷ ec i ∷ el i ∷ ee i ∷ n ∷ modeWord d ∷ []) ++ drop classesFrom w2)) e4
 
 -- the count of states as it is answered
 
@@ -284,7 +286,7 @@ module _ (w v : List ℕ) (e : v ≡ pad wordCount [] ++ drop wordCount w) where
 
 -- what is built, by the counts of classes and states
 
-module _ (t : Table) (loaded : List ℕ) (n : ℕ) (d : Bool) (rest : List ℕ) where
+module _ (t : Table) (loaded : List ℕ) (n : ℕ) (d : Mode) (rest : List ℕ) where
   pub built-classes : 64 < length (starts t) → builtBy t loaded n d rest ≡ record { answer = refused 8; words = pad wordCount [] ++ rest }
   unfolding builtBy select
   built-classes h = rw (lt-ltb 64 (length (starts t)) h) refl
@@ -304,13 +306,13 @@ module _ (t : Table) (s : Shaped t) (w : Narrow t) where
   abbrev n : ℕ
   n = length (t .rules)
 
-  abbrev d : Bool
-  d = isSome (t .default)
+  abbrev d : Mode
+  d = mode t
 
   words-flat : wordsAt (plain t) (loadedWords t) n d ≡ words t
   unfolding wordsAt words parts
   words-flat =
-      λ i. (length (states-plain t i) ∷ length (starts-plain t i) ∷ most i ∷ expansion-flat t s i ∷ n ∷ bit d ∷ [])
+      λ i. (length (states-plain t i) ∷ length (starts-plain t i) ∷ most i ∷ expansion-flat t s i ∷ n ∷ modeWord d ∷ [])
       ++ (pad 64 (starts-plain t i) ++ (pad statesSize (stateWords-plain t i) ++ (pad targetsSize (targetWords-plain t i) ++ blocks i)))
     where
       most : longestAt (loadedWords t) n ≡ longest t
@@ -361,12 +363,12 @@ module _ (b w : List ℕ) where
           let a : compile b w .answer ≡ refused n = ap (λ o. o .answer) (compile-long ∙ ap (λ o. compileBy (andThen o small) w) q) in
           (sym a, sym (compile-answers b w .zeros n a (λ z. subst (λ m. readTable b ≡ refused m → ⊥) (sym z) (table-refused b 10) q)))
 
-      module _ (n : ℕ) (d : Bool) (e : r ≡ Load.Accepted n d) (bytes : Each (λ x. x < 256) b) where
+      module _ (n : ℕ) (d : Kept) (e : r ≡ Load.Accepted n d) (bytes : Each (λ x. x < 256) b) where
         pub compile-flat : Flat loaded × (n ≤ 32)
         compile-flat = of-read b r loaded l n d e (λ l n d. Flat l × (n ≤ 32))
             (λ t q. (flat-flat t (is-shaped b t q bytes) (is-narrow b t q bytes), is-shaped b t q bytes .few-rules))
 
-        pub compile-built : (buffer : List ℕ) → drop wordCount buffer ≡ drop wordCount w → built loaded n d buffer ≡ compile b w
+        pub compile-built : (buffer : List ℕ) → drop wordCount buffer ≡ drop wordCount w → built loaded n (theMode d) buffer ≡ compile b w
         unfolding andThen
         compile-built buffer z = of-read b r loaded l n d e (λ l n d. built l n d buffer ≡ compile b w)
             (λ t q. built-flat t (is-shaped b t q bytes) (is-narrow b t q bytes) buffer w z ∙ sym (compile-long ∙ ap (λ o. compileBy (andThen o small) w) q))

@@ -20,7 +20,7 @@ use Rattle.meaning.specs.Table.{Table, everyCharacter, ruleAt, defaultNu
 use Rattle.meaning.specs.Value.{nibble, hexDigit}
 use Rattle.meaning.specs.Block.{at, wordSum, valueBy, entryValue, blockOutput, blockSize, entrySize}
 use Rattle.meaning.specs.Meaning.{best, orDefault, choose, Emission, textOf, covered, chosen, convertBy, convertFrom, convert, startsPair}
-use Rattle.meaning.specs.bridge.Flat.{rangesAt, patternAt, groupAt, tableAt, flatText, flatWrite}
+use Rattle.meaning.specs.bridge.Flat.{rangesAt, patternAt, groupAt, tableAt, sizeAt, countAt, flatText, flatWrite}
 use Rattle.meaning.specs.Refusal.{Outcome, accepted}
 use Rattle.meaning.specs.Direct.{Converted, over}
 use Rattle.meaning.proofs.Laws.Sums.{sum-from}
@@ -146,13 +146,6 @@ pub convert-end : (t : Table) (rest : List ℕ) → length rest ≡ 0 → conver
 unfolding convertFrom
 convert-end t [] h = refl
 convert-end t (c ∷ rest) h = absurd (omega arith)
-
--- how many characters group g takes and writes, by the arrays; a pair has no block
-abbrev pub sizeAt : List ℕ → ℕ → ℕ
-sizeAt loaded g = cond (eqb g pairNumber) 2 (at loaded (blockSize * g))
-
-abbrev pub countAt : List ℕ → ℕ → ℕ
-countAt loaded g = cond (eqb g pairNumber) 2 (at loaded (blockSize * g + 2))
 
 pub plain-size : (loaded : List ℕ) (g : ℕ) → g < 33 → sizeAt loaded g ≡ at loaded (blockSize * g)
 plain-size loaded g h = rw (ne-eqb g 33 (omega arith))

@@ -139,6 +139,13 @@ expansionAt loaded n m = expansionFrom loaded n (max (least m) (cond (present m)
 abbrev pub flatConversion : List ℕ → ℕ → Mode → List ℕ → Conversion
 flatConversion loaded n m input = convert (tableAt loaded n m) input
 
+-- how many characters group g takes and writes, by the array; a pair has no block
+abbrev pub sizeAt : List ℕ → ℕ → ℕ
+sizeAt loaded g = cond (eqb g pairNumber) 2 (at loaded (blockSize * g))
+
+abbrev pub countAt : List ℕ → ℕ → ℕ
+countAt loaded g = cond (eqb g pairNumber) 2 (at loaded (blockSize * g + 2))
+
 -- a pair is written unchanged, and has no block
 abbrev pub flatWrite : List ℕ → ℕ → List ℕ → List ℕ
 flatWrite loaded g w = cond (eqb g pairNumber) w (blockOutput (drop (blockSize * g) loaded) w)

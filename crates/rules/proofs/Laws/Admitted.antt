@@ -21,7 +21,7 @@ use Rattle.meaning.specs.bridge.Flat.{loadedWords}
 use Rattle.rules.specs.declared.reader.Reader.{Reader}
 use Rattle.meaning.proofs.Laws.Seven.{FilledPosition}
 use Rattle.rules.proofs.Laws.Positions.{output-named}
-use Rattle.rules.proofs.Laws.Represents.{latestOf, summary, Read, each-last, latest-begun}
+use Rattle.rules.proofs.Laws.Represents.{latestOf, summary, summary-defaulted, Read, each-last, latest-begun}
 use Rattle.meaning.proofs.Laws.Decoding.{FittingRecord}
 use Rattle.rules.proofs.Laws.Taken.{Taken}
 use Rattle.rules.proofs.Laws.TakenGroup.{rule-taken, default-taken}
@@ -94,7 +94,9 @@ term-misplaced s p a =
 
 pub admit-right : (s : Reading) (x : Record) → Read s → FittingRecord x → Right s x (readOne s (some x))
 unfolding readOne admit misplaced skipping tooMany unfilled latest repeated select
-admit-right s (rule k a) h f = alike s (rule k a) (rule-taken s k a h f)
+admit-right s (rule k a) h f =
+    decided s (rule k a) _ (skipping s (rule k a)) (tooMany s (rule k a)) (misplaced s (rule k a)) (skipping s (rule k a)) (tooMany s (rule k a)) (summary-defaulted s) refl refl
+    (rule-taken s k a h f)
 admit-right s (range p r) h f =
     let one : p + 1 ≡ suc p = omega arith in
     let ps = latestOf (s .table) .ranges in
@@ -104,5 +106,7 @@ admit-right s (output c) h f = alike s (output c) (output-taken s c h f)
 admit-right s (term p a) h f =
     decided s (term p a) _ (skipping s (term p a)) (tooMany s (term p a)) (misplaced s (term p a)) (skipping s (term p a)) (tooMany s (term p a)) (term-misplaced s p a) refl refl
     (term-taken s p a h f)
-admit-right s default h f = alike s default (default-taken s h)
+admit-right s (default k) h f =
+    decided s (default k) _ (skipping s (default k)) (tooMany s (default k)) (misplaced s (default k)) (skipping s (default k)) (tooMany s (default k)) (summary-defaulted s) refl refl
+    (default-taken s k h)
 admit-right s (hexadecimal p shift) h f = alike s (hexadecimal p shift) (digit-taken s p shift h f)

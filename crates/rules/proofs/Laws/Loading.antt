@@ -10,16 +10,17 @@ use borrow.Author.Tests.{eq-eqb, ne-eqb}
 use lib.Dec.{eqb}
 use lib.ListN.{length, getD, take, drop, take-append-drop}
 use lib.Seq.{drop-drop}
-use Rattle.lists.specs.Lists.{Each, isSome, pad}
+use Rattle.lists.specs.Lists.{Each, pad}
 use Rattle.lists.specs.Decide.{select}
 use Rattle.lists.proofs.Laws.Each.{each-front, each-back}
 use Rattle.meaning.specs.Refusal.{Outcome, refused, accepted, andThen}
 use Rattle.meaning.specs.Record.{Record, rule, range, output, term, default, hexadecimal, decode}
+use Rattle.rules.specs.bridge.Modes.{theMode, keptMode}
 use Rattle.rules.specs.bridge.Summary.{started, gap, admitted, ifTaken, Taken, takeOn, takeRecords, Fitting}
 use Rattle.rules.specs.declared.reader.Reader.{Reader}
 use Rattle.rules.specs.declared.load.Load.{Load}
 use Rattle.rules.specs.declared.load.Load.the-variants as Load
-use Rattle.meaning.specs.Table.{Table}
+use Rattle.meaning.specs.Table.{Table, mode}
 use Rattle.meaning.specs.Value.{safe}
 use Rattle.meaning.specs.Reader.{Reading, unread, readRecords, readEnd, readRules, readTable}
 use Rattle.meaning.specs.bridge.Flat.{loadedWords, loadedSize, safeAt, Flat}
@@ -27,7 +28,7 @@ use Rattle.rules.specs.bridge.Readings.{endOf, LoadedBy}
 use Rattle.meaning.proofs.Laws.Refusal.{accepted-not, accepted-same, refused-same}
 use Rattle.meaning.proofs.Laws.Shape.{Shaped}
 use Rattle.meaning.proofs.Laws.Reading.{read-shaped}
-use Rattle.rules.proofs.Laws.Represents.{summary, Read, read-fitting}
+use Rattle.rules.proofs.Laws.Represents.{summary, kept-mode, Read, read-fitting}
 use Rattle.rules.proofs.Laws.Flattened.{TakenRight, take-right, end-right, flat-flat}
 use Rattle.meaning.proofs.Laws.SafeFlat.{each-numbers, safe-flat}
 use Rattle.meaning.proofs.Laws.Decoding.{FittingRecord, decode-fits}
@@ -53,7 +54,7 @@ small (rule k a) f = f .1
 small (range p c) f = tt
 small (output c) f = tt
 small (term p a) f = tt
-small default f = tt
+small (default k) f = tt
 small (hexadecimal p shift) f = tt
 
 pub fitting-on : (r r′ : Reader) (b : List ℕ) (x : Option Record) → Each (λ c. c < 256) b → decode b ≡ x → Fitting r → admitted r x ≡ accepted r′ → Fitting r′
@@ -155,7 +156,7 @@ module _ (b : List ℕ) (bytes : Each (λ x. x < 256) b) {first : List ℕ} (zer
     EndNeeds r l = (r .rules ≤ 32) × (gap r ≡ false → 1 ≤ r .rules → Flat l)
 
     abbrev EndLoads : Reader → List ℕ → Type 0
-    EndLoads r l = LoadedBy (readTable b) (endOf r (safeAt l (r .rules) (r .defaulted))) l
+    EndLoads r l = LoadedBy (readTable b) (endOf r (safeAt l (r .rules) (theMode (r .mode)))) l
 
     -- the reading at the end
     module _ (s : Reading) (read : readRecords (length b / 8) b unread ≡ accepted s) (holds : Read s) where
@@ -174,7 +175,7 @@ module _ (b : List ℕ) (bytes : Each (λ x. x < 256) b) {first : List ℕ} (zer
 
       answers : (g z f : Bool) → (g ≡ false → z ≡ false → f ≡ safe end) →
           LoadedBy (andThen (select ((g, refused 4) ∷ (z, refused 5) ∷ []) (accepted end)) (λ t. select ((not (safe t), refused 7) ∷ []) (accepted t)))
-          (select ((g, Load.Refused 4) ∷ (z, Load.Refused 5) ∷ (not f, Load.Refused 7) ∷ []) (Load.Accepted (length (end .rules)) (isSome (end .default))))
+          (select ((g, Load.Refused 4) ∷ (z, Load.Refused 5) ∷ (not f, Load.Refused 7) ∷ []) (Load.Accepted (length (end .rules)) (keptMode (mode end))))
           (loadedWords end)
       unfolding select andThen
       answers true z f h = refl
@@ -182,7 +183,7 @@ module _ (b : List ℕ) (bytes : Each (λ x. x < 256) b) {first : List ℕ} (zer
       answers false false f h = rw (h refl refl) (last (safe end))
         where
           last : (f : Bool) → LoadedBy (select ((not f, refused 7) ∷ []) (accepted end))
-              (select ((not f, Load.Refused 7) ∷ []) (Load.Accepted (length (end .rules)) (isSome (end .default)))) (loadedWords end)
+              (select ((not f, Load.Refused 7) ∷ []) (Load.Accepted (length (end .rules)) (keptMode (mode end)))) (loadedWords end)
           last true = (refl, refl)
           last false = refl
 
@@ -190,7 +191,7 @@ module _ (b : List ℕ) (bytes : Each (λ x. x < 256) b) {first : List ℕ} (zer
       unfolding readTable andThen
       loads-read =
           rw (rules-read (accepted s) read, end-right s)
-          (answers (gap (summary s)) (eqb (length (end .rules)) 0) _ (λ g z. safe-flat end (end-shaped g z) (holds .narrow)))
+          (answers (gap (summary s)) (eqb (length (end .rules)) 0) _ (λ g z. ap (safeAt (loadedWords end) (length (end .rules))) (kept-mode (mode end)) ∙ safe-flat end (end-shaped g z) (holds .narrow)))
 
     module _ (reader : Reader) (m : List ℕ) (answer : accepted reader ≡ takenAll .answer) (array : m ≡ takenAll .loaded) where
       of-reading : (P : Reader → List ℕ → Type 0) → ((s : Reading) → readRecords (length b / 8) b unread ≡ accepted s → Read s → P (summary s) (loadedWords (s .table))) → P reader m
@@ -204,6 +205,6 @@ module _ (b : List ℕ) (bytes : Each (λ x. x < 256) b) {first : List ℕ} (zer
       pub end-needs : EndNeeds reader m
       end-needs = of-reading EndNeeds needs-read
 
-      pub end-loaded : (r : Load) → r ≡ endOf reader (safeAt m (reader .rules) (reader .defaulted)) →
+      pub end-loaded : (r : Load) → r ≡ endOf reader (safeAt m (reader .rules) (theMode (reader .mode))) →
           LoadedBy (readTable b) r m
       end-loaded r e = subst (λ x. LoadedBy (readTable b) x m) (sym e) (of-reading EndLoads loads-read)

@@ -1,8 +1,8 @@
--- Where a plain character is next, Definition 7 chooses the default or nothing.
+-- Where a plain character is next, Definition 7 chooses the default, a pair or nothing.
 -- Each rule has a position, and the first takes another character, so no rule fits.
-use mathlib.Core.Bool.{Bool, true, false, cond, true≢false}
+use mathlib.Core.Bool.{Bool, true, false, true≢false}
 use mathlib.Core.List.{List, _∷_}
-use mathlib.Core.Option.{none, some}
+use mathlib.Core.Option.{none}
 use mathlib.Core.Path.{_≡_, refl, sym, ap, _∙_}
 use Prim.Native.Nat.{ℕ, zero, suc, _+_, _*_, _≤_, _<_}
 use native.Mathlib.Nat.{add-zero}
@@ -15,10 +15,10 @@ use lib.Seq.{drop-cons, getD-set-same, getD-set-other}
 use Rattle.lists.specs.Lists.{tabFrom}
 use Rattle.lists.specs.Decide.{forBelow}
 use Rattle.lists.proofs.Laws.Tests.{to-T, of-not, below}
-use Rattle.meaning.specs.Table.{inRanges, defaultNumber}
+use Rattle.meaning.specs.Table.{inRanges, Mode}
 use Rattle.meaning.specs.Block.{at, blockSize}
 use Rattle.meaning.specs.Value.{fitsWord}
-use Rattle.meaning.specs.Meaning.{fits, choose}
+use Rattle.meaning.specs.Meaning.{fits, orDefault, choose}
 use Rattle.meaning.specs.bridge.Flat.{rangesAt, patternAt, groupAt, tableAt}
 use Rattle.meaning.proofs.Laws.Choosing.{KeptOf, kept-none, kept-skip, kept-choose}
 use Rattle.rules.specs.bridge.Plain.{passesBy, isPlain, Marked}
@@ -33,7 +33,7 @@ first-fails loaded g c rest h e = rw (word (at loaded (blockSize * g)) h) refl
     word zero h = absurd (omega arith)
     word (suc n) h = rw (add-zero (8 * g), e) refl
 
-module _ (loaded : List ℕ) (n : ℕ) (d : Bool) (positive : (g : ℕ) → g < n → 1 ≤ at loaded (blockSize * g)) (c : ℕ) (plain : isPlain loaded n c ≡ true) where
+module _ (loaded : List ℕ) (n : ℕ) (d : Mode) (positive : (g : ℕ) → g < n → 1 ≤ at loaded (blockSize * g)) (c : ℕ) (plain : isPlain loaded n c ≡ true) where
   rule-fails : (rest : List ℕ) (r : ℕ) → r < n → fits (groupAt loaded r) (c ∷ rest) ≡ false
   unfolding isPlain
   rule-fails rest r h =
@@ -47,15 +47,16 @@ module _ (loaded : List ℕ) (n : ℕ) (d : Bool) (positive : (g : ℕ) → g < 
       let i : r < n = omega arith in
       rw add-one at (kept-skip loaded n d (c ∷ rest) r n 9 i false (sym (rule-fails rest r i)) refl (none-kept rest r (omega arith)))
 
-  plain-chosen : (rest : List ℕ) → choose (tableAt loaded n d) (c ∷ rest) ≡ cond d (some defaultNumber) none
+  plain-chosen : (rest : List ℕ) → choose (tableAt loaded n d) (c ∷ rest) ≡ orDefault d (c ∷ rest) none
   plain-chosen rest = kept-choose loaded n d (c ∷ rest) n 9 (none-kept rest n (omega arith)) ∙ rw (le-ltb n n (omega arith)) refl
 
 -- the choice at place a of an input whose character there is marked
-pub marked-chosen : (loaded : List ℕ) (n : ℕ) (d : Bool) (u : List ℕ) (a : ℕ) (marks : List Bool) →
+pub marked-chosen : (loaded : List ℕ) (n : ℕ) (d : Mode) (u : List ℕ) (a : ℕ) (marks : List Bool) →
     ((g : ℕ) → g < n → 1 ≤ at loaded (blockSize * g)) → Marked loaded n marks → a < length u → getD marks (at u a) false ≡ true →
-    choose (tableAt loaded n d) (drop a u) ≡ cond d (some defaultNumber) none
+    choose (tableAt loaded n d) (drop a u) ≡ orDefault d (drop a u) none
 marked-chosen loaded n d u a marks positive right h e =
     ap (choose (tableAt loaded n d)) (drop-cons u a 0 h) ∙ plain-chosen loaded n d positive (at u a) (right (at u a) e) (drop (suc a) u)
+    ∙ ap (λ x. orDefault d x none) (sym (drop-cons u a 0 h))
 
 -- the marks at first, none, and after one more character's test
 

@@ -1,10 +1,10 @@
 -- A reading as the table check keeps it: a summary of its last group, and its table in one flat array.
 -- What holds of every reading on the way makes the two agree: `Admitted` shows that each record keeps it.
-use mathlib.Core.Bool.{Bool, false, not, _||_, true≢false}
+use mathlib.Core.Bool.{false, not, _||_, true≢false, cond}
 use mathlib.Core.List.{List, [], _∷_, _++_}
 use mathlib.Core.Option.{Option, none, some}
-use mathlib.Core.Path.{_≡_, refl, sym, ap₂, subst}
-use Prim.Native.Nat.{ℕ, _≤_}
+use mathlib.Core.Path.{_≡_, refl, sym, ap, ap₂, subst, _∙_}
+use Prim.Native.Nat.{ℕ, pred, _≤_}
 use native.Mathlib.Omega.{arith}
 use lib.Dec.{T, eqb, eqb→eq}
 use lib.IntN.{pos}
@@ -13,15 +13,20 @@ use Rattle.lists.specs.Lists.{Each, atLast, lastD, isSome, optional}
 use Rattle.lists.proofs.Laws.Tests.{of-T, of-not, or-cases}
 use Rattle.lists.proofs.Laws.Each.{each-append, each-front, each-back, each-weaken}
 use Rattle.lists.proofs.Laws.Last.{last-atLast}
-use Rattle.meaning.specs.Table.{sum, Group, Table, everyCharacter}
+use Rattle.meaning.specs.Table as Spec
+use Rattle.meaning.specs.Table.{sum, Group, Mark, unmarked, marked, Table, present, modeOf, mode, everyCharacter}
 use Rattle.meaning.specs.Reader.{Reading, unread, ranging, changeLatest}
-use Rattle.rules.specs.bridge.Summary.{Fitting}
+use Rattle.rules.specs.bridge.Modes.{theMode, keptMode}
+use Rattle.rules.specs.bridge.Summary.{defaulted, groupNumber, Fitting}
+use Rattle.rules.specs.declared.mode.Mode.{Mode}
+use Rattle.rules.specs.declared.mode.Mode.the-variants as Mode
 use Rattle.rules.specs.declared.reader.Reader.{Reader}
 use Rattle.rules.specs.declared.reader.Last.{Last}
 use Rattle.meaning.proofs.Laws.Reading.{Begun, Plain, Ended, KeptReading, top, atLast-length, last-each, unread-kept}
 use Rattle.meaning.proofs.Laws.Shape.{Within, IsSum}
 use Rattle.meaning.proofs.Laws.Narrow.{NarrowGroup, Narrow}
-use Rattle.meaning.proofs.Laws.Rows.{Grouped}
+use Rattle.meaning.proofs.Laws.Groups.{mode-present}
+use Rattle.meaning.proofs.Laws.Rows.{Grouped, numberOf}
 use Rattle.rules.proofs.Laws.Positions.{namedBy, named-fit}
 
 -- what is kept of a group
@@ -36,15 +41,28 @@ lastOf g =
       named = namedBy (lastD (sum (pos 0) []) (g .outputs));
     }
 
--- the last record's kind, the number of rules, whether there is a default, and the group read last
-abbrev pub summaryOf : ℕ → ℕ → Bool → Group → Reader
-summaryOf k n d g = record { kind = k; rules = n; defaulted = d; last = lastOf g }
+-- the last record's kind, the number of rules, the default's mode, and the group read last
+abbrev pub summaryOf : ℕ → ℕ → Mode → Group → Reader
+summaryOf k n d g = record { kind = k; rules = n; mode = d; last = lastOf g }
 
 abbrev pub latestOf : Table → Group
 latestOf t = top (t .rules) (t .default)
 
 abbrev pub summary : Reading → Reader
-summary s = summaryOf (s .kind) (length (s .table .rules)) (isSome (s .table .default)) (latestOf (s .table))
+summary s = summaryOf (s .kind) (length (s .table .rules)) (keptMode (mode (s .table))) (latestOf (s .table))
+
+-- its mode is the table's
+
+pub kept-mode : (m : Spec.Mode) → theMode (keptMode m) ≡ m
+kept-mode Spec.Absent = refl
+kept-mode Spec.Single = refl
+kept-mode Spec.Paired = refl
+
+pub summary-defaulted : (s : Reading) → defaulted (summary s) ≡ isSome (s .table .default)
+summary-defaulted s = ap present (kept-mode (mode (s .table))) ∙ mode-present (s .table .default) (s .table .mark)
+
+pub summary-number : (s : Reading) → groupNumber (summary s) ≡ numberOf (s .table .rules) (s .table .default)
+summary-number s = ap (λ b. cond b 32 (pred (length (s .table .rules)))) (summary-defaulted s)
 
 -- what holds of every reading on the way
 pub record Read (s : Reading) : Type 0 where
@@ -92,29 +110,30 @@ kind-there k m n t a b =
 -- and changed
 
 module _ (F : Group → Group) where
-  pub latest-changed : (rs : List Group) (d : Option Group) → Grouped rs d → latestOf (changeLatest F (record { rules = rs; default = d })) ≡ F (top rs d)
+  pub latest-changed : (rs : List Group) (d : Option Group) (m : Mark) → Grouped rs d → latestOf (changeLatest F (record { rules = rs; default = d; mark = m })) ≡ F (top rs d)
   unfolding changeLatest
-  latest-changed rs none h = last-atLast F (everyCharacter []) rs h
-  latest-changed rs (some g) h = refl
+  latest-changed rs none m h = last-atLast F (everyCharacter []) rs h
+  latest-changed rs (some g) m h = refl
 
-  pub grouped-changed : (rs : List Group) (d : Option Group) → Grouped rs d →
-      Grouped (changeLatest F (record { rules = rs; default = d }) .rules) (changeLatest F (record { rules = rs; default = d }) .default)
+  pub grouped-changed : (rs : List Group) (d : Option Group) (m : Mark) → Grouped rs d →
+      Grouped (changeLatest F (record { rules = rs; default = d; mark = m }) .rules) (changeLatest F (record { rules = rs; default = d; mark = m }) .default)
   unfolding changeLatest
-  grouped-changed rs none h = rw atLast-length h
-  grouped-changed rs (some g) h = tt
+  grouped-changed rs none m h = rw atLast-length h
+  grouped-changed rs (some g) m h = tt
 
   -- the summary with the last group changed
-  pub summary-changed : (k : ℕ) (rs : List Group) (d : Option Group) → Grouped rs d →
-      summary (record { table = changeLatest F (record { rules = rs; default = d }); kind = k }) ≡ summaryOf k (length rs) (isSome d) (F (top rs d))
+  pub summary-changed : (k : ℕ) (rs : List Group) (d : Option Group) (m : Mark) → Grouped rs d →
+      summary (record { table = changeLatest F (record { rules = rs; default = d; mark = m }); kind = k }) ≡ summaryOf k (length rs) (keptMode (modeOf d m)) (F (top rs d))
   unfolding changeLatest
-  summary-changed k rs none h = ap₂ (λ n g. summaryOf k n false g) (atLast-length F rs) (last-atLast F (everyCharacter []) rs h)
-  summary-changed k rs (some g) h = refl
+  summary-changed k rs none m h = ap₂ (λ n g. summaryOf k n Mode.Absent g) (atLast-length F rs) (last-atLast F (everyCharacter []) rs h)
+  summary-changed k rs (some g) unmarked h = refl
+  summary-changed k rs (some g) marked h = refl
 
-  pub narrow-changed : (rs : List Group) (d : Option Group) → (NarrowGroup (top rs d) → NarrowGroup (F (top rs d))) →
-      Narrow (record { rules = rs; default = d }) → Narrow (changeLatest F (record { rules = rs; default = d }))
+  pub narrow-changed : (rs : List Group) (d : Option Group) (m : Mark) → (NarrowGroup (top rs d) → NarrowGroup (F (top rs d))) →
+      Narrow (record { rules = rs; default = d; mark = m }) → Narrow (changeLatest F (record { rules = rs; default = d; mark = m }))
   unfolding changeLatest
-  narrow-changed rs none f a = each-append NarrowGroup (atLast F rs) [] (last-each NarrowGroup F (everyCharacter []) rs f (each-front NarrowGroup rs [] a)) tt
-  narrow-changed rs (some g) f a = each-append NarrowGroup rs (F g ∷ []) (each-front NarrowGroup rs (g ∷ []) a) (f (each-back NarrowGroup rs (g ∷ []) a .0), tt)
+  narrow-changed rs none m f a = each-append NarrowGroup (atLast F rs) [] (last-each NarrowGroup F (everyCharacter []) rs f (each-front NarrowGroup rs [] a)) tt
+  narrow-changed rs (some g) m f a = each-append NarrowGroup rs (F g ∷ []) (each-front NarrowGroup rs (g ∷ []) a) (f (each-back NarrowGroup rs (g ∷ []) a .0), tt)
 
 -- the summary's numbers are within their limits
 
@@ -134,8 +153,8 @@ read-fitting s h =
         outputs = b .outputs .0;
         named = named-fit (g .size) last small (each-last (Within (g .size)) (sum (pos 0) []) (g .outputs) (omega arith) (b .outputs .1));
       };
-      ranging = λ t. let e = without s h t in (there (s .table .rules) (s .table .default) (h .grouped (kind-there (s .kind) 1 2 t tt tt)) e, e);
-      grouped = λ t. there (s .table .rules) (s .table .default) (h .grouped t);
+      ranging = λ t. let e = without s h t in (there (s .table .rules) (s .table .default) (h .grouped (kind-there (s .kind) 1 2 t tt tt)) e, summary-defaulted s ∙ e);
+      grouped = λ t e. there (s .table .rules) (s .table .default) (h .grouped t) (sym (summary-defaulted s) ∙ e);
       writing = λ t. h .writing t .0;
     }
   where

@@ -4,7 +4,7 @@ use mathlib.Core.Bool.{Bool, true, false, _&&_, _||_, not, true≢false}
 use mathlib.Core.List.{List}
 use mathlib.Core.Logic.{_≢_}
 use mathlib.Core.Option.{Option, none, some}
-use mathlib.Core.Path.{_≡_, refl, sym, ap, subst}
+use mathlib.Core.Path.{_≡_, refl, sym, ap, subst, _∙_}
 use Prim.Native.Nat.{ℕ, pred, _+_, _≤_, _<_}
 use native.Mathlib.Omega.{arith}
 use borrow.Author.Tests.{eqb-false, eq-eqb}
@@ -12,8 +12,10 @@ use lib.Dec.{T, T-not, eqb, leb, ltb, nleb→lt, nltb→le, eqb→eq}
 use lib.ListN.{length, length-set}
 use Rattle.lists.proofs.Laws.Tests.{of-not, not-not, or-none, or-cases, of-cond, by-cases, neqb→ne}
 use Rattle.meaning.specs.Refusal.{Outcome, refused, accepted}
+use Rattle.meaning.specs.Table.{Mark, unmarked, marked, present}
 use Rattle.meaning.specs.Record.{Record, rule, range, output, term, default, hexadecimal}
-use Rattle.rules.specs.bridge.Summary.{everyLast, started, rangesRead, isNamed, admit, groupNumber, slotNumber, summedTo, loadedBy, afterwards, ifTaken, FittingLast, Fitting}
+use Rattle.rules.specs.bridge.Modes.{theMode, markedMode}
+use Rattle.rules.specs.bridge.Summary.{defaulted, everyLast, started, rangesRead, isNamed, admit, groupNumber, slotNumber, summedTo, loadedBy, afterwards, ifTaken, FittingLast, Fitting}
 use Rattle.rules.specs.declared.reader.Reader.{Reader}
 use Rattle.rules.proofs.Laws.Positions.{named-more}
 
@@ -36,7 +38,7 @@ loadedBy-length r (range p c) l = simp length-set
 loadedBy-length r (output c) l = simp length-set
 loadedBy-length r (term p a) l = simp length-set
 loadedBy-length r (hexadecimal p shift) l = simp length-set
-loadedBy-length r default l = simp length-set
+loadedBy-length r (default k) l = simp length-set
 
 pub ifTaken-length : (r : Reader) (x : Option Record) (l : List ℕ) → length (ifTaken r x l) ≡ length l
 ifTaken-length r none l = refl
@@ -121,7 +123,12 @@ digit-comes r p h =
     let u = or-none (eqb (r .kind) 0) (leb (r .last .size) p) h in record { begun = u .0; inside = nleb→lt (r .last .size) p (u .1) }
 
 pub group-below : (r : Reader) → r .rules ≤ 32 → groupNumber r < 33
-group-below r n = of-cond (λ k. k < 33) (r .defaulted) 32 (pred (r .rules)) (λ _. omega arith) (λ _. omega arith)
+group-below r n = of-cond (λ k. k < 33) (defaulted r) 32 (pred (r .rules)) (λ _. omega arith) (λ _. omega arith)
+
+-- a default record makes a default
+pub marked-there : (k : Mark) → present (theMode (markedMode k)) ≡ true
+marked-there unmarked = refl
+marked-there marked = refl
 
 -- the limits
 
@@ -130,7 +137,7 @@ SmallRecord (rule k a) = k ≤ 8
 SmallRecord (range p c) = Unit {0}
 SmallRecord (output c) = Unit {0}
 SmallRecord (term p a) = Unit {0}
-SmallRecord default = Unit {0}
+SmallRecord (default k) = Unit {0}
 SmallRecord (hexadecimal p shift) = Unit {0}
 
 every-fitting : FittingLast everyLast
@@ -229,7 +236,7 @@ admit-fit r (term p a) f s =
             writing = λ _. f .writing (comes .writing);
           },
     )
-admit-fit r default f s =
+admit-fit r (default k) f s =
     by-cases Fit _ _ (
       λ _. tt,
       λ d. (
@@ -239,7 +246,7 @@ admit-fit r default f s =
               rules = f .rules;
               last = every-fitting;
               ranging = λ t. absurd t;
-              grouped = λ _ e. absurd (true≢false e);
+              grouped = λ _ e. absurd (true≢false (sym (marked-there k) ∙ e));
               writing = λ t. absurd t;
             },
       ),

@@ -8,12 +8,13 @@ use native.Mathlib.Omega.{arith}
 use lib.Dec.{T, eqb}
 use lib.IntN.{pos}
 use lib.ListN.{length, length-append}
-use Rattle.lists.specs.Lists.{Each, pad, lastD, isSome}
+use Rattle.lists.specs.Lists.{Each, pad, lastD}
 use Rattle.lists.proofs.Laws.Each.{each-append}
 use Rattle.lists.proofs.Laws.Last.{lastD-snoc}
-use Rattle.meaning.specs.Table.{Output, sum}
+use Rattle.meaning.specs.Table.{Output, sum, mode}
 use Rattle.meaning.specs.Reader.{Reading, changeLatest, changeOutputs, addOutput}
 use Rattle.meaning.specs.Block.{block, blockSize, blocksSize}
+use Rattle.rules.specs.bridge.Modes.{keptMode}
 use Rattle.rules.specs.bridge.Summary.{summedTo}
 use Rattle.meaning.specs.bridge.Flat.{slotWords, rangeWords, blockWords, highWords, loadedWords, highsFrom}
 use Rattle.meaning.proofs.Laws.Shape.{IsSum}
@@ -23,7 +24,7 @@ use Rattle.meaning.proofs.Laws.Rows.{Grouped, numberOf, rows-latest, stores, sh
 use Rattle.meaning.proofs.Laws.Loaded.{table-sized, sized-stores, stores-block, stores-high, joined-same}
 use Rattle.meaning.proofs.Laws.Stored.{slotRow, rangeRow, highRow}
 use Rattle.rules.proofs.Laws.Positions.{namedBy}
-use Rattle.rules.proofs.Laws.Represents.{summaryOf, latestOf, summary, Read, latest-changed, grouped-changed, summary-changed, narrow-changed}
+use Rattle.rules.proofs.Laws.Represents.{summaryOf, latestOf, summary, summary-number, Read, latest-changed, grouped-changed, summary-changed, narrow-changed}
 use Rattle.rules.proofs.Laws.Stepping.{group-below}
 
 module _ (s : Reading) (h : Read s) (grouped : Grouped (s .table .rules) (s .table .default)) where
@@ -38,18 +39,19 @@ module _ (s : Reading) (h : Read s) (grouped : Grouped (s .table .rules) (s .tab
   outputs-stored f bs hs inside within stored halves =
       let rs = s .table .rules in
       let d = s .table .default in
+      let m = s .table .mark in
       let F = changeOutputs f in
       let n = numberOf rs d in
-      let below : n < 33 = group-below (summary s) (h .kept .few) in
+      let below : n < 33 = subst (λ k. k < 33) (summary-number s) (group-below (summary s) (h .kept .few)) in
       let sized = table-sized (s .table) in
       ap (λ l. stores l (shift (highsFrom + 8 * n) hs))
       (stores-block sized (shift (blockSize * n) bs) (each-shift (blockSize * n) blockSize blocksSize bs (omega arith) inside))
       ∙ stores-high (sized-stores sized (shift (blockSize * n) bs)) (8 * n) hs
       ∙ joined-same
-      (sym (rows-latest blockSize block bs inside rs d F (h .kept .few) grouped stored))
-      (sym (rows-latest 8 slotRow [] tt rs d F (h .kept .few) grouped refl))
-      (sym (rows-latest 64 rangeRow [] tt rs d F (h .kept .few) grouped refl))
-      (sym (rows-latest 8 highRow hs within rs d F (h .kept .few) grouped halves))
+      (sym (rows-latest blockSize block bs inside rs d m F (h .kept .few) grouped stored))
+      (sym (rows-latest 8 slotRow [] tt rs d m F (h .kept .few) grouped refl))
+      (sym (rows-latest 64 rangeRow [] tt rs d m F (h .kept .few) grouped refl))
+      (sym (rows-latest 8 highRow hs within rs d m F (h .kept .few) grouped halves))
 
   -- one more output character
   module _ (o : Output) (kind : ℕ) where
@@ -63,9 +65,9 @@ module _ (s : Reading) (h : Read s) (grouped : Grouped (s .table .rules) (s .tab
         let F = changeOutputs (λ os. os ++ (o ∷ [])) in
         let outputs : length os + 1 ≡ length (os ++ (o ∷ [])) = sym (length-append os (o ∷ [])) in
         let none : 0 ≡ namedBy (lastD (sum (pos 0) []) (os ++ (o ∷ []))) = sym (ap namedBy (lastD-snoc (sum (pos 0) []) os o) ∙ bare) in
-        let same : summedTo (summary s) kind (length os + 1) 0 ≡ summaryOf kind (length (s .table .rules)) (isSome (s .table .default)) (F g) =
+        let same : summedTo (summary s) kind (length os + 1) 0 ≡ summaryOf kind (length (s .table .rules)) (keptMode (mode (s .table))) (F g) =
         ap₂ (summedTo (summary s) kind) outputs none in
-        same ∙ sym (summary-changed F kind (s .table .rules) (s .table .default) grouped)
+        same ∙ sym (summary-changed F kind (s .table .rules) (s .table .default) (s .table .mark) grouped)
 
     pub added-read : KeptReading added → NarrowOutput o → (T (eqb kind 3 || eqb kind 4) → IsSum o) → Read added
     added-read kept narrow is-sum =
@@ -73,11 +75,11 @@ module _ (s : Reading) (h : Read s) (grouped : Grouped (s .table .rules) (s .tab
         let rs = s .table .rules in
         let d = s .table .default in
         let F = changeOutputs (λ os. os ++ (o ∷ [])) in
-        let after = sym (latest-changed F rs d grouped) in
+        let after = sym (latest-changed F rs d (s .table .mark) grouped) in
         record {
           kept = kept;
-          narrow = narrow-changed F rs d (λ a. record { few = a .few; narrow = each-append NarrowOutput os (o ∷ []) (a .narrow) (narrow, tt) }) (h .narrow);
-          grouped = λ _. grouped-changed F rs d grouped;
+          narrow = narrow-changed F rs d (s .table .mark) (λ a. record { few = a .few; narrow = each-append NarrowOutput os (o ∷ []) (a .narrow) (narrow, tt) }) (h .narrow);
+          grouped = λ _. grouped-changed F rs d (s .table .mark) grouped;
           writing = λ t. (
             subst (λ q. 1 ≤ length (q .outputs)) after (rw length-append (omega arith)),
             subst (λ q. IsSum (lastD (sum (pos 0) []) (q .outputs))) after (subst IsSum (sym (lastD-snoc (sum (pos 0) []) os o)) (is-sum t)),

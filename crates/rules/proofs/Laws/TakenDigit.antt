@@ -3,7 +3,7 @@
 use mathlib.Core.Bool.{not}
 use mathlib.Core.List.{[], _∷_, _++_}
 use mathlib.Core.Logic.{_≢_}
-use mathlib.Core.Path.{_≡_, refl, _∙_}
+use mathlib.Core.Path.{_≡_, ap, refl, _∙_}
 use Prim.Native.Nat.{ℕ, _+_, _*_, _≤_, _<_}
 use native.Mathlib.Omega.{arith}
 use lib.Dec.{T, eqb, leb}
@@ -13,12 +13,12 @@ use Rattle.meaning.specs.Table.{digit}
 use Rattle.meaning.specs.Record.{hexadecimal}
 use Rattle.meaning.specs.Reader.{Reading, latest, misplaced, skipping, tooMany, taken}
 use Rattle.meaning.specs.Block.{blockSize, entrySize}
-use Rattle.rules.specs.bridge.Summary.{loadedBy}
+use Rattle.rules.specs.bridge.Summary.{digitPut, loadedBy}
 use Rattle.meaning.specs.bridge.Flat.{loadedWords}
 use Rattle.meaning.proofs.Laws.Reading.{taken-kept}
 use Rattle.meaning.proofs.Laws.Rows.{Grouped, numberOf}
 use Rattle.meaning.proofs.Laws.Stored.{block-digit, highRow-digit}
-use Rattle.rules.proofs.Laws.Represents.{latestOf, summary, Read, latest-begun}
+use Rattle.rules.proofs.Laws.Represents.{latestOf, summary, summary-number, Read, latest-begun}
 use Rattle.meaning.proofs.Laws.Decoding.{FittingRecord}
 use Rattle.rules.proofs.Laws.Taken.{Taken}
 use Rattle.rules.proofs.Laws.TakenAdded.{outputs-stored, added-summary, added-read}
@@ -35,7 +35,8 @@ module _ (s : Reading) (p shift : ℕ) (h : Read s) where
       let sort : from ≡ blockSize * n + (3 + entrySize * o) = omega arith in
       let constant : from + 1 ≡ blockSize * n + (4 + entrySize * o) = omega arith in
       let coefficient : from + 2 + p ≡ blockSize * n + (5 + entrySize * o + p) = omega arith in
-      (λ i. set (set (set (set (loadedWords (s .table)) (blockSize * n + 2) (o + 1)) (sort i) 1) (constant i) shift) (coefficient i) 1)
+      ap (λ k. digitPut k o p shift (loadedWords (s .table))) (summary-number s)
+      ∙ (λ i. set (set (set (set (loadedWords (s .table)) (blockSize * n + 2) (o + 1)) (sort i) 1) (constant i) shift) (coefficient i) 1)
       ∙ outputs-stored s h grouped (λ os. os ++ (digit p shift ∷ []))
       ((2, o + 1) ∷ (3 + entrySize * o, 1) ∷ (4 + entrySize * o, shift) ∷ (5 + entrySize * o + p, 1) ∷ []) []
       (omega arith, (omega arith, (omega arith, (omega arith, tt)))) tt (block-digit p shift g inside less) (highRow-digit p shift g)

@@ -3,7 +3,7 @@
 use mathlib.Core.Bool.{not}
 use mathlib.Core.List.{[], _∷_, _++_}
 use mathlib.Core.Logic.{_≢_}
-use mathlib.Core.Path.{_≡_, refl, sym, _∙_}
+use mathlib.Core.Path.{_≡_, refl, sym, ap, _∙_}
 use Prim.Native.Nat.{ℕ, _+_, _*_, _^_, _≤_, _<_, _%_, _/_}
 use native.Mathlib.Nat.{add-assoc}
 use native.Mathlib.Omega.{arith}
@@ -14,14 +14,14 @@ use Rattle.meaning.specs.Table.{sum}
 use Rattle.meaning.specs.Record.{output}
 use Rattle.meaning.specs.Reader.{signed, Reading, latest, misplaced, skipping, tooMany, taken}
 use Rattle.meaning.specs.Block.{word, blockSize, entrySize}
-use Rattle.rules.specs.bridge.Summary.{loadedBy}
+use Rattle.rules.specs.bridge.Summary.{outputPut, loadedBy}
 use Rattle.meaning.specs.bridge.Flat.{highOf, loadedWords, highsFrom}
 use Rattle.meaning.proofs.Laws.Reading.{taken-kept}
 use Rattle.meaning.proofs.Laws.Narrow.{Bits}
 use Rattle.meaning.proofs.Laws.Numbers.{word-constant, high-signed}
 use Rattle.meaning.proofs.Laws.Rows.{Grouped, numberOf}
 use Rattle.meaning.proofs.Laws.Stored.{block-output, highRow-added}
-use Rattle.rules.proofs.Laws.Represents.{latestOf, summary, Read, latest-begun}
+use Rattle.rules.proofs.Laws.Represents.{latestOf, summary, summary-number, Read, latest-begun}
 use Rattle.rules.proofs.Laws.Taken.{Taken}
 use Rattle.rules.proofs.Laws.TakenAdded.{outputs-stored, added-summary, added-read}
 
@@ -37,7 +37,8 @@ module _ (s : Reading) (c : ℕ) (h : Read s) where
       let place : blockSize * n + 4 + entrySize * o ≡ blockSize * n + (4 + entrySize * o) = add-assoc (blockSize * n) 4 (entrySize * o) in
       let low : c % 65536 ≡ word z = sym (word-constant c fits) in
       let high : c / 65536 ≡ highOf (sum z []) = sym (high-signed c fits) in
-      (λ i. set (set (set (loadedWords (s .table)) (blockSize * n + 2) (o + 1)) (place i) (low i)) (highsFrom + 8 * n + o) (high i))
+      ap (λ k. outputPut k o c (loadedWords (s .table))) (summary-number s)
+      ∙ (λ i. set (set (set (loadedWords (s .table)) (blockSize * n + 2) (o + 1)) (place i) (low i)) (highsFrom + 8 * n + o) (high i))
       ∙ outputs-stored s h grouped (λ os. os ++ (sum z [] ∷ [])) ((2, o + 1) ∷ (4 + entrySize * o, word z) ∷ []) ((o, highOf (sum z [])) ∷ [])
       (omega arith, (omega arith, tt)) (less, tt) (block-output z g less) (highRow-added (sum z []) g less)
 

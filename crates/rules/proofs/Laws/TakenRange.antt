@@ -8,14 +8,15 @@ use Prim.Native.Nat.{ℕ, suc, _+_, _*_, _≤_, _<_}
 use native.Mathlib.Omega.{arith}
 use lib.Dec.{T, eqb, leb, ltb, eqb-refl, nleb→lt, nltb→le}
 use lib.ListN.{length, set, length-append}
-use Rattle.lists.specs.Lists.{Each, atLast, lastD, isSome}
+use Rattle.lists.specs.Lists.{Each, atLast, lastD}
 use Rattle.lists.proofs.Laws.Tests.{not-not, or-none, either, neqb→ne}
 use Rattle.lists.proofs.Laws.Each.{each-append}
 use Rattle.lists.proofs.Laws.Last.{lastD-snoc}
-use Rattle.meaning.specs.Table.{Range, Group}
+use Rattle.meaning.specs.Table.{Range, Group, mode}
 use Rattle.meaning.specs.Record.{range}
 use Rattle.meaning.specs.Reader.{Reading, latest, ranging, misplaced, skipping, tooMany, addRange, changeRanges, taken}
 use Rattle.meaning.specs.Block.{block, blockSize}
+use Rattle.rules.specs.bridge.Modes.{keptMode}
 use Rattle.rules.specs.bridge.Summary.{slotNumber, rangedTo, next, rangePut, loadedBy}
 use Rattle.meaning.specs.bridge.Flat.{slotWords, rangeWords, blockWords, highWords, loadedWords, slotsFrom, rangesFrom}
 use Rattle.meaning.proofs.Laws.Reading.{taken-kept, last-each}
@@ -23,7 +24,7 @@ use Rattle.meaning.proofs.Laws.Narrow.{NarrowGroup}
 use Rattle.meaning.proofs.Laws.Rows.{Grouped, numberOf, rows-latest}
 use Rattle.meaning.proofs.Laws.Loaded.{table-sized, sized-slot, sized-range, set-slot, set-range, joined-same}
 use Rattle.meaning.proofs.Laws.Stored.{slotRow, rangeRow, highRow, earlier, length-earlier, addRange-last, addRange-length, here, slotRow-range, rangeRow-range}
-use Rattle.rules.proofs.Laws.Represents.{summaryOf, latestOf, summary, Read, each-last, latest-narrow, latest-begun, kind-there, grouped-changed, summary-changed, narrow-changed}
+use Rattle.rules.proofs.Laws.Represents.{summaryOf, latestOf, summary, summary-number, Read, each-last, latest-narrow, latest-begun, kind-there, grouped-changed, summary-changed, narrow-changed}
 use Rattle.meaning.proofs.Laws.Decoding.{FittingRecord}
 use Rattle.rules.proofs.Laws.Stepping.{group-below}
 use Rattle.rules.proofs.Laws.Taken.{Taken}
@@ -82,9 +83,9 @@ module _ (s : Reading) (p : ℕ) (r : Range) (h : Read s) where
       let nowhere : Range = record { lowest = 0; highest = 0 } in
       let highest : r .highest ≡ lastD nowhere (lastD [] (addRange p r ps)) .highest =
       sym (ap (λ (l : List Range). lastD nowhere l .highest) end ∙ ap (λ (q : Range). q .highest) (lastD-snoc nowhere (earlier p ps) r)) in
-      let same : next (summary s) (range p r) ≡ summaryOf 2 (length (s .table .rules)) (isSome (s .table .default)) (changeRanges (addRange p r) g) =
+      let same : next (summary s) (range p r) ≡ summaryOf 2 (length (s .table .rules)) (keptMode (mode (s .table))) (changeRanges (addRange p r) g) =
       λ i. rangedTo (summary s) (positions i) (slots i) (highest i) in
-      same ∙ sym (summary-changed (changeRanges (addRange p r)) 2 (s .table .rules) (s .table .default) grouped)
+      same ∙ sym (summary-changed (changeRanges (addRange p r)) 2 (s .table .rules) (s .table .default) (s .table .mark) grouped)
 
   range-loaded : Grouped (s .table .rules) (s .table .default) → p ≤ length (latestOf (s .table) .ranges) → length (latestOf (s .table) .ranges) ≤ suc p → p < 8 →
       length (earlier p (latestOf (s .table) .ranges)) < 4 → loadedBy (summary s) (range p r) (loadedWords (s .table)) ≡ loadedWords (taken s (range p r) .table)
@@ -97,22 +98,23 @@ module _ (s : Reading) (p : ℕ) (r : Range) (h : Read s) where
       let F = changeRanges (addRange p r) in
       let e = length (earlier p ps) in
       let n = numberOf rs d in
-      let below : n < 33 = group-below (summary s) (h .kept .few) in
+      let below : n < 33 = subst (λ k. k < 33) (summary-number s) (group-below (summary s) (h .kept .few)) in
       let count : slotNumber (summary s) p ≡ e = sym (length-earlier p ps) in
       let sized = table-sized (s .table) in
       let place = slotsFrom + 8 * n + p in
       let i = rangesFrom + 64 * n + 8 * p + 2 * e in
       let j = 64 * n + (8 * p + 2 * e) in
-      ap (λ k. rangePut n p k (r .lowest) (r .highest) (loadedWords (s .table))) count
+      ap (λ k. rangePut k p (slotNumber (summary s) p) (r .lowest) (r .highest) (loadedWords (s .table))) (summary-number s)
+      ∙ ap (λ k. rangePut n p k (r .lowest) (r .highest) (loadedWords (s .table))) count
       ∙ ap (λ l. set (set l i (r .lowest)) (i + 1) (r .highest)) (set-slot sized place (8 * n + p) (e + 1) (omega arith) (omega arith))
       ∙ ap (λ l. set l (i + 1) (r .highest)) (set-range (sized-slot sized (8 * n + p) (e + 1)) i j (r .lowest) (omega arith) (omega arith))
       ∙ set-range (sized-range (sized-slot sized (8 * n + p) (e + 1)) j (r .lowest)) (i + 1) (64 * n + (8 * p + (2 * e + 1))) (r .highest) (omega arith) (omega arith)
       ∙ joined-same
-      (sym (rows-latest blockSize block [] tt rs d F (h .kept .few) grouped refl))
-      (sym (rows-latest 8 slotRow ((p, e + 1) ∷ []) (inside, tt) rs d F (h .kept .few) grouped (slotRow-range p r g low high inside)))
-      (sym (rows-latest 64 rangeRow ((8 * p + 2 * e, r .lowest) ∷ (8 * p + (2 * e + 1), r .highest) ∷ []) (omega arith, (omega arith, tt)) rs d F (h .kept .few) grouped
+      (sym (rows-latest blockSize block [] tt rs d (s .table .mark) F (h .kept .few) grouped refl))
+      (sym (rows-latest 8 slotRow ((p, e + 1) ∷ []) (inside, tt) rs d (s .table .mark) F (h .kept .few) grouped (slotRow-range p r g low high inside)))
+      (sym (rows-latest 64 rangeRow ((8 * p + 2 * e, r .lowest) ∷ (8 * p + (2 * e + 1), r .highest) ∷ []) (omega arith, (omega arith, tt)) rs d (s .table .mark) F (h .kept .few) grouped
       (rangeRow-range p r g low high inside less)))
-      (sym (rows-latest 8 highRow [] tt rs d F (h .kept .few) grouped refl))
+      (sym (rows-latest 8 highRow [] tt rs d (s .table .mark) F (h .kept .few) grouped refl))
 
   pub range-taken : FittingRecord (range p r) → T (not (misplaced s (range p r))) → T (not (skipping s (range p r))) → T (not (tooMany s (range p r))) → Taken s (range p r)
   unfolding taken skipping tooMany latest
@@ -130,8 +132,8 @@ module _ (s : Reading) (p : ℕ) (r : Range) (h : Read s) where
         range-loaded grouped low (t .2) (omega arith) less,
         record {
           kept = taken-kept s (range p r) (f .1) m n o (h .kept);
-          narrow = narrow-changed F (s .table .rules) (s .table .default) (range-narrow p r g low (t .2) less) (h .narrow);
-          grouped = λ _. grouped-changed F (s .table .rules) (s .table .default) grouped;
+          narrow = narrow-changed F (s .table .rules) (s .table .default) (s .table .mark) (range-narrow p r g low (t .2) less) (h .narrow);
+          grouped = λ _. grouped-changed F (s .table .rules) (s .table .default) (s .table .mark) grouped;
           writing = λ t. absurd t;
         },
       )

@@ -9,14 +9,15 @@ use native.Mathlib.Omega.{arith}
 use lib.Dec.{T, eqb, leb, nleb→lt}
 use lib.IntN.{pos, natAbs}
 use lib.ListN.{length, set}
-use Rattle.lists.specs.Lists.{pad, atLast, lastD, isSome}
+use Rattle.lists.specs.Lists.{pad, atLast, lastD}
 use Rattle.lists.proofs.Laws.Tests.{not-not, or-none}
 use Rattle.lists.proofs.Laws.Each.{each-atLast}
 use Rattle.lists.proofs.Laws.Last.{last-atLast}
-use Rattle.meaning.specs.Table.{Output, sum, digit}
+use Rattle.meaning.specs.Table.{Output, sum, digit, mode}
 use Rattle.meaning.specs.Record.{term}
 use Rattle.meaning.specs.Reader.{signed, Reading, latest, coefficientAt, repeated, misplaced, skipping, tooMany, addTerm, changeOutputs, taken}
 use Rattle.meaning.specs.Block.{word, blockSize, entrySize}
+use Rattle.rules.specs.bridge.Modes.{keptMode}
 use Rattle.rules.specs.bridge.Summary.{summedTo, next, loadedBy}
 use Rattle.meaning.specs.bridge.Flat.{loadedWords}
 use Rattle.meaning.proofs.Laws.Shape.{IsSum}
@@ -29,7 +30,7 @@ use Rattle.meaning.proofs.Laws.Numbers.{word-signed}
 use Rattle.meaning.proofs.Laws.Rows.{Grouped, numberOf}
 use Rattle.meaning.proofs.Laws.Stored.{block-term, highRow-term}
 use Rattle.rules.proofs.Laws.Positions.{namedBy, named-term}
-use Rattle.rules.proofs.Laws.Represents.{summaryOf, latestOf, summary, Read, latest-begun, kind-there, latest-changed, grouped-changed, summary-changed, narrow-changed}
+use Rattle.rules.proofs.Laws.Represents.{summaryOf, latestOf, summary, summary-number, Read, latest-begun, kind-there, latest-changed, grouped-changed, summary-changed, narrow-changed}
 use Rattle.meaning.proofs.Laws.Decoding.{FittingRecord}
 use Rattle.rules.proofs.Laws.Taken.{Taken}
 use Rattle.rules.proofs.Laws.TakenAdded.{outputs-stored}
@@ -70,9 +71,9 @@ module _ (s : Reading) (p a : ℕ) (h : Read s) where
       let outputs : length os ≡ length (atLast (addTerm p z) os) = sym (atLast-length (addTerm p z) os) in
       let named : namedBy last + 2 ^ p ≡ namedBy (lastD (sum (pos 0) []) (atLast (addTerm p z) os)) =
       sym (ap namedBy (last-atLast (addTerm p z) (sum (pos 0) []) os some-output) ∙ named-term p z last is-sum not-none new) in
-      let same : next (summary s) (term p a) ≡ summaryOf 4 (length (s .table .rules)) (isSome (s .table .default)) (F g) =
+      let same : next (summary s) (term p a) ≡ summaryOf 4 (length (s .table .rules)) (keptMode (mode (s .table))) (F g) =
       ap₂ (summedTo (summary s) 4) outputs named in
-      same ∙ sym (summary-changed F 4 (s .table .rules) (s .table .default) grouped)
+      same ∙ sym (summary-changed F 4 (s .table .rules) (s .table .default) (s .table .mark) grouped)
 
   term-loaded : Grouped (s .table .rules) (s .table .default) → p < 8 → 1 ≤ length (latestOf (s .table) .outputs) → length (latestOf (s .table) .outputs) ≤ 8 →
       IsSum last → a < 65536 → loadedBy (summary s) (term p a) (loadedWords (s .table)) ≡ loadedWords (taken s (term p a) .table)
@@ -83,7 +84,8 @@ module _ (s : Reading) (p a : ℕ) (h : Read s) where
       let o = length (g .outputs) in
       let n = numberOf (s .table .rules) (s .table .default) in
       let place : blockSize * n + 5 + entrySize * pred o + p ≡ blockSize * n + (5 + entrySize * pred o + p) = omega arith in
-      ap₂ (set (loadedWords (s .table))) place (sym (word-signed a fits))
+      ap (λ k. set (loadedWords (s .table)) (blockSize * k + 5 + entrySize * pred o + p) a) (summary-number s)
+      ∙ ap₂ (set (loadedWords (s .table))) place (sym (word-signed a fits))
       ∙ outputs-stored s h grouped (atLast (addTerm p z)) ((5 + entrySize * pred o + p, word z) ∷ []) [] (omega arith, tt) tt
       (block-term p z g inside some-output most is-sum) (ap (pad 8) (highRow-term p z (g .outputs)))
 
@@ -98,13 +100,13 @@ module _ (s : Reading) (p a : ℕ) (h : Read s) where
       let grouped = h .grouped (kind-there (s .kind) 3 4 (t .0) tt tt) in
       let some-output : 1 ≤ length (g .outputs) = h .writing (t .0) .0 in
       let is-sum : IsSum last = h .writing (t .0) .1 in
-      let after = sym (latest-changed F rs d grouped) in (
+      let after = sym (latest-changed F rs d (s .table .mark) grouped) in (
         term-summary grouped some-output is-sum (t .2) (signed-named 16 half-16 a (f .2) (f .1)),
         term-loaded grouped (omega arith) some-output (latest-begun s h .outputs .0) is-sum (f .2),
         record {
           kept = taken-kept s (term p a) tt m n o (h .kept);
-          narrow = narrow-changed F rs d (λ b. record { few = b .few; narrow = each-atLast NarrowOutput (addTerm p (signed 16 a)) (g .outputs) (λ q. term-narrow p a q (f .2)) (b .narrow) }) (h .narrow);
-          grouped = λ _. grouped-changed F rs d grouped;
+          narrow = narrow-changed F rs d (s .table .mark) (λ b. record { few = b .few; narrow = each-atLast NarrowOutput (addTerm p (signed 16 a)) (g .outputs) (λ q. term-narrow p a q (f .2)) (b .narrow) }) (h .narrow);
+          grouped = λ _. grouped-changed F rs d (s .table .mark) grouped;
           writing = λ _. (
             subst (λ q. 1 ≤ length (q .outputs)) after (rw atLast-length some-output),
             subst (λ q. IsSum (lastD (sum (pos 0) []) (q .outputs))) after

@@ -6,12 +6,12 @@ use mathlib.Core.Path.{_≡_}
 use Prim.Native.Nat.{ℕ}
 use lib.Dec.{eqb}
 use lib.ListN.{length}
-use Rattle.lists.specs.Lists.{isSome}
 use Rattle.lists.specs.Decide.{select}
 use Rattle.meaning.specs.Refusal.{Outcome, refused, accepted}
 use Rattle.meaning.specs.Record as Spec
-use Rattle.meaning.specs.Table.{Table}
+use Rattle.meaning.specs.Table.{Table, mode}
 use Rattle.meaning.specs.bridge.Flat.{loadedWords}
+use Rattle.rules.specs.bridge.Modes.{keptMode}
 use Rattle.rules.specs.bridge.Summary.{gap}
 use Rattle.rules.specs.declared.record.Record.{Record}
 use Rattle.rules.specs.declared.record.Record.the-variants.{Rule, Range, Output, Term, Default, Hexadecimal, Bad}
@@ -28,7 +28,7 @@ recordOf (Rule size anchored) = some (Spec.rule size anchored)
 recordOf (Range position lowest highest) = some (Spec.range position (record { lowest = lowest; highest = highest }))
 recordOf (Output constant) = some (Spec.output constant)
 recordOf (Term position coefficient) = some (Spec.term position coefficient)
-recordOf Default = some Spec.default
+recordOf (Default marked) = some (Spec.default (Spec.markOf marked))
 recordOf (Hexadecimal position shift) = some (Spec.hexadecimal position shift)
 recordOf Bad = none
 
@@ -44,9 +44,9 @@ choiceOf Choice.Nothing = none
 -- the refusals of a table's end, of a table that passes refusal 7's test or not
 abbrev pub endOf : Reader → Bool → Load
 endOf r safe =
-    select ((gap r, Load.Refused 4) ∷ (eqb (r .rules) 0, Load.Refused 5) ∷ (not safe, Load.Refused 7) ∷ []) (Load.Accepted (r .rules) (r .defaulted))
+    select ((gap r, Load.Refused 4) ∷ (eqb (r .rules) 0, Load.Refused 5) ∷ (not safe, Load.Refused 7) ∷ []) (Load.Accepted (r .rules) (r .mode))
 
 -- the check's answer, and where the table is accepted its array: a function of the table
 abbrev pub LoadedBy : Outcome Table → Load → List ℕ → Type 0
 LoadedBy (refused n) r loaded = r ≡ Load.Refused n
-LoadedBy (accepted t) r loaded = (r ≡ Load.Accepted (length (t .rules)) (isSome (t .default))) × (loaded ≡ loadedWords t)
+LoadedBy (accepted t) r loaded = (r ≡ Load.Accepted (length (t .rules)) (keptMode (mode t))) × (loaded ≡ loadedWords t)

@@ -8,10 +8,12 @@ use lib.Dec.{T, eqb, leb, ltb}
 use lib.ListN.{take, drop, set}
 use Rattle.lists.specs.Decide.{select}
 use Rattle.meaning.specs.Refusal.{Outcome, refused, accepted}
-use Rattle.meaning.specs.Table.{defaultNumber}
+use Rattle.meaning.specs.Table.{present, defaultNumber}
 use Rattle.meaning.specs.Block.{bit, blockSize, entrySize}
 use Rattle.meaning.specs.Record.{Record, rule, range, output, term, default, hexadecimal, decode}
 use Rattle.meaning.specs.bridge.Flat.{slotsFrom, rangesFrom, highsFrom}
+use Rattle.rules.specs.bridge.Modes.{theMode, markedMode}
+use Rattle.rules.specs.declared.mode.Mode.the-variants as Mode
 use Rattle.rules.specs.declared.reader.Reader.{Reader}
 use Rattle.rules.specs.declared.reader.Last.{Last}
 
@@ -24,7 +26,11 @@ begun k = record { size = k; positions = 0; slots = 0; highest = 0; outputs = 0;
 
 -- nothing read yet; what is said of the last group is said of one that takes every character
 abbrev pub started : Reader
-started = record { kind = 0; rules = 0; defaulted = false; last = everyLast }
+started = record { kind = 0; rules = 0; mode = Mode.Absent; last = everyLast }
+
+-- there is a default
+abbrev pub defaulted : Reader → Bool
+defaulted r = present (theMode (r .mode))
 
 abbrev pub rangesRead : Reader → Bool
 rangesRead r = eqb (r .kind) 1 || eqb (r .kind) 2
@@ -47,7 +53,7 @@ rangedTo r positions slots highest =
     record {
       kind = 2;
       rules = r .rules;
-      defaulted = r .defaulted;
+      mode = r .mode;
       last = record { size = l .size; positions = positions; slots = slots; highest = highest; outputs = l .outputs; named = l .named };
     }
 
@@ -57,23 +63,23 @@ summedTo r kind outputs named =
     record {
       kind = kind;
       rules = r .rules;
-      defaulted = r .defaulted;
+      mode = r .mode;
       last = record { size = l .size; positions = l .positions; slots = l .slots; highest = l .highest; outputs = outputs; named = named };
     }
 
 -- the summary with the record taken in
 abbrev pub next : Reader → Record → Reader
-next r (rule k a) = record { kind = 1; rules = r .rules + 1; defaulted = false; last = begun k }
+next r (rule k a) = record { kind = 1; rules = r .rules + 1; mode = Mode.Absent; last = begun k }
 next r (range p c) = rangedTo r (p + 1) (slotNumber r p + 1) (c .highest)
 next r (output c) = summedTo r 3 (r .last .outputs + 1) 0
 next r (term p a) = summedTo r 4 (r .last .outputs) (r .last .named + 2 ^ p)
 next r (hexadecimal p shift) = summedTo r 6 (r .last .outputs + 1) 0
-next r default = record { kind = 5; rules = r .rules; defaulted = true; last = everyLast }
+next r (default k) = record { kind = 5; rules = r .rules; mode = markedMode k; last = everyLast }
 
 -- one record by 3, 4, 6
 unfoldable pub admit : Reader → Record → Outcome Reader
 admit r (rule k a) =
-    select ((r .defaulted, refused 3) ∷ (gap r, refused 4) ∷ (eqb (r .rules) 32, refused 6) ∷ []) (accepted (next r (rule k a)))
+    select ((defaulted r, refused 3) ∷ (gap r, refused 4) ∷ (eqb (r .rules) 32, refused 6) ∷ []) (accepted (next r (rule k a)))
 admit r (range p c) =
     let l = r .last in
     select (
@@ -88,7 +94,7 @@ admit r (term p a) =
 admit r (hexadecimal p shift) =
     select ((eqb (r .kind) 0 || leb (r .last .size) p, refused 3) ∷ (gap r, refused 4) ∷ (eqb (r .last .outputs) 8, refused 6) ∷ [])
     (accepted (next r (hexadecimal p shift)))
-admit r default = select ((r .defaulted, refused 3) ∷ (gap r, refused 4) ∷ []) (accepted (next r default))
+admit r (default k) = select ((defaulted r, refused 3) ∷ (gap r, refused 4) ∷ []) (accepted (next r (default k)))
 
 -- "each by 2, 3, 4, 6"
 abbrev pub admitted : Reader → Option Record → Outcome Reader
@@ -97,7 +103,7 @@ admitted r (some x) = admit r x
 
 -- the last group's number
 abbrev pub groupNumber : Reader → ℕ
-groupNumber r = cond (r .defaulted) defaultNumber (pred (r .rules))
+groupNumber r = cond (defaulted r) defaultNumber (pred (r .rules))
 
 -- The table's array with a range put in, an output character, a digit, and what a record puts in.
 abbrev pub rangePut : ℕ → ℕ → ℕ → ℕ → ℕ → List ℕ → List ℕ
@@ -117,7 +123,7 @@ loadedBy r (range p c) l = rangePut (groupNumber r) p (slotNumber r p) (c .lowes
 loadedBy r (output c) l = outputPut (groupNumber r) (r .last .outputs) c l
 loadedBy r (hexadecimal p shift) l = digitPut (groupNumber r) (r .last .outputs) p shift l
 loadedBy r (term p a) l = set l (blockSize * groupNumber r + 5 + entrySize * pred (r .last .outputs) + p) a
-loadedBy r default l = set (set (set l (32 * blockSize) 1) (slotsFrom + 32 * 8) 1) (rangesFrom + 32 * 64 + 1) 65535
+loadedBy r (default k) l = set (set (set l (32 * blockSize) 1) (slotsFrom + 32 * 8) 1) (rangesFrom + 32 * 64 + 1) 65535
 
 -- the array after a record: changed if the record was taken in
 abbrev pub afterwards : Outcome Reader → List ℕ → List ℕ → List ℕ
@@ -157,6 +163,6 @@ pub record FittingLast (l : Last) : Type 0 where
 pub record Fitting (r : Reader) : Type 0 where
   pub rules : r .rules ≤ 32
   pub last : FittingLast (r .last)
-  pub ranging : T (rangesRead r) → (1 ≤ r .rules) × (r .defaulted ≡ false)
-  pub grouped : T (not (eqb (r .kind) 0)) → r .defaulted ≡ false → 1 ≤ r .rules
+  pub ranging : T (rangesRead r) → (1 ≤ r .rules) × (defaulted r ≡ false)
+  pub grouped : T (not (eqb (r .kind) 0)) → defaulted r ≡ false → 1 ≤ r .rules
   pub writing : T (eqb (r .kind) 3 || eqb (r .kind) 4) → 1 ≤ r .last .outputs

@@ -12,13 +12,14 @@ use lib.Seq.{take-all, drop-nil, drop-cons, length-take-le, getD-take, getD-drop
 use Rattle.lists.specs.Lists.{pad}
 use Rattle.lists.proofs.Laws.Parts.{length-pad}
 use Rattle.lists.proofs.Laws.Tests.{holds, below, split, of-cond, of-between}
-use Rattle.meaning.specs.Table.{defaultNumber}
+use Rattle.meaning.specs.Table.{Single, defaultNumber}
 use Rattle.meaning.specs.Block.{at, blockOutput}
-use Rattle.automaton.specs.Sound.{longestWord, expansionWord, stateCount, depthWord, acceptWord, targetWord, classCount, blockAt, soundState, sound}
+use Rattle.automaton.specs.Sound.{longestWord, expansionWord, stateCount, depthWord, acceptWord, targetWord, classCount, blockAt, wordMode, soundState, sound}
 use Rattle.automaton.specs.Classes.{classOf}
 use Rattle.automaton.specs.Automaton.{fromWords}
 use Rattle.words.specs.declared.numbers.StateNo.{StateNo}
-use Rattle.automaton.proofs.Laws.Words.{sound-state, sound-class, sound-good}
+use Rattle.automaton.proofs.Laws.Words.{sound-state, sound-class, sound-good, length-blockOutput}
+use Rattle.reckoning.specs.Machine.{fall}
 use Rattle.reckoning.specs.Uses.{useCounts}
 use Rattle.session.specs.bridge.Counting.{bumped}
 use Rattle.session.specs.bridge.Running.{Painted, put, firstOf, Placed, Lent, lent, Proceeds, Beyond, Passes, PassesByDefaults, Between, ReadsOn, readTo, Read, Back}
@@ -26,7 +27,7 @@ use Rattle.session.specs.declared.kept.Status.the-variants as Code
 use Rattle.session.specs.declared.run.Ran.{Ran}
 use Rattle.session.specs.declared.run.Ahead.{Ahead}
 use Rattle.session.proofs.Laws.Counting.{bumped-none, bumped-again}
-use Rattle.session.proofs.Laws.Running.{first-at, character-backs, character-reads, decides-character, turn-room, turn-small, default-words, advances-read, advances-default, beyond-on}
+use Rattle.session.proofs.Laws.Running.{first-at, character-backs, character-reads, decides-character, turn-room, turn-small, write-block, mode-words, advances-read, advances-one, beyond-on}
 use Rattle.automaton.specs.Layout.{classesFrom}
 
 -- a part of a table is painted with the number that belongs there
@@ -255,15 +256,24 @@ module _ (w u : List ℕ) (n count made : ℕ) (before : List ℕ) where
       let placed : Placed w u (length between) old =
       subst (λ room. Placed w u room old) (sym size) (defaulted-placed w u (length before) now old before between (m - n) (l .1)) in
       let back = character-backs w W q (P .state) x (sym (ap (acceptWord w) z ∙ first-accept w W)) (ap (λ s. targetWord w s (classIn w x)) z ∙ none) in
-      let default : fromWords w .default ≡ true = default-words w true (sym (ap (λ k. eqb k 1) one)) in
+      let word = take 1 (drop m u) in
+      let single : fromWords w .default ≡ Single = sym (mode-words w) ∙ ap wordMode one in
+      let there : at w 5 ≢ 0 = λ e. omega arith in
+      let text = write-block w defaultNumber word (omega arith) in
+      let long : at (blockAt w 32) 2 ≡ length (fromWords w .write defaultNumber word) = sym (length-blockOutput (blockAt w 32) word) ∙ ap length text in
       let next : m′ - n ≡ m - n + 1 = omega (arith, l .0) in
       let counted : (uses : List ℕ) → length uses ≡ useCounts → bumped uses defaultNumber (m′ - n) ≡ bumped (bumped uses defaultNumber (m - n)) defaultNumber 1 =
       λ uses e. ap (bumped uses defaultNumber) next ∙ sym (bumped-again uses defaultNumber (m - n) 1 (omega (arith, e))) in
       let on : (uses : List ℕ) → length uses ≡ useCounts → (ended : Bool) →
       Proceeds w u ended (length between) old (lent between (bumped uses defaultNumber (m - n))) new (lent after (bumped uses defaultNumber (m′ - n)))
       × Beyond old between new after =
-      λ uses e ended. advances-default w u ended W old (lent between (bumped uses defaultNumber (m - n))) placed new (decides-character w u ended q m m Back x some refl back) some
-      (lent after (bumped uses defaultNumber (m′ - n))) default z p₁ p₁ p₂ p₃ wrote (counted uses e) in
+      λ uses e ended. advances-one w u ended W old (lent between (bumped uses defaultNumber (m - n))) placed new (decides-character w u ended q m m Back x some refl back) some
+      (lent after (bumped uses defaultNumber (m′ - n)))
+      (record {
+        between = record { going = refl; state = z; from = p₁; at = p₁; count = p₂ ∙ ap (λ k. written + k) long; steps = p₃ };
+        wrote = wrote ∙ ap (put between written) text;
+        counted = counted uses e;
+      }) (ap (λ d. fall d ended (drop m u)) single) there in
       let beyond = on (pad useCounts []) (length-pad useCounts []) false .1 in (
         omega (arith, l .0),
         λ uses e.

@@ -19,7 +19,7 @@ use Rattle.automaton.specs.Automaton.{Automaton, fromWords}
 use Rattle.automaton.proofs.Laws.Words.{sound-header}
 use Rattle.reckoning.specs.Machine.{Status, Open, Closed, Stopped, Ended}
 use Rattle.reckoning.specs.Uses.{useCounts}
-use Rattle.reckoning.specs.Session.{Session, consumed, store, path, isAt}
+use Rattle.reckoning.specs.Session.{Session, consumed, store, standsAt}
 use Rattle.reckoning.specs.Preview.{Seen, seenBy, preview}
 use Rattle.reckoning.specs.Calls as Spec
 use Rattle.reckoning.specs.Calls.{CallOutcome, admits, receivedBy, resumed, later, callBy}
@@ -85,7 +85,7 @@ module _ (w : List ℕ) (found : Kept) (uses piece : List ℕ) (ended : Bool) (r
 
   -- what the run over machine words requires, of an output with so many places
   pub run-asks : (places : ℕ) → (1 ≤ places → room ≤ places) → length uses ≡ useCounts →
-      (T (sound w) × T (isAt (s .state) (path (fromWords w) 0 (store s))))
+      (T (sound w) × T (standsAt (fromWords w) (s .state) (store s)))
       × (((length (store s) ≤ 8) × (length (store s) + length piece ≤ 1099511627784))
       × ((1 ≤ places → expansionWord w * (length (store s) + length piece) ≤ places) × Counted uses 0))
   run-asks places more whole =

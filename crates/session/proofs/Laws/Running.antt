@@ -5,34 +5,35 @@ use mathlib.Core.List.{List, [], _∷_, _++_, append-nil}
 use mathlib.Core.Logic.{_≢_}
 use mathlib.Core.Path.{_≡_, refl, sym, ap, subst, _∙_}
 use Prim.Native.Nat.{ℕ, zero, suc, pred, _+_, _*_, _-_, _≤_, _<_}
-use native.Mathlib.Nat.{mul-le-mul, mul-le-mul-left}
+use native.Mathlib.Nat.{mul-add, mul-le-mul, mul-le-mul-left}
 use native.Mathlib.Omega.{arith}
-use lib.Dec.{T, eqb, eqb→eq}
+use borrow.Author.Tests.{ne-eqb}
+use lib.Dec.{T}
 use lib.ListN.{length, getD, set, take, drop, length-append, length-drop, take-append-drop, drop-of-length-le}
 use lib.Seq.{take-all, drop-nil, length-take-le, take-suc, drop-cons, append-snoc, getD-drop, set-at, take-append-seam, drop-append-seam, take-at, drop-at, take-add, drop-drop}
-use Rattle.lists.proofs.Laws.Tests.{to-T}
 use Rattle.lists.proofs.Laws.Parts.{no-elements}
-use Rattle.meaning.specs.Table.{defaultNumber}
+use Rattle.meaning.specs.Table.{defaultNumber, pairNumber}
 use Rattle.meaning.specs.Block.{at, blockOutput}
 use Rattle.meaning.specs.Meaning.{Emission, textOf, covered}
 use Rattle.meaning.specs.Direct.{over}
 use Rattle.meaning.proofs.Laws.Writing.{text-append, covered-append}
-use Rattle.automaton.specs.Sound.{longestWord, expansionWord, ruleCount, stateCount, depthWord, acceptWord, targetWord, classCount, blockAt, sound}
+use Rattle.automaton.specs.Sound.{longestWord, expansionWord, ruleCount, stateCount, depthWord, acceptWord, targetWord, classCount, blockAt, modeAt, sound}
 use Rattle.automaton.specs.Classes.{classOf}
 use Rattle.automaton.specs.Automaton.{Automaton, fromWords}
 use Rattle.words.specs.declared.numbers.RuleNo.{RuleNo}
 use Rattle.words.specs.declared.numbers.StateNo.{StateNo}
 use Rattle.automaton.proofs.Laws.Good.{after, Leads}
 use Rattle.automaton.proofs.Laws.Words.{Names, sound-header, sound-rule, sound-default, sound-state, sound-class, sound-good, sound-longest, length-blockOutput}
-use Rattle.reckoning.specs.Machine.{Configuration, Status, Open, Closed, Stopped, onward, halt, step, Ended, steps, run, start}
+use Rattle.reckoning.specs.Machine.{Configuration, Status, Open, Closed, Stopped, onward, halt, Fall, nowhere, taking, keeping, fall, step, Ended, steps, run, start}
 use Rattle.reckoning.specs.Uses.{useCounts, usesAfter}
 use Rattle.reckoning.specs.Session.{path, isAt}
 use Rattle.session.specs.Keeping.{meantStatus}
 use Rattle.session.specs.bridge.Counting.{bumped, Counted}
-use Rattle.session.specs.bridge.Running.{put, firstOf, standing, stepBy, Fits, Decides, storeOf, Placed, Lent, Going, EndsAs, left, Proceeds, Advances, Beyond, Move, Emit, Read, Back, Wait, Close}
+use Rattle.session.specs.bridge.Running.{put, firstOf, standing, stepBy, Fits, Decides, storeOf, Placed, Lent, Going, EndsAs, left, Proceeds, Advances, Beyond, Takes, LeavesUnit, Move, Emit, Read, Back, Wait, Close}
 use Rattle.session.specs.declared.run.Ran.{Ran}
-use Rattle.reckoning.proofs.Laws.Run.{step-accept, step-read, step-back, due-read, due-stop, due-emit, steps-onward, steps-halt, fuel-enough}
+use Rattle.reckoning.proofs.Laws.Run.{step-accept, step-read, step-back, due-step, steps-onward, steps-halt, fuel-enough}
 use Rattle.reckoning.proofs.Laws.Uses.{uses-none, uses-emitted}
+use Rattle.reckoning.proofs.Laws.Rounds.{led, left-alone}
 use Rattle.reckoning.proofs.Laws.Kept.{path-leads}
 use Rattle.automaton.specs.Layout.{classesFrom}
 
@@ -213,29 +214,35 @@ turn-small w u room now W P =
     let z : expansionWord w * now .from ≤ 8 * 1099511627784 = mul-le-mul (sound-header w W .expansion) few in
     omega (arith, P .written)
 
--- group g is written for a word after what was written, and what stands beyond it is as found
+-- a text is written after what was written, and what stands beyond it is as found
 module _ (w u : List ℕ) (old : Ran) (before : List ℕ) (P : Placed w u (length before) old) where
-  group-put : (g : ℕ) (word after : List ℕ) → after ≡ put before (old .count) (blockOutput (blockAt w g) word) →
-      (1 ≤ length after → (1 ≤ length before) × (take (old .count + at (blockAt w g) 2) after ≡ take (old .count) before ++ blockOutput (blockAt w g) word))
-      × (drop (old .count + at (blockAt w g) 2) after ≡ drop (old .count + at (blockAt w g) 2) before)
-  group-put g word after wrote =
+  text-put : (text after : List ℕ) (k : ℕ) → length text ≡ k → after ≡ put before (old .count) text →
+      (1 ≤ length after → (1 ≤ length before) × (take (old .count + k) after ≡ take (old .count) before ++ text))
+      × (drop (old .count + k) after ≡ drop (old .count + k) before)
+  text-put text after k sized wrote =
       let z : expansionWord w * old .from ≤ expansionWord w * length u = mul-le-mul-left (expansionWord w) (omega (arith, P .order, P .inside)) in
       let room : 1 ≤ length before → old .count ≤ length before = λ any. omega (arith, P .written, P .enough any) in
-      rw wrote (placed-text before (blockOutput (blockAt w g) word) (old .count) (at (blockAt w g) 2) room (length-blockOutput (blockAt w g) word))
+      rw wrote (placed-text before text (old .count) k room sized)
 
-  pub beyond-put : (new : Ran) (g : ℕ) (word after : List ℕ) → new .count ≡ old .count + at (blockAt w g) 2 →
-      after ≡ put before (old .count) (blockOutput (blockAt w g) word) → Beyond old before new after
-  beyond-put new g word after e wrote = (omega arith, rw e (group-put g word after wrote .1))
+  pub beyond-put : (new : Ran) (text after : List ℕ) (k : ℕ) → length text ≡ k → new .count ≡ old .count + k →
+      after ≡ put before (old .count) text → Beyond old before new after
+  beyond-put new text after k sized e wrote = (omega arith, rw e (text-put text after k sized wrote .1))
 
-pub default-words : (w : List ℕ) (b : Bool) → b ≡ eqb (at w 5) 1 → fromWords w .default ≡ b
+-- what the words write: a group by its block, a pair unchanged
+pub write-block : (w : List ℕ) (g : ℕ) (word : List ℕ) → g < pairNumber → blockOutput (blockAt w g) word ≡ fromWords w .write g word
 unfolding fromWords
-default-words w b e = sym e
+write-block w g word h = rw (ne-eqb g 33 (omega arith)) refl
 
-pub default-block : (w : List ℕ) → T (sound w) → (b : Bool) → b ≡ eqb (at w 5) 1 → b ≡ true →
-    (at (blockAt w defaultNumber) 0 ≡ 1) × (at (blockAt w defaultNumber) 2 ≤ expansionWord w)
-default-block w W b e t =
-    let s = sound-default w W (eqb→eq (at w 5) 1 (to-T (eqb (at w 5) 1) (sym e ∙ t))) in
-    (omega (arith, s .positive, s .size), s .outputs)
+pub write-pair : (w word : List ℕ) → word ≡ fromWords w .write pairNumber word
+unfolding fromWords
+write-pair w word = refl
+
+pub mode-words : (w : List ℕ) → modeAt w ≡ fromWords w .default
+unfolding fromWords
+mode-words w = refl
+
+pub default-block : (w : List ℕ) → T (sound w) → at w 5 ≢ 0 → (at (blockAt w defaultNumber) 0 ≡ 1) × (at (blockAt w defaultNumber) 2 ≤ expansionWord w)
+default-block w W e = let s = sound-default w W e in (omega (arith, s .positive, s .size), s .outputs)
 
 -- One turn, from `old` to `new`.
 module _ (w u : List ℕ) (ended : Bool) (W : T (sound w)) (old : Ran) (before : Lent) (P : Placed w u (length (before .output)) old) (new : Ran) where
@@ -258,13 +265,13 @@ module _ (w u : List ℕ) (ended : Bool) (W : T (sound w)) (old : Ran) (before :
   -- the run ended with the old log
   ended-as : (r : Ended) (found : List ℕ) (G : Going w u ended r found old before) (b : Status) (f : Configuration) → r ≡ record { status = b; final = f } → meantStatus (new .status) ≡ b →
       new .state .0 ≡ f .state → storeOf u new ≡ f .store → new .from ≡ old .from → new .count ≡ old .count → new .steps ≡ f .steps → f .log ≡ G .log →
-      new .from ≤ new .at → new .at ≤ old .at → EndsAs w u r found new before
+      new .from ≤ new .at → new .at ≤ length u → EndsAs w u r found new before
   ended-as r found G b f e e₀ e₁ e₂ e₃ e₄ e₅ e₆ p₁ p₂ =
       subst (λ z. EndsAs w u z found new before) (sym e) (record {
         status = e₀;
         state = e₁;
         order = p₁;
-        inside = omega (arith, P .inside);
+        inside = p₂;
         store = e₂;
         covers = ap covered e₆ ∙ G .covers ∙ sym e₃;
         count = e₄ ∙ G .count ∙ ap (λ l. length (textOf (fromWords w .write) l)) (sym e₆);
@@ -319,29 +326,20 @@ module _ (w u : List ℕ) (ended : Bool) (W : T (sound w)) (old : Ran) (before :
         )
 
   -- group g is written for the next n characters from the store's first on; the state is 0 and the store empty after it
-  module _ (g n : ℕ) (after : Lent) (j : ℕ) (e₁ : new .state .0 ≡ 0) (e₂ : new .from ≡ old .from + n) (e₃ : new .at ≡ old .from + n)
-      (e₄ : new .count ≡ old .count + at (blockAt w g) 2) (e₅ : new .steps ≡ old .steps + j)
+  module _ (g n : ℕ) (after : Lent) (j k : ℕ) (e₁ : new .state .0 ≡ 0) (e₂ : new .from ≡ old .from + n) (e₃ : new .at ≡ old .from + n)
+      (e₄ : new .count ≡ old .count + k) (e₅ : new .steps ≡ old .steps + j)
       (some : 0 < n) (inside : old .from + n ≤ length u) (cheap : old .at - old .from + j ≤ 11 * n) (ahead : old .at - old .from < 9 * n)
-      (few : at (blockAt w g) 2 ≤ expansionWord w)
-      (wrote : after .output ≡ put (before .output) (old .count) (blockOutput (blockAt w g) (take n (drop (old .from) u))))
+      (sized : length (A .write g (take n (drop (old .from) u))) ≡ k) (few : k ≤ expansionWord w * n)
+      (wrote : after .output ≡ put (before .output) (old .count) (A .write g (take n (drop (old .from) u))))
       (known : g < useCounts) (counted : after .uses ≡ bumped (before .uses) g 1)
       (leads : (r : Ended) (log : List Emission) → Runs A ended most r (stood log (old .steps)) →
       Runs A ended most r (standing [] (drop (old .from + n) u) 0 (log ++ (record { group = g; word = take n (drop (old .from) u) } ∷ [])) (old .steps + j))) where
     abbrev word : List ℕ
     word = take n (drop (old .from) u)
 
-    abbrev k : ℕ
-    k = at (blockAt w g) 2
-
-    text-put : 1 ≤ length (after .output) →
-        (1 ≤ length (before .output)) × (take (old .count + k) (after .output) ≡ take (old .count) (before .output) ++ blockOutput (blockAt w g) word)
-    text-put = group-put w u old (before .output) P g word (after .output) wrote .0
-
     emit-placed : Placed w u (length (before .output)) new
     emit-placed =
-        let z : expansionWord w * (old .from + 1) ≤ expansionWord w * (old .from + n) = mul-le-mul-left (expansionWord w) (omega arith) in
-        let y : expansionWord w * new .from ≡ expansionWord w * (old .from + n) = ap (λ x. expansionWord w * x) e₂ in
-        let x : expansionWord w * (old .from + 1) ≡ expansionWord w * old .from + expansionWord w = omega arith in
+        let y : expansionWord w * new .from ≡ expansionWord w * old .from + expansionWord w * n = ap (λ x. expansionWord w * x) e₂ ∙ mul-add (expansionWord w) (old .from) n in
         let i₁ = P .written in
         let i₂ = P .few in
         let d : depthWord w (new .state .0) ≡ 0 = ap (depthWord w) e₁ ∙ first-depth in
@@ -357,16 +355,16 @@ module _ (w u : List ℕ) (ended : Bool) (W : T (sound w)) (old : Ran) (before :
         }
 
     emit-going : (r : Ended) (found : List ℕ) → Going w u ended r found old before → Going w u ended r found new after
-    unfolding fromWords
     emit-going r found G =
         let log : List Emission = G .log in
+        let text = A .write g word in
         let later : List Emission = log ++ (record { group = g; word = word } ∷ []) in
         let s : [] ≡ storeOf u new = sym (none-of u (new .at) (new .from) (e₃ ∙ sym e₂)) in
         let q : standing [] (drop (old .from + n) u) 0 later (old .steps + j) ≡ standing (storeOf u new) (drop (new .at) u) (new .state .0) later (new .steps) =
         λ i. standing (s i) (drop (sym e₃ i) u) (sym e₁ i) later (sym e₅ i) in
-        let t : textOf (A .write) later ≡ textOf (A .write) log ++ blockOutput (blockAt w g) word = text-one (A .write) log g word in
+        let t : textOf (A .write) later ≡ textOf (A .write) log ++ text = text-one (A .write) log g word in
         let size : length (textOf (A .write) later) ≡ length (textOf (A .write) log) + k =
-        ap length t ∙ length-append (textOf (A .write) log) (blockOutput (blockAt w g) word) ∙ ap (λ x. length (textOf (A .write) log) + x) (length-blockOutput (blockAt w g) word) in
+        ap length t ∙ length-append (textOf (A .write) log) text ∙ ap (λ x. length (textOf (A .write) log) + x) sized in
         let long : length word ≡ n = length-take-le n (drop (old .from) u) (omega (arith, length-drop (old .from) u)) in
         let c₁ = G .covers in
         let c₂ = G .count in
@@ -377,8 +375,8 @@ module _ (w u : List ℕ) (ended : Bool) (W : T (sound w)) (old : Ran) (before :
           covers = omega arith;
           count = omega arith;
           text = λ any.
-              let put-there = text-put any in
-              ap (λ x. take x (after .output)) e₄ ∙ put-there .1 ∙ ap (λ l. l ++ blockOutput (blockAt w g) word) (G .text (put-there .0)) ∙ sym t;
+              let put-there = text-put w u old (before .output) P text (after .output) k sized wrote .0 any in
+              ap (λ x. take x (after .output)) e₄ ∙ put-there .1 ∙ ap (λ l. l ++ text) (G .text (put-there .0)) ∙ sym t;
           uses = counted ∙ ap (λ l. bumped l g 1) (G .uses) ∙ uses-emitted found log g word known;
         }
 
@@ -413,7 +411,12 @@ module _ (w u : List ℕ) (ended : Bool) (W : T (sound w)) (old : Ran) (before :
         let p₄ : n < 9 * n = omega arith in
         let p₅ : new .from ≡ old .from + n = e₂ ∙ sym to-end in
         let p₆ : new .at ≡ old .from + n = e₃ ∙ sym to-end in
-        advances-put (g .0) n after 1 e₁ p₅ p₆ e₄ e₅ p₁ p₂ p₃ p₄ (fits .3) wrote (omega (arith, fits .0)) counted emit-leads
+        let p₇ : g .0 < pairNumber = omega (arith, fits .0) in
+        let one : expansionWord w * 1 ≤ expansionWord w * n = mul-le-mul-left (expansionWord w) p₁ in
+        let p₈ = write-block w (g .0) (storeOf u old) p₇ in
+        let p₉ = sym (ap length p₈) ∙ length-blockOutput (blockAt w (g .0)) (storeOf u old) in
+        advances-put (g .0) n after 1 (at (blockAt w (g .0)) 2) e₁ p₅ p₆ e₄ e₅ p₁ p₂ p₃ p₄ p₉ (omega (arith, fits .3))
+        (wrote ∙ ap (put (before .output) (old .count)) p₈) (omega (arith, fits .0)) counted emit-leads
 
   -- *back*, where something stands before the end
   module _ (st : (log : List Emission) (n : ℕ) → step A ended (stood log n) ≡ stepBy Back (stood log n)) (some : old .from < length u) where
@@ -423,59 +426,110 @@ module _ (w u : List ℕ) (ended : Bool) (W : T (sound w)) (old : Ran) (before :
     abbrev v : List ℕ
     v = drop (old .from + 1) u
 
-    given-back : storeOf u old ++ drop (old .at) u ≡ y ∷ v
-    given-back =
-        let e : suc (old .from) ≡ old .from + 1 = omega arith in
-        whole-of u (old .from) (old .at) (P .order) ∙ drop-cons u (old .from) 0 some ∙ ap (λ k. y ∷ drop k u) e
+    next-is : drop (old .from) u ≡ y ∷ v
+    next-is = let e : suc (old .from) ≡ old .from + 1 = omega arith in drop-cons u (old .from) 0 some ∙ ap (λ k. y ∷ drop k u) e
 
     abbrev due : List ℕ → List ℕ → List Emission → ℕ → Configuration
     due store unread log n = record { store = store; unread = unread; state = 0; due = true; log = log; steps = n }
 
     back-step : (log : List Emission) → step A ended (stood log (old .steps)) ≡ onward (due [] (y ∷ v) log (old .steps + 1))
-    back-step log = st log (old .steps) ∙ ap (λ z. onward (due [] z log (old .steps + 1))) given-back
+    back-step log = st log (old .steps) ∙ ap (λ z. onward (due [] z log (old .steps + 1))) (whole-of u (old .from) (old .at) (P .order) ∙ next-is)
 
-    module _ (after : Lent) (d : A .default ≡ true) (e₁ : new .state .0 ≡ 0) (e₂ : new .from ≡ old .from + 1) (e₃ : new .at ≡ old .from + 1)
-        (e₄ : new .count ≡ old .count + at (blockAt w defaultNumber) 2) (e₅ : new .steps ≡ old .steps + 3)
-        (wrote : after .output ≡ put (before .output) (old .count) (blockOutput (blockAt w defaultNumber) (take 1 (drop (old .from) u))))
-        (counted : after .uses ≡ bumped (before .uses) defaultNumber 1) where
-      default-leads : (r : Ended) (log : List Emission) → Runs A ended most r (stood log (old .steps)) →
-          Runs A ended most r (standing [] v 0 (log ++ (record { group = defaultNumber; word = take 1 (drop (old .from) u) } ∷ [])) (old .steps + 3))
-      default-leads r log h =
-          let s : ℕ = old .steps in
-          let c₁ : Configuration = due [] (y ∷ v) log (s + 1) in
-          let c₂ : Configuration = due (y ∷ []) v log (s + 1 + 1) in
-          let c₃ : Configuration = standing [] v 0 (log ++ (record { group = defaultNumber; word = y ∷ [] } ∷ [])) (s + 1 + 1 + 1) in
-          let one : y ∷ [] ≡ take 1 (drop (old .from) u) = ap (take 1) (sym (drop-cons u (old .from) 0 some)) in
-          let three : s + 1 + 1 + 1 ≡ s + 3 = omega arith in
-          let h₁ : Runs A ended most r c₁ = runs-on A ended most r (stood log s) c₁ (back-step log) h in
-          let h₂ : Runs A ended most r c₂ = runs-on A ended most r c₁ c₂ (due-read A ended (y ∷ v) log (s + 1) d) h₁ in
-          let h₃ : Runs A ended most r c₃ = runs-on A ended most r c₂ c₃ (due-emit A ended v log (s + 1 + 1) y) h₂ in
-          subst (Runs A ended most r) (λ i. standing [] v 0 (log ++ (record { group = defaultNumber; word = one i } ∷ [])) (three i)) h₃
+    -- what the characters given back lead to
+    abbrev Falls : Fall → Type 0
+    Falls f = fall (A .default) ended (drop (old .from) u) ≡ f
 
-      few-default : at (blockAt w defaultNumber) 2 ≤ expansionWord w
-      unfolding fromWords
-      few-default = sound-default w W (eqb→eq (at w 5) 1 (to-T (eqb (at w 5) 1) d)) .outputs
+    abbrev Leads-to : ℕ → ℕ → Type 0
+    Leads-to g k = (r : Ended) (log : List Emission) → Runs A ended most r (stood log (old .steps)) →
+        Runs A ended most r (standing [] (drop (old .from + k) u) 0 (log ++ (record { group = g; word = take k (drop (old .from) u) } ∷ [])) (old .steps + (k + 2)))
 
-      pub advances-default : Proceeds w u ended (length (before .output)) old before new after × Beyond old (before .output) new (after .output)
-      advances-default =
-          let p₁ : 0 < 1 = omega arith in
-          let p₂ : old .from + 1 ≤ length u = omega arith in
-          let p₃ : old .at - old .from + 3 ≤ 11 * 1 = omega (arith, shallow) in
-          let p₄ : old .at - old .from < 9 * 1 = omega (arith, shallow) in
-          let p₅ : defaultNumber < useCounts = omega arith in (
-            advances-put defaultNumber 1 after 3 e₁ e₂ e₃ e₄ e₅ p₁ p₂ p₃ p₄ few-default wrote p₅ counted default-leads,
-            beyond-put w u old (before .output) P new defaultNumber (take 1 (drop (old .from) u)) (after .output) e₄ wrote,
+    one-leads : (g : ℕ) → Falls (taking g 1) → Leads-to g 1
+    one-leads g f r log h =
+        let s : ℕ = old .steps in
+        let c₁ : Configuration = due [] (y ∷ v) log (s + 1) in
+        let c₂ : Configuration = due (y ∷ []) v log (s + 1 + 1) in
+        let c₃ : Configuration = standing [] v 0 (log ++ (record { group = g; word = y ∷ [] } ∷ [])) (s + 1 + 1 + 1) in
+        let one : y ∷ [] ≡ take 1 (drop (old .from) u) = ap (take 1) (sym next-is) in
+        let three : s + 1 + 1 + 1 ≡ s + 3 = omega arith in
+        let p : fall (A .default) ended (y ∷ v) ≡ taking g 1 = ap (fall (A .default) ended) (sym next-is) ∙ f in
+        let h₁ : Runs A ended most r c₁ = runs-on A ended most r (stood log s) c₁ (back-step log) h in
+        let h₂ : Runs A ended most r c₂ = runs-on A ended most r c₁ c₂ (due-step A ended [] (y ∷ v) log (s + 1) (taking g 1) p) h₁ in
+        let h₃ : Runs A ended most r c₃ = runs-on A ended most r c₂ c₃ (due-step A ended (y ∷ []) v log (s + 1 + 1) (taking g 1) p) h₂ in
+        subst (Runs A ended most r) (λ i. standing [] v 0 (log ++ (record { group = g; word = one i } ∷ [])) (three i)) h₃
+
+    two-leads : (g : ℕ) → Falls (taking g 2) → old .from + 2 ≤ length u → Leads-to g 2
+    two-leads g f room r log h =
+        let s : ℕ = old .steps in
+        let z : ℕ = getD u (old .from + 1) 0 in
+        let t : List ℕ = drop (old .from + 2) u in
+        let e : suc (old .from + 1) ≡ old .from + 2 = omega arith in
+        let next : v ≡ z ∷ t = drop-cons u (old .from + 1) 0 (omega arith) ∙ ap (λ k. z ∷ drop k u) e in
+        let both : drop (old .from) u ≡ y ∷ z ∷ t = next-is ∙ ap (λ l. y ∷ l) next in
+        let c₁ : Configuration = due [] (y ∷ z ∷ t) log (s + 1) in
+        let c₂ : Configuration = due (y ∷ []) (z ∷ t) log (s + 1 + 1) in
+        let c₃ : Configuration = due (y ∷ z ∷ []) t log (s + 1 + 1 + 1) in
+        let c₄ : Configuration = standing [] t 0 (log ++ (record { group = g; word = y ∷ z ∷ [] } ∷ [])) (s + 1 + 1 + 1 + 1) in
+        let word : y ∷ z ∷ [] ≡ take 2 (drop (old .from) u) = ap (take 2) (sym both) in
+        let four : s + 1 + 1 + 1 + 1 ≡ s + 4 = omega arith in
+        let p : fall (A .default) ended (y ∷ z ∷ t) ≡ taking g 2 = ap (fall (A .default) ended) (sym both) ∙ f in
+        let back : step A ended (stood log s) ≡ onward c₁ = back-step log ∙ ap (λ l. onward (due [] (y ∷ l) log (s + 1))) next in
+        let h₁ : Runs A ended most r c₁ = runs-on A ended most r (stood log s) c₁ back h in
+        let h₂ : Runs A ended most r c₂ = runs-on A ended most r c₁ c₂ (due-step A ended [] (y ∷ z ∷ t) log (s + 1) (taking g 2) p) h₁ in
+        let h₃ : Runs A ended most r c₃ = runs-on A ended most r c₂ c₃ (due-step A ended (y ∷ []) (z ∷ t) log (s + 1 + 1) (taking g 2) p) h₂ in
+        let h₄ : Runs A ended most r c₄ = runs-on A ended most r c₃ c₄ (due-step A ended (y ∷ z ∷ []) t log (s + 1 + 1 + 1) (taking g 2) p) h₃ in
+        subst (Runs A ended most r) (λ i. standing [] t 0 (log ++ (record { group = g; word = word i } ∷ [])) (four i)) h₄
+
+    module _ (after : Lent) (g k : ℕ) (T : Takes w u old before g k new after) (known : g < useCounts) where
+      abbrev text : List ℕ
+      text = A .write g (take k (drop (old .from) u))
+
+      taken : 0 < k → old .from + k ≤ length u → old .at - old .from + (k + 2) ≤ 11 * k → old .at - old .from < 9 * k → length text ≤ expansionWord w * k → Leads-to g k →
+          Proceeds w u ended (length (before .output)) old before new after × Beyond old (before .output) new (after .output)
+      taken p₁ p₂ p₃ p₄ few leads =
+          let B = T .between in (
+            advances-put g k after (k + 2) (length text) (B .state) (B .from) (B .at) (B .count) (B .steps) p₁ p₂ p₃ p₄ refl few (T .wrote) known (T .counted) leads,
+            beyond-put w u old (before .output) P new text (after .output) (length text) refl (B .count) (T .wrote),
           )
 
-    pub advances-stop : A .default ≡ false → meantStatus (new .status) ≡ Stopped → new .state .0 ≡ 0 → new .from ≡ old .from → new .at ≡ old .from →
+    pub advances-one : (after : Lent) → Takes w u old before defaultNumber 1 new after → Falls (taking defaultNumber 1) → at w 5 ≢ 0 →
+        Proceeds w u ended (length (before .output)) old before new after × Beyond old (before .output) new (after .output)
+    advances-one after T f e =
+        let word = take 1 (drop (old .from) u) in
+        let size = sym (ap length (write-block w defaultNumber word (omega arith))) ∙ length-blockOutput (blockAt w defaultNumber) word in
+        taken after defaultNumber 1 T (omega arith) (omega arith) (omega arith) (omega (arith, shallow)) (omega (arith, shallow)) (omega (arith, size, default-block w W e .1))
+        (one-leads defaultNumber f)
+
+    pub advances-pair : (after : Lent) → Takes w u old before pairNumber 2 new after → Falls (taking pairNumber 2) → old .from + 2 ≤ length u → 1 ≤ expansionWord w →
+        Proceeds w u ended (length (before .output)) old before new after × Beyond old (before .output) new (after .output)
+    advances-pair after T f room e =
+        let word = take 2 (drop (old .from) u) in
+        let size : length (A .write pairNumber word) ≡ 2 = sym (ap length (write-pair w word)) ∙ length-take-le 2 (drop (old .from) u) (omega (arith, length-drop (old .from) u)) in
+        taken after pairNumber 2 T (omega arith) (omega arith) room (omega (arith, shallow)) (omega (arith, shallow)) (omega (arith, size)) (two-leads pairNumber f room)
+
+    pub advances-stop : Falls nowhere → meantStatus (new .status) ≡ Stopped → new .state .0 ≡ 0 → new .from ≡ old .from → new .at ≡ old .from →
         new .count ≡ old .count → new .steps ≡ old .steps + 2 → Advances w u ended (length (before .output)) old before true new before
     advances-stop d e₀ e₁ e₂ e₃ e₄ e₅ r found G =
         let s : ℕ = old .steps in
         let c₁ : Configuration = due [] (y ∷ v) (G .log) (s + 1) in
         let f : Configuration = standing [] [] 0 (G .log) (s + 1 + 1) in
+        let p : fall (A .default) ended (y ∷ v) ≡ nowhere = ap (fall (A .default) ended) (sym next-is) ∙ d in
         let h₁ : Runs A ended most r c₁ = runs-on A ended most r (stood (G .log) s) c₁ (back-step (G .log)) (G .runs) in
-        let e : r ≡ record { status = Stopped; final = f } = runs-halt A ended most r c₁ f Stopped (due-stop A ended (y ∷ v) (G .log) (s + 1) d) h₁ in
-        ended-as r found G Stopped f e e₀ e₁ (none-of u (new .at) (new .from) (e₃ ∙ sym e₂)) e₂ e₄ (omega arith) refl (omega arith) (omega (arith, P .order))
+        let e : r ≡ record { status = Stopped; final = f } = runs-halt A ended most r c₁ f Stopped (due-step A ended [] (y ∷ v) (G .log) (s + 1) nowhere p) h₁ in
+        ended-as r found G Stopped f e e₀ e₁ (none-of u (new .at) (new .from) (e₃ ∙ sym e₂)) e₂ e₄ (omega arith) refl (omega arith) (omega (arith, P .order, P .inside))
+
+    -- a first unit is left
+    pub advances-leave : Falls keeping → LeavesUnit old new → Advances w u ended (length (before .output)) old before true new before
+    advances-leave d U r found G =
+        let s : ℕ = old .steps in
+        let c₁ : Configuration = due [] (y ∷ v) (G .log) (s + 1) in
+        let f : Configuration = standing (y ∷ v) [] 0 (G .log) (s + 1) in
+        let p : fall (A .default) ended (y ∷ v) ≡ keeping = ap (fall (A .default) ended) (sym next-is) ∙ d in
+        let alone : v ≡ [] = left-alone (A .default) ended y v p .1 in
+        let one : new .at - new .from ≡ 1 = omega (arith, U .at, U .from) in
+        let store : storeOf u new ≡ y ∷ v = (λ i. take (one i) (drop (U .from i) u)) ∙ ap (take 1) next-is ∙ ap (λ l. y ∷ l) (sym alone) in
+        let h₁ : Runs A ended most r c₁ = runs-on A ended most r (stood (G .log) s) c₁ (back-step (G .log)) (G .runs) in
+        let e : r ≡ record { status = Open; final = f } = runs-halt A ended most r c₁ f Open (due-step A ended [] (y ∷ v) (G .log) (s + 1) keeping p) h₁ in
+        ended-as r found G Open f e (U .status) (U .state) store (U .from) (U .count) (U .steps) refl (omega (arith, U .at, U .from)) (omega (arith, U .at))
 
   -- the run waits, or closes
   pub advances-wait : ((log : List Emission) (n : ℕ) → step A ended (stood log n) ≡ stepBy Wait (stood log n)) → meantStatus (new .status) ≡ Open →
@@ -484,7 +538,7 @@ module _ (w u : List ℕ) (ended : Bool) (W : T (sound w)) (old : Ran) (before :
   advances-wait st e₀ e₁ e₂ e₃ e₄ e₅ r found G =
       let f : Configuration = stood (G .log) (old .steps) in
       let s : storeOf u new ≡ storeOf u old = λ i. take (e₃ i - e₂ i) (drop (e₂ i) u) in
-      ended-as r found G Open f (runs-halt A ended most r f f Open (st (G .log) (old .steps)) (G .runs)) e₀ e₁ s e₂ e₄ e₅ refl (omega (arith, P .order)) (omega arith)
+      ended-as r found G Open f (runs-halt A ended most r f f Open (st (G .log) (old .steps)) (G .runs)) e₀ e₁ s e₂ e₄ e₅ refl (omega (arith, P .order)) (omega (arith, P .inside))
 
   pub advances-close : ((log : List Emission) (n : ℕ) → step A ended (stood log n) ≡ stepBy Close (stood log n)) → meantStatus (new .status) ≡ Closed →
       new .state .0 ≡ 0 → new .from ≡ old .from → new .at ≡ old .from → new .count ≡ old .count → new .steps ≡ old .steps + 1 →
@@ -492,7 +546,7 @@ module _ (w u : List ℕ) (ended : Bool) (W : T (sound w)) (old : Ran) (before :
   advances-close st e₀ e₁ e₂ e₃ e₄ e₅ r found G =
       let f : Configuration = standing [] [] 0 (G .log) (old .steps + 1) in
       ended-as r found G Closed f (runs-halt A ended most r (stood (G .log) (old .steps)) f Closed (st (G .log) (old .steps)) (G .runs)) e₀ e₁
-      (none-of u (new .at) (new .from) (e₃ ∙ sym e₂)) e₂ e₄ e₅ refl (omega arith) (omega (arith, P .order))
+      (none-of u (new .at) (new .from) (e₃ ∙ sym e₂)) e₂ e₄ e₅ refl (omega arith) (omega (arith, P .order, P .inside))
 
 -- A whole run: done, or placed and going on.
 
@@ -541,7 +595,8 @@ depth-after w W q (x ∷ h) i l =
     (k .0, omega (arith, k .1, f .deeper))
 
 -- The run as it begins: the given characters are the store.
-module _ (w given piece : List ℕ) (ended : Bool) (W : T (sound w)) (q : ℕ) (at-path : T (isAt q (path (fromWords w) 0 given))) (has : Lent)
+module _ (w given piece : List ℕ) (ended : Bool) (W : T (sound w)) (q : ℕ) (at-path : T (isAt q (path (fromWords w) 0 given)))
+    (plain : start given piece q ≡ standing given piece q [] 0) (has : Lent)
     (short : length given + length piece ≤ 1099511627784)
     (enough : 1 ≤ length (has .output) → expansionWord w * (length given + length piece) ≤ length (has .output))
     (counted : Counted (has .uses) 0) (now : Ran)
@@ -584,8 +639,8 @@ module _ (w given piece : List ℕ) (ended : Bool) (W : T (sound w)) (q : ℕ) (
         runs =
             λ m h.
             subst (λ c. steps (fromWords w) ended m c ≡ run (fromWords w) ended (start given piece q))
-            (λ i. standing (s i) (t i) (sym e₁ i) [] (sym e₅ i))
-            (fuel-enough (fromWords w) (longestWord w) (stateCount w) (sound-good w W) (sound-longest w W) ended given piece q (l .0) (l .1) m (omega (arith, size)));
+            (plain ∙ (λ i. standing (s i) (t i) (sym e₁ i) [] (sym e₅ i)))
+            (fuel-enough (fromWords w) (longestWord w) (stateCount w) (sound-good w W) (sound-longest w W) ended given piece q (led (l .1) (l .0)) m (omega (arith, size)));
         covers = sym e₂;
         count = e₄;
         text = λ any. ap (λ k. take k (has .output)) e₄;

@@ -2,6 +2,7 @@
 -- Before a character without a target a state's rule decides; at the text's end its rule there, and whether more may come.
 use mathlib.Core.Bool.{Bool, true, false, _&&_, cond}
 use mathlib.Core.List.{List, [], _∷_}
+use mathlib.Core.Logic.{_≢_}
 use mathlib.Core.Path.{_≡_, refl, sym, ap, subst, _∙_}
 use Prim.Native.Nat.{ℕ, suc, pred, _+_, _-_, _≤_, _<_}
 use native.Mathlib.Omega.{arith}
@@ -9,23 +10,23 @@ use lib.Dec.{T, eqb}
 use lib.ListN.{length, getD, take, drop, drop-of-length-le}
 use lib.Seq.{drop-cons}
 use Rattle.lists.proofs.Laws.Tests.{to-T}
-use Rattle.meaning.specs.Table.{defaultNumber}
+use Rattle.meaning.specs.Table.{defaultNumber, pairNumber}
 use Rattle.meaning.specs.Block.{at, blockOutput}
 use Rattle.meaning.specs.Meaning.{Emission}
-use Rattle.automaton.specs.Sound.{stateCount, acceptAtEndWord, acceptWord, blockAt, used, sound}
+use Rattle.automaton.specs.Sound.{stateCount, expansionWord, acceptAtEndWord, acceptWord, blockAt, used, sound}
 use Rattle.automaton.specs.Automaton.{fromWords}
 use Rattle.words.specs.declared.numbers.RuleNo.{RuleNo}
-use Rattle.automaton.proofs.Laws.Words.{sound-state}
-use Rattle.reckoning.specs.Machine.{Stopped, Closed, step}
+use Rattle.automaton.proofs.Laws.Words.{sound-state, length-blockOutput}
+use Rattle.reckoning.specs.Machine.{Stopped, Closed, Fall, nowhere, taking, keeping, fall, step}
 use Rattle.reckoning.specs.Session.{settled}
 use Rattle.session.specs.bridge.Counting.{bumped, Counted}
-use Rattle.session.specs.bridge.Running.{Move, Emit, Back, Wait, Close, standing, stepBy, Fits, Decides, put, storeOf, Placed, Lent, Advances, Beyond, Between, Halted, Waits, readTo, Passes, Stands, ReadsOn, Moves, acceptNow}
+use Rattle.session.specs.bridge.Running.{Move, Emit, Back, Wait, Close, standing, stepBy, Fits, Decides, put, storeOf, Placed, Lent, Advances, Beyond, Between, Halted, Waits, readTo, Passes, Stands, ReadsOn, MovesAt, Moves, Takes, LeavesUnit, acceptNow}
 use Rattle.session.specs.declared.run.Ran.{Ran}
 use Rattle.session.specs.declared.run.Ahead.{Ahead}
 use Rattle.reckoning.proofs.Laws.Walk.{settled-both}
 use Rattle.reckoning.proofs.Laws.Run.{step-settled, step-wait, step-end, step-close, step-giveBack}
 use Rattle.session.proofs.Laws.Counting.{counted-bumped}
-use Rattle.session.proofs.Laws.Running.{rule-fits, character-emits, character-backs, decides-character, beyond-put, advances-emit, advances-default, advances-stop, advances-wait, advances-close, beyond-on}
+use Rattle.session.proofs.Laws.Running.{rule-fits, character-emits, character-backs, decides-character, beyond-put, advances-emit, advances-one, advances-pair, advances-stop, advances-leave, advances-wait, advances-close, beyond-on}
 
 -- The machine's step where the run stands.
 module _ (w u : List ℕ) (W : T (sound w)) (q : ℕ) (b : q < stateCount w) (before after : ℕ) where
@@ -121,28 +122,40 @@ module _ (w u : List ℕ) (W : T (sound w)) (old : Ran) (before : Lent) (P : Pla
       advances-emit w u ended W old before P new g after d f (B .state) (B .from) (B .at) (B .count) (B .steps) e c,
       counted-on (g .0) after c (omega (arith, f .2, P .depth, B .from)),
     ),
-    beyond-put w u old (before .output) P new (g .0) (storeOf u old) (after .output) (B .count) e,
+    beyond-put w u old (before .output) P new (blockOutput (blockAt w (g .0)) (storeOf u old)) (after .output) (at (blockAt w (g .0)) 2)
+        (length-blockOutput (blockAt w (g .0)) (storeOf u old)) (B .count) e,
   )
 
-  pub default-moves : (after : Lent) → old .from < length u → fromWords w .default ≡ true →
-      Between (old .from + 1) (old .count + at (blockAt w defaultNumber) 2) (old .steps + 3) new →
-      after .output ≡ put (before .output) (old .count) (blockOutput (blockAt w defaultNumber) (take 1 (drop (old .from) u))) →
-      after .uses ≡ bumped (before .uses) defaultNumber 1 →
-      Moves w u (length (before .output)) old before Back new after × Beyond old (before .output) new (after .output)
-  default-moves after some d B e c = (
-    λ ended st. on-as ended after false (B .going) (
-      advances-default w u ended W old before P new st some after d (B .state) (B .from) (B .at) (B .count) (B .steps) e c .0,
-      counted-on defaultNumber after c (omega (arith, B .from)),
-    ),
-    beyond-put w u old (before .output) P new defaultNumber (take 1 (drop (old .from) u)) (after .output) (B .count) e,
-  )
+  -- a roll-back, by what it leads to
+  module _ (ended : Bool) (some : old .from < length u) where
+    abbrev Falls : Fall → Type 0
+    Falls f = fall (fromWords w .default) ended (drop (old .from) u) ≡ f
 
-  pub stop-moves : old .from < length u → fromWords w .default ≡ false → Halted Stopped (old .steps + 2) old new →
-      Moves w u (length (before .output)) old before Back new before × Beyond old (before .output) new (before .output)
-  stop-moves some d H = (
-    λ ended st. on-as ended before true (H .done) (advances-stop w u ended W old before P new st some d (H .status) (H .state) (H .from) (H .at) (H .count) (H .steps)),
-    (omega (arith, H .count), refl),
-  )
+    abbrev Rolls : Lent → Type 0
+    Rolls after = MovesAt w u ended (length (before .output)) old before Back new after × Beyond old (before .output) new (after .output)
+
+    pub one-moves : (after : Lent) → Takes w u old before defaultNumber 1 new after → Falls (taking defaultNumber 1) → at w 5 ≢ 0 → Rolls after
+    one-moves after t f e = (
+      λ st. on-as ended after false (t .between .going)
+          (advances-one w u ended W old before P new st some after t f e .0, counted-on defaultNumber after (t .counted) (omega (arith, t .between .from))),
+      beyond-put w u old (before .output) P new _ (after .output) _ refl (t .between .count) (t .wrote),
+    )
+
+    pub pair-moves : (after : Lent) → Takes w u old before pairNumber 2 new after → Falls (taking pairNumber 2) → old .from + 2 ≤ length u → 1 ≤ expansionWord w → Rolls after
+    pair-moves after t f room e = (
+      λ st. on-as ended after false (t .between .going)
+          (advances-pair w u ended W old before P new st some after t f room e .0, counted-on pairNumber after (t .counted) (omega (arith, t .between .from))),
+      beyond-put w u old (before .output) P new _ (after .output) _ refl (t .between .count) (t .wrote),
+    )
+
+    pub stop-moves : Falls nowhere → Halted Stopped (old .steps + 2) old new → Rolls before
+    stop-moves f H = (
+      λ st. on-as ended before true (H .done) (advances-stop w u ended W old before P new st some f (H .status) (H .state) (H .from) (H .at) (H .count) (H .steps)),
+      (omega (arith, H .count), refl),
+    )
+
+    pub leave-moves : Falls keeping → LeavesUnit old new → Rolls before
+    leave-moves f U = (λ st. on-as ended before true (U .done) (advances-leave w u ended W old before P new st some f U), (omega (arith, U .count), refl))
 
   pub wait-moves : (ended : Bool) → Decides w u ended (old .state .0) (old .from) (old .at) Wait → Waits old new →
       Advances w u ended (length (before .output)) old before (new .done) new before × Beyond old (before .output) new (before .output)

@@ -6,19 +6,21 @@ use Prim.Native.Nat.{ℕ, suc, _+_, _*_, _-_, _≤_, _<_}
 use lib.Dec.{T, eqb, ltb}
 use lib.ListN.{length, getD, take, drop}
 use Rattle.meaning.specs.Meaning.{Emission, textOf, covered}
-use Rattle.meaning.specs.Table.{defaultNumber}
+use Rattle.meaning.specs.Table.{defaultNumber, pairNumber}
 use Rattle.meaning.specs.Block.{at}
 use Rattle.automaton.specs.Classes.{classOf}
 use Rattle.automaton.specs.Sound.{sound, expansionWord, classCount, stateCount, depthWord, acceptWord, acceptAtEndWord, used, blockAt}
 use Rattle.automaton.specs.Automaton.{fromWords}
-use Rattle.reckoning.specs.Machine.{Configuration, Step, Status, Open, Closed, halt, emit, read, rollBack, end, step, Ended, steps, run, start}
-use Rattle.reckoning.specs.Session.{path, isAt}
-use Rattle.reckoning.specs.Uses.{usesAfter}
+use Rattle.reckoning.specs.Machine.{Configuration, Step, Status, Open, Closed, halt, emit, read, rollBack, end, Fall, nowhere, taking, keeping, step, Ended, steps, run, start}
+use Rattle.reckoning.specs.Session.{standsAt}
+use Rattle.reckoning.specs.Uses.{useCounts, usesAfter}
 use Rattle.session.specs.Keeping.{meantStatus}
 use Rattle.session.specs.bridge.Counting.{bumped, Counted}
 use Rattle.words.specs.declared.numbers.RuleNo.{RuleNo}
 use Rattle.words.specs.declared.numbers.StateNo.{StateNo}
 use Rattle.session.specs.declared.kept.Status.the-variants as Code
+use Rattle.session.specs.declared.run.Fall.{Fall as Falls}
+use Rattle.session.specs.declared.run.Fall.the-variants as Falls
 use Rattle.session.specs.declared.run.Ran.{Ran}
 use Rattle.session.specs.declared.run.Ahead.{Ahead}
 use Rattle.automaton.specs.Layout.{classesFrom}
@@ -203,7 +205,7 @@ Passes w u room old before new after =
 abbrev pub PassesByDefaults : List ℕ → List ℕ → Ran → List ℕ → Ran → List ℕ → Type 0
 PassesByDefaults w u old before new after =
     (old .from ≤ new .from)
-    × ((uses : List ℕ) → length uses ≡ 33 →
+    × ((uses : List ℕ) → length uses ≡ useCounts →
     Passes w u (length before) old (lent before uses) new (lent after (bumped uses defaultNumber (new .from - old .from))))
 
 -- the run stands before a character without a target, or at the text's end
@@ -219,9 +221,49 @@ pub record ReadsOn (w u : List ℕ) (now : Ran) (a : Ahead) : Type 0 where
   pub free : a .stuck ≡ false → a .at < length u → now .at < a .at
 
 -- what is done where the machine's next step is this move
+abbrev pub MovesAt : List ℕ → List ℕ → Bool → ℕ → Ran → Lent → Move → Ran → Lent → Type 0
+MovesAt w u ended room old before v new after =
+    Decides w u ended (old .state .0) (old .from) (old .at) v → Advances w u ended room old before (new .done) new after
+
+-- the same, whether or not the input has ended
 abbrev pub Moves : List ℕ → List ℕ → ℕ → Ran → Lent → Move → Ran → Lent → Type 0
-Moves w u room old before v new after =
-    (ended : Bool) → Decides w u ended (old .state .0) (old .from) (old .at) v → Advances w u ended room old before (new .done) new after
+Moves w u room old before v new after = (ended : Bool) → MovesAt w u ended room old before v new after
+
+-- what a roll-back leads to
+abbrev pub fallOf : Falls → Fall
+fallOf Falls.Nowhere = nowhere
+fallOf Falls.One = taking defaultNumber 1
+fallOf Falls.Pair = taking pairNumber 2
+fallOf Falls.Keep = keeping
+
+-- group g took k characters from the store's first on, and wrote for them
+pub record Takes (w u : List ℕ) (old : Ran) (before : Lent) (g k : ℕ) (new : Ran) (after : Lent) : Type 0 where
+  pub between : Between (old .from + k) (old .count + length (fromWords w .write g (take k (drop (old .from) u)))) (old .steps + (k + 2)) new
+  pub wrote : after .output ≡ put (before .output) (old .count) (fromWords w .write g (take k (drop (old .from) u)))
+  pub counted : after .uses ≡ bumped (before .uses) g 1
+
+-- a first unit is left at state 0, after the back
+pub record LeavesUnit (old new : Ran) : Type 0 where
+  pub done : new .done ≡ true
+  pub status : meantStatus (new .status) ≡ Open
+  pub state : new .state .0 ≡ 0
+  pub from : new .from ≡ old .from
+  pub at : new .at ≡ old .from + 1
+  pub count : new .count ≡ old .count
+  pub steps : new .steps ≡ old .steps + 1
+
+-- the run with so many steps fewer
+abbrev pub lessSteps : Ran → ℕ → Ran
+lessSteps now made =
+    record {
+      done = now .done;
+      status = now .status;
+      state = now .state;
+      from = now .from;
+      at = now .at;
+      count = now .count;
+      steps = now .steps - made;
+    }
 
 -- the word of the rule that is emitted where the machine has read on
 abbrev pub acceptNow : List ℕ → ℕ → Bool → Bool → ℕ
@@ -229,11 +271,11 @@ acceptNow w q true ended = acceptWord w q
 acceptNow w q false true = acceptAtEndWord w q
 acceptNow w q false false = cond (used (acceptWord w q) && eqb (acceptWord w q) (acceptAtEndWord w q)) (acceptWord w q) 0
 
--- what a run over a piece asks: sound words, few given characters, which lead to state q, no room or room for all that may be written, and
+-- what a run over a piece asks: sound words, few given characters, held at state q, no room or room for all that may be written, and
 -- counted uses
 abbrev pub Runnable : List ℕ → List ℕ → List ℕ → ℕ → Lent → Type 0
 Runnable w given piece q has =
-    (T (sound w) × T (isAt q (path (fromWords w) 0 given)))
+    (T (sound w) × T (standsAt (fromWords w) q given))
     × (((length given ≤ 8) × (length given + length piece ≤ 1099511627784))
     × ((1 ≤ length (has .output) → expansionWord w * (length given + length piece) ≤ length (has .output)) × Counted (has .uses) 0))
 

@@ -2,7 +2,7 @@
 -- Range by range and term by term, each from where those before it led.
 use mathlib.Core.Bool.{Bool, true}
 use mathlib.Core.List.{List, [], _∷_, _++_, map, append-nil}
-use mathlib.Core.Option.{some}
+use mathlib.Core.Option.{Option, some}
 use mathlib.Core.Path.{_≡_, refl, sym, subst, _∙_}
 use Prim.Native.Nat.{ℕ, suc, _+_, _/_, _%_, _≤_}
 use native.Mathlib.Omega.{arith}
@@ -10,7 +10,7 @@ use lib.IntN.{ℤ}
 use lib.ListN.{length, length-append}
 use lib.Seq.{append-snoc}
 use Rattle.lists.specs.Lists.{Each, flatMap, atLast}
-use Rattle.meaning.specs.Table.{Range, Output, sum, Group}
+use Rattle.meaning.specs.Table.{Range, Output, sum, Group, Mark}
 use Rattle.meaning.specs.Record.{Record, range, output, term, decode}
 use Rattle.meaning.specs.Reader.{signed, skipping, addRange, putAt, addTerm, changeRanges, changeOutputs, taken}
 use Rattle.meaning.specs.WellFormed.{Signed}
@@ -45,7 +45,7 @@ ranged k anchored ps = record { size = k; anchored = anchored; ranges = ps; outp
 abbrev pub writing : Group → List Output → Group
 writing g os = record { size = g .size; anchored = g .anchored; ranges = g .ranges; outputs = os }
 
-module _ (d : Bool) (gs : List Group) (k : ℕ) (anchored : Bool) where
+module _ (d : Option Mark) (gs : List Group) (k : ℕ) (anchored : Bool) where
   abbrev group : List (List Range) → Group
   group ps = ranged k anchored ps
 
@@ -103,7 +103,7 @@ pub record Fitting (t : Tree) : Type 0 where
   pub constant-32 : Signed 32 (constant (partOf t))
   pub coefficients-16 : Each (Signed 16) (coefficients (partOf t))
 
-module _ (d : Bool) (gs : List Group) (g : Group) (full : length (g .ranges) ≡ g .size) where
+module _ (d : Option Mark) (gs : List Group) (g : Group) (full : length (g .ranges) ≡ g .size) where
   output-leads : (os : List Output) (c : ℤ) → Signed 32 c → Leads d gs (writing g os) (outputRecord c) (writing g (os ++ (sum c [] ∷ [])))
   unfolding taken skipping
   output-leads os c s =

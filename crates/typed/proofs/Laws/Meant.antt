@@ -2,20 +2,28 @@
 -- Definition 7 looks at no output character, and an output character has its expression's value at every word.
 use mathlib.Core.Bool.{Bool, true, false, cond}
 use mathlib.Core.List.{List, [], _∷_, _++_, map}
-use mathlib.Core.Option.{some}
-use mathlib.Core.Path.{_≡_, refl, sym, ap, ap₂, _∙_}
-use Prim.Native.Nat.{ℕ, zero, suc}
+use mathlib.Core.Logic.{_≢_}
+use mathlib.Core.Option.{Option, none, some}
+use mathlib.Core.Path.{_≡_, refl, sym, ap, ap₂, subst, _∙_}
+use Prim.Native.Nat.{ℕ, zero, suc, pred, _<_}
+use native.Mathlib.Omega.{arith}
+use borrow.Author.Tests.{ne-eqb}
 use lib.Dec.{eqb}
 use lib.IntN.{ℤ, pos, negsuc, natAbs, _+ℤ_, _*ℤ_}
 use lib.ListN.{getD, List·getD-map}
 use Rattle.lists.specs.Lists.{Each, flatMap, orElse}
 use Rattle.lists.proofs.Laws.Each.{each-append, each-anywhere}
 use Rattle.meaning.specs.Refusal.{accepted}
-use Rattle.meaning.specs.Table.{Table, everyCharacter, ruleAt, group, defaultNumber}
+use Rattle.meaning.specs.Table.{Group, unmarked, Paired, Table, modeOf, mode, everyCharacter, ruleAt, group, defaultNumber, pairNumber}
 use Rattle.meaning.specs.Value.{dot, value}
-use Rattle.meaning.specs.Meaning.{written, Emission, textOf, covered, convert, meaningText, meaningPlace}
+use Rattle.meaning.specs.Meaning.{choose, written, Emission, textOf, covered, convertBy, convertFrom, convert, meaningText, meaningPlace}
 use Rattle.meaning.specs.Reader.{readTable}
 use Rattle.meaning.specs.Records.{terms}
+use Rattle.meaning.specs.bridge.Flat.{markBy}
+use Rattle.meaning.proofs.Laws.Shape.{Shaped}
+use Rattle.meaning.proofs.Laws.Reading.{read-shaped}
+use Rattle.meaning.proofs.Laws.Direct.{table-rules}
+use Rattle.meaning.proofs.Laws.Choice.{Numbered, plain, paired, choose-number}
 use Rattle.meaning.proofs.Laws.Terms.{allPut, put-behind}
 use Rattle.meaning.proofs.Laws.Bare.{bareGroup, bareDefault, bare, convert-bare}
 use Rattle.expression.specs.Grammar.{Tree}
@@ -85,9 +93,9 @@ default-one P otherwise ts h = (h, tt)
 abbrev pub lineAt : List Line → ℕ → Line
 lineAt ls n = cond (eqb n defaultNumber) (getD (flatMap defaultOf ls) 0 silent) (getD (flatMap ruleOf ls) n silent)
 
-pub group-line : (ls : List Line) (n : ℕ) → group (tableOf ls) n ≡ lineGroup (lineAt ls n)
+pub group-line : (ls : List Line) (n : ℕ) → n < pairNumber → group (tableOf ls) n ≡ lineGroup (lineAt ls n)
 unfolding group tableOf
-group-line ls n = of (eqb n defaultNumber)
+group-line ls n h = rw (ne-eqb n 33 (omega arith)) (of (eqb n defaultNumber))
   where
     first : (ds : List Line) → orElse (everyCharacter []) (firstOf (map lineGroup ds)) ≡ lineGroup (getD ds 0 silent)
     first [] = refl
@@ -114,10 +122,10 @@ line-at P ls n e s = of (eqb n defaultNumber)
     of true = each-anywhere P (flatMap defaultOf ls) 0 silent (picked P defaultOf (λ l. default-one P (l .head) (l .outputs)) ls e) s
     of false = each-anywhere P (flatMap ruleOf ls) n silent (picked P ruleOf (λ l. rule-one P (l .head) (l .outputs)) ls e) s
 
-written-meant : (ls : List Line) → Each LineFits ls → (n : ℕ) (w : List ℕ) → written (group (tableOf ls) n) w ≡ writes ls n w
+written-meant : (ls : List Line) → Each LineFits ls → (n : ℕ) (w : List ℕ) → n < pairNumber → written (group (tableOf ls) n) w ≡ writes ls n w
 unfolding writes
-written-meant ls f n w =
-    ap (λ g. written g w) (group-line ls n)
+written-meant ls f n w h =
+    ap (λ g. written g w) (group-line ls n h)
     ∙ line-written w (lineAt ls n) (line-at LineFits ls n f (record { head = tt; outputs = tt }))
     ∙ ap (map (λ t. natAbs (valueAt w t))) (sym (line-expressions ls n))
 
@@ -133,26 +141,65 @@ bare-first (l ∷ ls) = ap some (sym (head-bare (l .head)))
 
 pub bare-table : (ls : List Line) → bare (tableOf ls) ≡ patterns ls
 unfolding tableOf patterns
-bare-table ls = ap₂ (λ rs d. record { rules = rs; default = d }) (bare-groups (flatMap ruleOf ls)) (bare-first (flatMap defaultOf ls))
+bare-table ls =
+    λ i. record { rules = bare-groups (flatMap ruleOf ls) i; default = bare-first (flatMap defaultOf ls) i; mark = same (tableOf ls .default) i }
+  where
+    same : (d : Option Group) → markBy (modeOf d unmarked) ≡ unmarked
+    same none = refl
+    same (some g) = refl
 
 same-choices : (ls : List Line) (input : List ℕ) → convert (tableOf ls) input ≡ choices ls input
 unfolding choices
 same-choices ls input = sym (convert-bare (tableOf ls) input) ∙ ap (λ t. convert t input) (bare-table ls)
 
-same-text : (f g : ℕ → List ℕ → List ℕ) → ((n : ℕ) (w : List ℕ) → f n w ≡ g n w) → (log : List Emission) → textOf f log ≡ textOf g log
+-- no text has a mark, so that no pair is chosen
+
+lines-single : (ls : List Line) → mode (tableOf ls) ≢ Paired
+unfolding tableOf
+lines-single ls = of (firstOf (map lineGroup (flatMap defaultOf ls)))
+  where
+    of : (d : Option Group) → modeOf d unmarked ≢ Paired
+    of none e = let z : _≡_ {A = ℕ} 0 1 = cc in omega arith
+    of (some g) e = let z : _≡_ {A = ℕ} 0 1 = cc in omega arith
+
+module _ (t : Table) (s : Shaped t) (single : mode t ≢ Paired) where
+  pub chosen-plain : (u : List ℕ) (n : ℕ) → choose t u ≡ some n → n < pairNumber
+  chosen-plain u n e = of (choose-number t s u n e)
+    where
+      of : Numbered t u n → n < pairNumber
+      of (plain l) = l
+      of (paired p m q) = absurd (single m)
+
+  from-plain : (skip : ℕ) (u : List ℕ) → Each (λ e. e .group < pairNumber) (convertFrom t skip u .log)
+  unfolding convertFrom
+  from-plain skip [] = tt
+  from-plain (suc skip) (c ∷ u) = from-plain skip u
+  from-plain zero (c ∷ u) = go (choose t (c ∷ u)) (chosen-plain (c ∷ u)) (λ skip. from-plain skip u)
+    where
+      go : (o : Option ℕ) → ((n : ℕ) → o ≡ some n → n < pairNumber) → ((skip : ℕ) → Each (λ e. e .group < pairNumber) (convertFrom t skip u .log)) →
+          Each (λ e. e .group < pairNumber) (convertBy t o (c ∷ u) (λ skip. convertFrom t skip u) .log)
+      go none f onward = tt
+      go (some n) f onward = (f n refl, onward (pred (group t n .size)))
+
+same-text : (f g : ℕ → List ℕ → List ℕ) → ((n : ℕ) (w : List ℕ) → n < pairNumber → f n w ≡ g n w) → (log : List Emission) →
+    Each (λ e. e .group < pairNumber) log → textOf f log ≡ textOf g log
 unfolding textOf
-same-text f g h [] = refl
-same-text f g h (e ∷ log) = ap₂ (λ u v. u ++ v) (h (e .group) (e .word)) (same-text f g h log)
+same-text f g h [] a = refl
+same-text f g h (e ∷ log) a = ap₂ (λ u v. u ++ v) (h (e .group) (e .word) (a .0)) (same-text f g h log (a .1))
 
 module _ (ls : List Line) (proper : LinesProper ls) (fine : linesWithin17 ls ≡ true) (t : Table) (read : readTable (records ls) ≡ accepted t) (input : List ℕ) where
+  pub is-single : mode t ≢ Paired
+  is-single = subst (λ t. mode t ≢ Paired) (sym (accepted-table ls proper fine t read)) (lines-single ls)
+
   pub meant-choices : convert t input ≡ choices ls input
   meant-choices = ap (λ t. convert t input) (accepted-table ls proper fine t read) ∙ same-choices ls input
 
   pub meant-text : meaningText t input ≡ typedText ls input
+  unfolding convert
   meant-text =
       same-text (λ n w. written (group t n) w) (writes ls)
-      (λ n w. ap (λ t. written (group t n) w) (accepted-table ls proper fine t read) ∙ written-meant ls (lines-fit ls proper fine) n w)
-      (convert t input .log)
+      (λ n w h. ap (λ t. written (group t n) w) (accepted-table ls proper fine t read) ∙ written-meant ls (lines-fit ls proper fine) n w h)
+      (convert t input .log) (from-plain t (read-shaped (records ls) t (table-rules (records ls) t read)) is-single 0 input)
       ∙ ap (λ c. textOf (writes ls) (c .log)) meant-choices
 
   pub meant-place : meaningPlace t input ≡ typedPlace ls input

@@ -13,7 +13,7 @@ use lib.Seq.{take-at, drop-append-add}
 use Rattle.lists.specs.Lists.{Each, any, flatMap}
 use Rattle.lists.proofs.Laws.Tests.{or-none, split}
 use Rattle.meaning.specs.Refusal.{refused}
-use Rattle.meaning.specs.Table.{Range}
+use Rattle.meaning.specs.Table.{Range, unmarked}
 use Rattle.meaning.specs.Reader.{readTable}
 use Rattle.meaning.specs.WellFormed.{Signed}
 use Rattle.meaning.specs.Records.{littleEndian, rangeRecord, termRecord, rangeRecords, terms, Known, rule, range, output, term, default, hexadecimal, recordAt}
@@ -42,7 +42,7 @@ known-long (rule k anchored h l) = refl
 known-long (range p r h w) = refl
 known-long (output c h) = refl
 known-long (term x h s n) = refl
-known-long default = refl
+known-long (default m) = refl
 known-long (hexadecimal p shift h s) = refl
 
 known-alone : {b : List ℕ} → Known b → AllKnown b
@@ -84,7 +84,7 @@ unfolding headRecords
 head-known (pattern p) w t =
     let few : length (p .items) ≤ 8 = w .few-items in
     next-known (rule (length (p .items)) (p .anchored) (w .some-item) few) (items-known 0 (p .items) (omega arith) (w .items) t)
-head-known otherwise w t = known-alone default
+head-known otherwise w t = known-alone (default unmarked)
 
 terms-known : (p : ℕ) (ks : List ℤ) → p + length ks ≤ 8 → Each (Signed 16) ks → AllKnown (flatMap termRecord (terms p ks))
 terms-known p [] h w = none-left

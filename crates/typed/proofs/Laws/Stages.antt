@@ -9,6 +9,7 @@ use borrow.Author.Tests.{eq-eqb, ne-eqb, ltb-true, ltb-false}
 use lib.Dec.{ltb}
 use lib.ListN.{length, drop}
 use Rattle.lists.specs.Lists.{isEmpty}
+use Rattle.meaning.specs.Table.{unmarked}
 use Rattle.meaning.specs.Records.{defaultRecord}
 use Rattle.expression.specs.Grammar.{Tree}
 use Rattle.expression.specs.bridge.Text.{Read, refused, got, mapRead, skip, first, behind, expressionOf, bracketed}
@@ -40,7 +41,7 @@ module _ (st : State) where
     unfolding headOf
     head-pattern h = rw (← e, eq-eqb (first u) 34 h) (map-map (λ h. feedHead h st) pattern (patternOf (behind u)))
 
-    pub head-default : (first u ≡ 34 → ⊥) → mapRead (λ h. feedHead h st) (headOf t) ≡ mapRead (λ _. feed defaultRecord st) (symbol elseWord t)
+    pub head-default : (first u ≡ 34 → ⊥) → mapRead (λ h. feedHead h st) (headOf t) ≡ mapRead (λ _. feed (defaultRecord unmarked) st) (symbol elseWord t)
     unfolding headOf
     head-default n = rw (← e, ne-eqb (first u) 34 n) (map-map (λ h. feedHead h st) (λ _. otherwise) (symbol elseWord t))
 

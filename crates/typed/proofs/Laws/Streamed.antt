@@ -10,7 +10,7 @@ use Rattle.lists.proofs.Laws.Tests.{to-T, of-T}
 use Rattle.lists.proofs.Laws.Each.{each-append, all-each}
 use Rattle.lists.proofs.Laws.Folds.{foldLeft-append, flatMap-append}
 use Rattle.lists.proofs.Laws.Parts.{flat}
-use Rattle.meaning.specs.Table.{Range}
+use Rattle.meaning.specs.Table.{Range, unmarked}
 use Rattle.meaning.specs.Records.{ruleRecord, rangeRecord, outputRecord, termRecord, rangeRecords, terms, defaultRecord}
 use Rattle.expression.specs.declared.part.Part.{Part}
 use Rattle.expression.specs.Grammar.{Tree}
@@ -61,7 +61,7 @@ items-feed p (rs ∷ ps) = feeds-then (feeds-every (λ r. feed (rangeRecord p r)
 head-feeds : (h : Head) → Feeds (feedHead h) (headRecords h)
 unfolding headRecords
 head-feeds (pattern q) = feeds-then (feeds-one (ruleRecord (length (q .items)) (q .anchored)) refl) (items-feed 0 (q .items))
-head-feeds otherwise = feeds-one defaultRecord refl
+head-feeds otherwise = feeds-one (defaultRecord unmarked) refl
 
 -- expressions
 

@@ -16,8 +16,10 @@ use Rattle.meaning.specs.Direct.{over}
 use Rattle.meaning.specs.bridge.Flat.{loadedSize, safeAt, Flat}
 use Rattle.meaning.proofs.Laws.Refusal.{accepted-not, accepted-same}
 use Rattle.rules.specs.declared.reader.Reader.{Reader}
+use Rattle.rules.specs.declared.mode.Mode.{Mode}
 use Rattle.rules.specs.declared.load.Load.{Load}
 use Rattle.rules.specs.declared.load.Load.the-variants as Load
+use Rattle.rules.specs.bridge.Modes.{theMode}
 use Rattle.rules.specs.bridge.Summary.{started, gap, Fitting}
 use Rattle.rules.specs.bridge.Readings.{endOf, LoadedBy}
 use Rattle.rules.proofs.Laws.Stepping.{started-fitting}
@@ -147,7 +149,7 @@ module _ {text buffer : List ℕ} {s : State} (x : Surveyed text buffer s) where
         pub end-fits : (reader .rules ≤ 32) × (gap reader ≡ false → 1 ≤ reader .rules → Flat (s .loaded))
         end-fits = end-needs bytesOf bytes refl (records-whole (x .lines)) reader (s .loaded) (sym a ∙ answered) array
 
-        module _ (load : Load) (end : load ≡ endOf reader (safeAt (s .loaded) (reader .rules) (reader .defaulted))) where
+        module _ (load : Load) (end : load ≡ endOf reader (safeAt (s .loaded) (reader .rules) (theMode (reader .mode)))) where
           loads : LoadedBy (readTable bytesOf) load (s .loaded)
           loads = end-loaded bytesOf bytes refl (records-whole (x .lines)) reader (s .loaded) (sym a ∙ answered) array load end
 
@@ -155,7 +157,7 @@ module _ {text buffer : List ℕ} {s : State} (x : Surveyed text buffer s) where
           pub unfit-end : (n : ℕ) → load ≡ Load.Refused n → textRecords text ≡ refused n
           unfit-end n q = table-refused n (is-refused bytesOf load (s .loaded) loads n q)
 
-          pub fit-end : (n : ℕ) (d : Bool) → load ≡ Load.Accepted n d → (b : List ℕ) × (textRecords text ≡ accepted b) × (s .count ≡ length b)
+          pub fit-end : (n : ℕ) (d : Mode) → load ≡ Load.Accepted n d → (b : List ℕ) × (textRecords text ≡ accepted b) × (s .count ≡ length b)
           unfolding andThen
           fit-end n d q =
               let e = of-read bytesOf load (s .loaded) loads n d q (λ _ _ _. andThen (readTable bytesOf) (λ t. accepted bytesOf) ≡ accepted bytesOf) (λ t p. rw p) in

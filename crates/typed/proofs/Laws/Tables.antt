@@ -2,7 +2,7 @@
 -- The records of each line lead from the groups before it to those with its own; a line behind `else` is refused.
 use mathlib.Core.Bool.{Bool, true, false, not}
 use mathlib.Core.List.{List, [], _∷_, _++_, map, append-nil}
-use mathlib.Core.Option.{none, some}
+use mathlib.Core.Option.{Option, none, some}
 use mathlib.Core.Path.{_≡_, refl, sym, ap, subst, _∙_}
 use Prim.Native.Nat.{ℕ, _*_, _/_, _%_, _<_}
 use native.Mathlib.Nat.{div-add-mod}
@@ -16,7 +16,7 @@ use Rattle.lists.specs.Lists.{Each, all, flatMap}
 use Rattle.lists.proofs.Laws.Tests.{to-T, of-T, and-left, and-right, any-more, by-cases, eq→eqb}
 use Rattle.lists.proofs.Laws.Each.{all-each, each-weaken, each-both}
 use Rattle.meaning.specs.Refusal.{refused, accepted}
-use Rattle.meaning.specs.Table.{Group, Table, everyCharacter}
+use Rattle.meaning.specs.Table.{Group, Mark, unmarked, Table, everyCharacter}
 use Rattle.meaning.specs.Record.{rule, default}
 use Rattle.meaning.specs.Reader.{Reading, unread, unfilled, misplaced, skipping, taken, readRecords, readEnd, readRules, readTable}
 use Rattle.meaning.specs.WellFormed.{Signed}
@@ -39,7 +39,7 @@ abbrev pub lineGroup : Line → Group
 lineGroup l = writing (groupOf l) (map outputOf (l .outputs))
 
 unfoldable pub tableOf : List Line → Table
-tableOf ls = record { rules = map lineGroup (flatMap ruleOf ls); default = firstOf (map lineGroup (flatMap defaultOf ls)) }
+tableOf ls = record { rules = map lineGroup (flatMap ruleOf ls); default = firstOf (map lineGroup (flatMap defaultOf ls)); mark = unmarked }
 
 -- an expression that 17 does not refuse has numbers as wide as the fields of records
 
@@ -80,13 +80,14 @@ lines-fit ls w e =
 
 -- one line
 
-abbrev isDefault : Head → Bool
-isDefault (pattern p) = false
-isDefault otherwise = true
+-- a default's mark, which no text has
+abbrev markIn : Head → Option Mark
+markIn (pattern p) = none
+markIn otherwise = some unmarked
 
 -- where no default was read before, the group is added
 abbrev Added : Reading → Head → Group → Reading → Type 0
-Added s h g r = (s .table .default ≡ none) × (r .table ≡ holding (isDefault h) (s .table .rules) g)
+Added s h g r = (s .table .default ≡ none) × (r .table ≡ holding (markIn h) (s .table .rules) g)
 
 head-goes : (h : Head) → ProperHead h → (s : Reading) → T (not (unfilled s)) → Goes s (headRecords h) (Added s h (groupOf (record { head = h; outputs = [] })))
 unfolding headRecords misplaced skipping taken
@@ -97,9 +98,9 @@ head-goes (pattern p) w s u =
     let done = Added s (pattern p) (record { size = k; anchored = a; ranges = p .items; outputs = [] }) in
     goes-on begun done s (ruleRecord k a) (rangeRecords 0 (p .items)) (1, refl)
     (goes-one begun s (ruleRecord k a) (rule k a) refl (known _ _ (read-rule k a (w .some-item) (w .few-items))) (λ m. (u, (is-none (s .table .default) m, refl))))
-    (λ r q. goes-so _ done r (rangeRecords 0 (p .items)) (λ v e. (q .0, e)) (items-lead false (s .table .rules) k a [] (p .items) (w .items) r (q .1)))
+    (λ r q. goes-so _ done r (rangeRecords 0 (p .items)) (λ v e. (q .0, e)) (items-lead none (s .table .rules) k a [] (p .items) (w .items) r (q .1)))
 head-goes otherwise w s u =
-    goes-one (Added s otherwise (everyCharacter [])) s defaultRecord default refl (known _ _ read-default) (λ m. (u, (is-none (s .table .default) m, refl)))
+    goes-one (Added s otherwise (everyCharacter [])) s (defaultRecord unmarked) (default unmarked) refl (known _ _ (read-default unmarked)) (λ m. (u, (is-none (s .table .default) m, refl)))
 
 head-full : (h : Head) (ts : List Tree) → length (groupOf (record { head = h; outputs = ts }) .ranges) ≡ groupOf (record { head = h; outputs = ts }) .size
 head-full (pattern p) ts = refl
@@ -117,12 +118,12 @@ line-goes l w s u =
     let written = flatMap (λ t. outputRecords (partOf t)) ts in
     goes-on (Added s h (groupOf l)) (Added s h (lineGroup l)) s (headRecords h) written (head-whole h) (head-goes h (w .head) s u)
     (λ r q. goes-so _ (Added s h (lineGroup l)) r written (λ v e. (q .0, e))
-    (outputs-lead (isDefault h) (s .table .rules) (groupOf l) (head-full h ts) [] ts (w .outputs) r (q .1 ∙ ap (holding (isDefault h) (s .table .rules)) (head-bare h))))
+    (outputs-lead (markIn h) (s .table .rules) (groupOf l) (head-full h ts) [] ts (w .outputs) r (q .1 ∙ ap (holding (markIn h) (s .table .rules)) (head-bare h))))
 
 line-filled : (l : Line) (s r : Reading) → Added s (l .head) (lineGroup l) r → T (not (unfilled r))
 line-filled l s r q =
-    by-table (λ v. T (not (unfilled v))) (isDefault (l .head)) (s .table .rules) (lineGroup l)
-    (filled (isDefault (l .head)) (s .table .rules) (lineGroup l) (head-full (l .head) (l .outputs))) r (q .1)
+    by-table (λ v. T (not (unfilled v))) (markIn (l .head)) (s .table .rules) (lineGroup l)
+    (filled (markIn (l .head)) (s .table .rules) (lineGroup l) (head-full (l .head) (l .outputs))) r (q .1)
 
 -- line after line
 
@@ -135,10 +136,10 @@ last-goes Q (l ∷ ls) w s g e u h =
     (λ r q. absurd (let n : none ≡ some g = sym (q .0) ∙ e in let z : _≡_ {A = ℕ} 0 1 = cc in omega arith))
 
 abbrev Done : List Group → List Line → Reading → Type 0
-Done gs ls r = (r .table ≡ record { rules = gs ++ tableOf ls .rules; default = tableOf ls .default }) × T (not (unfilled r))
+Done gs ls r = (r .table ≡ record { rules = gs ++ tableOf ls .rules; default = tableOf ls .default; mark = tableOf ls .mark }) × T (not (unfilled r))
 
 abbrev LinesGo : List Line → Type 0
-LinesGo ls = (gs : List Group) (s : Reading) → s .table ≡ record { rules = gs; default = none } → T (not (unfilled s)) → Goes s (records ls) (Done gs ls)
+LinesGo ls = (gs : List Group) (s : Reading) → s .table ≡ record { rules = gs; default = none; mark = unmarked } → T (not (unfilled s)) → Goes s (records ls) (Done gs ls)
 
 next-goes : (h : Head) (ts : List Tree) (ls : List Line) → LineFits (record { head = h; outputs = ts }) → Each LineFits ls → LinesGo ls → LinesGo (record { head = h; outputs = ts } ∷ ls)
 unfolding tableOf records
@@ -148,20 +149,20 @@ next-goes (pattern p) ts ls w v onward gs s e u =
     goes-on (Added s (pattern p) g) (Done gs (l ∷ ls)) s (lineRecords l) (records ls) (line-whole l) (line-goes l w s u)
     (λ r q.
     goes-so (Done (gs ++ (g ∷ [])) ls) (Done gs (l ∷ ls)) r (records ls)
-    (λ x d. (d .0 ∙ ap (λ rs. record { rules = rs; default = tableOf ls .default }) (append-snoc gs g (tableOf ls .rules)), d .1))
-    (onward (gs ++ (g ∷ [])) r (q .1 ∙ ap (λ t. record { rules = t .rules ++ (g ∷ []); default = none }) e) (line-filled l s r q)))
+    (λ x d. (d .0 ∙ ap (λ rs. record { rules = rs; default = tableOf ls .default; mark = tableOf ls .mark }) (append-snoc gs g (tableOf ls .rules)), d .1))
+    (onward (gs ++ (g ∷ [])) r (q .1 ∙ ap (λ t. record { rules = t .rules ++ (g ∷ []); default = none; mark = unmarked }) e) (line-filled l s r q)))
 next-goes otherwise ts ls w v onward gs s e u =
     let l : Line = record { head = otherwise; outputs = ts } in
     let g = lineGroup l in
     goes-on (Added s otherwise g) (Done gs (l ∷ ls)) s (lineRecords l) (records ls) (line-whole l) (line-goes l w s u)
     (λ r q.
-    let table : r .table ≡ record { rules = gs; default = some g } = q .1 ∙ ap (λ t. record { rules = t .rules; default = some g }) e in
+    let table : r .table ≡ record { rules = gs; default = some g; mark = unmarked } = q .1 ∙ ap (λ t. record { rules = t .rules; default = some g; mark = unmarked }) e in
     last-goes (Done gs (l ∷ ls)) ls v r g (ap (λ t. t .default) table) (line-filled l s r q)
-    (λ n. (table ∙ ap (λ rs. record { rules = rs; default = some g }) (sym (append-nil gs) ∙ ap (λ xs. gs ++ map lineGroup (flatMap ruleOf xs)) (sym n)), line-filled l s r q)))
+    (λ n. (table ∙ ap (λ rs. record { rules = rs; default = some g; mark = unmarked }) (sym (append-nil gs) ∙ ap (λ xs. gs ++ map lineGroup (flatMap ruleOf xs)) (sym n)), line-filled l s r q)))
 
 lines-go : (ls : List Line) → Each LineFits ls → LinesGo ls
 unfolding tableOf records
-lines-go [] w gs s e u = goes-nowhere (Done gs []) s (e ∙ ap (λ rs. record { rules = rs; default = none }) (sym (append-nil gs)), u)
+lines-go [] w gs s e u = goes-nowhere (Done gs []) s (e ∙ ap (λ rs. record { rules = rs; default = none; mark = unmarked }) (sym (append-nil gs)), u)
 lines-go (l ∷ ls) w gs s e u = next-goes (l .head) (l .outputs) ls (w .0) (w .1) (lines-go ls (w .1)) gs s e u
 
 -- the table

@@ -1,6 +1,6 @@
 -- What taking in records leads to: a reading that is known, unless 2, 3 or 6 refuses one of them.
 -- Records one after another are taken in where those before led; a record that changes the group read last leads to the group so changed.
-use mathlib.Core.Bool.{Bool, not, _||_}
+use mathlib.Core.Bool.{not, _||_}
 use mathlib.Core.List.{List, [], _∷_, _++_}
 use mathlib.Core.Option.{Option, none, some}
 use mathlib.Core.Path.{_≡_, refl, sym, subst, _∙_}
@@ -11,7 +11,7 @@ use lib.ListN.{length, length-append}
 use lib.Seq.{take-all}
 use Rattle.lists.proofs.Laws.Tests.{by-cases}
 use Rattle.meaning.specs.Refusal.{Outcome, refused, accepted, andThen}
-use Rattle.meaning.specs.Table.{Group}
+use Rattle.meaning.specs.Table.{Group, Mark}
 use Rattle.meaning.specs.Record.{Record, decode}
 use Rattle.meaning.specs.Reader.{Reading, unfilled, misplaced, skipping, changeLatest, taken, readOne, readRecords}
 use Rattle.meaning.proofs.Laws.Refusal.{Says}
@@ -68,18 +68,18 @@ goes-one P s b x e f h (suc zero) l = rw (take-all 8 b (omega arith)) (go (decod
         ))
 
 -- a reading whose last group is known, whatever its kind
-pub by-table : (P : Reading → Type 0) (d : Bool) (gs : List Group) (g : Group) → ((kind : ℕ) → P (at d gs g kind)) → (s : Reading) → s .table ≡ holding d gs g → P s
+pub by-table : (P : Reading → Type 0) (d : Option Mark) (gs : List Group) (g : Group) → ((kind : ℕ) → P (at d gs g kind)) → (s : Reading) → s .table ≡ holding d gs g → P s
 by-table P d gs g h s e = subst P (λ i. record { table = sym e i; kind = s .kind }) (h (s .kind))
 
-pub filled : (d : Bool) (gs : List Group) (g : Group) → length (g .ranges) ≡ g .size → (kind : ℕ) → T (not (unfilled (at d gs g kind)))
+pub filled : (d : Option Mark) (gs : List Group) (g : Group) → length (g .ranges) ≡ g .size → (kind : ℕ) → T (not (unfilled (at d gs g kind)))
 unfolding unfilled
 filled d gs g e kind = rw latest-at (not-both (eqb kind 1 || eqb kind 2) (ltb (length (g .ranges)) (g .size)) (λ _. not-ltb (length (g .ranges)) (g .size) (omega arith)))
 
 -- the records of b lead from the last group g to the last group h
-abbrev pub Leads : Bool → List Group → Group → List ℕ → Group → Type 0
+abbrev pub Leads : Option Mark → List Group → Group → List ℕ → Group → Type 0
 Leads d gs g b h = (s : Reading) → s .table ≡ holding d gs g → Goes s b (λ r. r .table ≡ holding d gs h)
 
-module _ (d : Bool) (gs : List Group) where
+module _ (d : Option Mark) (gs : List Group) where
   pub leads-nowhere : (g : Group) → Leads d gs g [] g
   leads-nowhere g s e = goes-nowhere (λ r. r .table ≡ holding d gs g) s e
 

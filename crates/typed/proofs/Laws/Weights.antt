@@ -10,10 +10,10 @@ use Rattle.meaning.specs.Refusal.{Outcome, refused, accepted}
 use Rattle.meaning.specs.Block.{bit}
 use Rattle.meaning.specs.Record.{Record, rule, range, output, term, default, hexadecimal}
 use Rattle.meaning.proofs.Laws.Numbers.{bit-small}
-use Rattle.rules.specs.bridge.Summary.{slotNumber, admit, FittingLast, Fitting}
+use Rattle.rules.specs.bridge.Summary.{defaulted, slotNumber, admit, FittingLast, Fitting}
 use Rattle.rules.specs.declared.reader.Reader.{Reader}
 use Rattle.rules.specs.declared.reader.Last.{Last}
-use Rattle.rules.proofs.Laws.Stepping.{range-comes}
+use Rattle.rules.proofs.Laws.Stepping.{range-comes, marked-there}
 use Rattle.typed.specs.bridge.Stream.{weight}
 
 -- what the last group adds
@@ -31,7 +31,7 @@ part-small l f =
 pub weight-small : (r : Reader) → Fitting r → weight r ≤ 81539
 weight-small r f =
     let a = part-small (r .last) (f .last) in
-    let b = bit-small (r .defaulted) in
+    let b = bit-small (defaulted r) in
     let c = f .rules in
     omega arith
 
@@ -53,7 +53,7 @@ admit-heavier r (rule k a) f =
     let h = part-small (r .last) (f .last) in
     by-cases (Heavier (weight r)) _ _ (
       λ _. tt,
-      λ d. (λ _. tt, λ _. (λ _. tt, λ _. let e = ap bit (of-not (r .defaulted) d) in omega arith)),
+      λ d. (λ _. tt, λ _. (λ _. tt, λ _. let e = ap bit (of-not (defaulted r) d) in omega arith)),
     )
 admit-heavier r (range p c) f =
     by-cases (Heavier (weight r)) _ _ (
@@ -68,11 +68,12 @@ admit-heavier r (output c) f =
     by-cases (Heavier (weight r)) _ _ (λ _. tt, λ _. (λ _. tt, λ _. (λ _. tt, λ _. omega arith)))
 admit-heavier r (term p a) f =
     by-cases (Heavier (weight r)) _ _ (λ _. tt, λ _. omega (arith, pow-pos p))
-admit-heavier r default f =
+admit-heavier r (default k) f =
     let h = part-small (r .last) (f .last) in
+    let i = ap bit (marked-there k) in
     by-cases (Heavier (weight r)) _ _ (
       λ _. tt,
-      λ d. (λ _. tt, λ _. let e = ap bit (of-not (r .defaulted) d) in omega arith),
+      λ d. (λ _. tt, λ _. let e = ap bit (of-not (defaulted r) d) in omega arith),
     )
 admit-heavier r (hexadecimal p shift) f =
     let h = f .last .named in

@@ -12,10 +12,11 @@ use Rattle.meaning.specs.Refusal.{Outcome, refused, accepted}
 use Rattle.meaning.specs.Table.{Range}
 use Rattle.meaning.specs.Block.{bit}
 use Rattle.meaning.specs.Record.{decode}
+use Rattle.meaning.specs.Table.{unmarked}
 use Rattle.meaning.specs.Records.{ruleRecord, rangeRecord, outputRecord, termRecord, terms, defaultRecord}
 use Rattle.meaning.specs.bridge.Flat.{loadedSize}
 use Rattle.rules.specs.declared.reader.Reader.{Reader}
-use Rattle.rules.specs.bridge.Summary.{started, admitted, ifTaken, Fitting}
+use Rattle.rules.specs.bridge.Summary.{started, defaulted, admitted, ifTaken, Fitting}
 use Rattle.expression.specs.declared.part.Part.{Part}
 use Rattle.expression.specs.Grammar.{Tree}
 use Rattle.typed.specs.Grammar.{Pattern, Head, pattern, otherwise, Line}
@@ -79,7 +80,7 @@ feedPattern q s = feedItems 0 (q .items) (feed (ruleRecord (length (q .items)) (
 
 abbrev pub feedHead : Head → State → State
 feedHead (pattern q) s = feedPattern q s
-feedHead otherwise s = feed defaultRecord s
+feedHead otherwise s = feed (defaultRecord unmarked) s
 
 abbrev pub feedLine : Line → State → State
 feedLine l s = feedOutputs (l .outputs) (feedHead (l .head) s)
@@ -93,7 +94,7 @@ nothingRead buffer = record { fine = true; check = accepted started; loaded = pa
 
 -- a number that each record taken in makes greater, so that no more than 81,539 are
 abbrev pub weight : Reader → ℕ
-weight r = 2400 * (r .rules + bit (r .defaulted)) + 4 * r .last .positions + r .last .slots + 256 * r .last .outputs + r .last .named
+weight r = 2400 * (r .rules + bit (defaulted r)) + 4 * r .last .positions + r .last .slots + 256 * r .last .outputs + r .last .named
 
 -- what holds of every state on the way
 pub record Ready (s : State) : Type 0 where

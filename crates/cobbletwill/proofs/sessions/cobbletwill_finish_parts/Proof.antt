@@ -68,7 +68,7 @@ vals = LL.vals T.the-type T′.the-laws
 
 -- the type of counts of uses
 abbrev Counts : RattleType
-Counts = Array u64 33
+Counts = Array u64 34
 
 -- the parameters' types
 abbrev units : Slot 5

@@ -1,6 +1,5 @@
 -- `compile::build` meets its contract: too many classes or states leave the words cleared, and else the words are put together part by part.
 -- Assumes nothing.
-use mathlib.Core.Bool.{false}
 use mathlib.Core.List.{List, [], _++_}
 use mathlib.Core.Path.{_≡_, refl, sym, ap, subst, _∙_}
 use Prim.Native.Nat.{ℕ, _≤_}
@@ -8,7 +7,7 @@ use native.Mathlib.Omega.{arith}
 use borrow.Author.Needs.{needs}
 use lib.ListN.{length, drop}
 use Rattle.lists.specs.Lists.{pad}
-use Rattle.meaning.specs.Table.{Table}
+use Rattle.meaning.specs.Table.{Absent, Table}
 use Rattle.meaning.specs.bridge.Flat.{tableAt}
 use Rattle.rules.proofs.Laws.Converting.{expansion-eight}
 use Rattle.automaton.specs.Classes.{starts}
@@ -16,6 +15,7 @@ use Rattle.automaton.specs.States.{states}
 use Rattle.automaton.specs.Layout.{wordCount, blocksFrom}
 use Rattle.automaton.specs.bridge.Noted.{Kept}
 use Rattle.automaton.proofs.Laws.Gathering.{Gathered, gathered}
+use Rattle.rules.specs.bridge.Modes.{theMode}
 use Rattle.machine.proofs.Laws.Compiling.{longest-eight, drop-later, before-ranges, gathered-back, gathered-zero, gathered-number, gathered-over, gathered-start, states-over, states-few, put-together, built-classes, built-states, built-words}
 use Rattle.machine.proofs.compile.build.Statement.{statement}
 use Rattle.machine.proofs.compile.build.Tie as tie
@@ -23,7 +23,7 @@ use Rattle.meaning.specs.Block.{blocksSize}
 
 -- the array as a table, without its default
 abbrev table : tie.Start → Table
-table s = let a = s .args in tableAt (a .loaded .now) (a .rules) false
+table s = let a = s .args in tableAt (a .loaded .now) (a .rules) Absent
 
 -- where the starts have been gathered: the function's entry, the words then, and what holds of them
 
@@ -86,7 +86,7 @@ returns c =
     let a = s .args in
     let w = a .words .now in
     let over = gathered-over w (s .pre .1 .1) (starts (table s)) (with-starts g) (g .gather-starts .result) (gathers g) (done .before .before .if1 .taken) in
-    let e = built-classes (table s) (a .loaded .now) (a .rules) (a .defaulted) (drop wordCount w) over in
+    let e = built-classes (table s) (a .loaded .now) (a .rules) (theMode (a .mode)) (drop wordCount w) over in
     (sym (ap (λ o. o .answer) e), done .clear .ensures ∙ ap (λ l. pad wordCount [] ++ l) (same-back g) ∙ sym (ap (λ o. o .words) e))
 
 slice-aggregate-build-states : tie.Need-slice-aggregate-build-states
@@ -123,7 +123,7 @@ returns-2 c =
     let a = s .args in
     let few : length (starts (table s)) ≤ 64 = omega (arith, classes-same b, few-classes b) in
     let over = states-over (length (states (table s))) (b .build-states .result) (b .build-states .ensures .0) (done .before .before .if2 .taken) in
-    let e = built-states (table s) (a .loaded .now) (a .rules) (a .defaulted) (drop wordCount (a .words .now)) few over in (
+    let e = built-states (table s) (a .loaded .now) (a .rules) (theMode (a .mode)) (drop wordCount (a .words .now)) few over in (
       sym (ap (λ o. o .answer) e),
       done .clear2 .ensures
           ∙ ap (λ l. pad wordCount [] ++ l) (drop-later blocksFrom blocksSize (with-states b) (with-starts g) (kept b .back) ∙ same-back g)
@@ -148,7 +148,7 @@ put-header-requires c κs =
       e .if2 .left,
       few-classes b,
       subst (λ m. m ≤ 8) (sym (l .longest-of .ensures)) (longest-eight (a .loaded .now) flat (a .rules) (s .pre .0 .1)),
-      subst (λ m. m ≤ 8) (sym (c .before .expansion .ensures)) (expansion-eight (a .loaded .now) (a .rules) (a .defaulted) flat (s .pre .0 .1)),
+      subst (λ m. m ≤ 8) (sym (c .before .expansion .ensures)) (expansion-eight (a .loaded .now) (a .rules) (theMode (a .mode)) flat (s .pre .0 .1)),
       s .pre .0 .1,
     )
 
@@ -175,9 +175,9 @@ returns-3 c =
     let few : length (starts t) ≤ 64 = omega (arith, classes-same b, few-classes b) in
     let counted = states-few (length (states t)) (b .build-states .result) (b .build-states .ensures .0) (l .before .if2 .left) in
     let small : length (states t) ≤ 256 = subst (λ m. m ≤ 256) counted (l .before .if2 .left) in
-    let e = built-words t (a .loaded .now) (a .rules) (a .defaulted) (drop wordCount (a .words .now)) few small in
+    let e = built-words t (a .loaded .now) (a .rules) (theMode (a .mode)) (drop wordCount (a .words .now)) few small in
     let whole =
-    put-together t (a .rules) (a .defaulted) (a .words .now) (with-starts g) (with-states b) (h .put-header .last .0) (done .copy-blocks .last .0) (a .loaded .now)
+    put-together t (a .rules) (theMode (a .mode)) (a .words .now) (with-starts g) (with-states b) (h .put-header .last .0) (done .copy-blocks .last .0) (a .loaded .now)
     (b .build-states .result) (g .gather-starts .result) (l .longest-of .result) (x .expansion .result) (s .pre .1 .0) counted (classes-same b)
     (l .longest-of .ensures) (x .expansion .ensures) (gathers g .filled few) (b .build-states .ensures .1 .0 small) (h .put-header .ensures) (done .copy-blocks .ensures) in
     (sym (ap (λ o. o .answer) e), whole ∙ sym (ap (λ o. o .words) e))

@@ -10,8 +10,8 @@ use Rattle.machine.proofs.compile.put_header.Statement.{statement}
 use Rattle.machine.proofs.compile.put_header.Tie as tie
 use Rattle.automaton.specs.Layout.{classesFrom}
 
-bit-of-requires : tie.Need-bit-of-requires
-bit-of-requires c κs = search needs
+mode-word-requires : tie.Need-mode-word-requires
+mode-word-requires c κs = search needs
 
 cast-words : tie.Need-cast-words
 cast-words c = search needs
@@ -73,14 +73,14 @@ returns : tie.Need-returns
 returns c =
     let s = c .before .before in
     let a = s .args in
-    header-put (a .words .now) (a .states) (a .classes) (a .longest) (a .expansion) (a .rules) (c .bit-of .result) (s .pre .0)
-    ∙ ap (λ d. (a .states ∷ a .classes ∷ a .longest ∷ a .expansion ∷ a .rules ∷ d ∷ []) ++ drop classesFrom (a .words .now)) (c .bit-of .ensures)
+    header-put (a .words .now) (a .states) (a .classes) (a .longest) (a .expansion) (a .rules) (c .mode-word .result) (s .pre .0)
+    ∙ ap (λ d. (a .states ∷ a .classes ∷ a .longest ∷ a .expansion ∷ a .rules ∷ d ∷ []) ++ drop classesFrom (a .words .now)) (c .mode-word .ensures)
 
 pub put-header-spec : {M : Type 1} → statement M
 put-header-spec =
     tie.close
     (tie.spec
-    bit-of-requires
+    mode-word-requires
     cast-words
     slice-write-words
     cast-words-2

@@ -1,10 +1,11 @@
 -- `sets::longer_rules` meets its contract. The invariant: what is built, with bits that fit what is left of the set, is the set filtered.
 -- The measure is what is left, which each turn halves. Assumes nothing.
-use mathlib.Core.Bool.{Bool, false}
+use mathlib.Core.Bool.{Bool}
 use mathlib.Core.Logic.{⊎-elim}
 use mathlib.Core.Path.{_≡_, sym, subst, _∙_}
 use Prim.Native.Nat.{ℕ, _^_, _≤_, _<_}
 use native.Mathlib.Omega.{arith}
+use Rattle.meaning.specs.Table.{Absent}
 use Rattle.automaton.proofs.Laws.Sets.{power-up-to, left-rule, Filtered, Built, built-start, built-end, built-take, built-skip, goesOn, longer-flat}
 use Rattle.machine.proofs.sets.longer_rules.Statement.{statement}
 use Rattle.machine.proofs.sets.longer_rules.Tie as tie
@@ -87,7 +88,7 @@ returns : tie.Need-returns Inv-loop μ-loop
 returns c =
     let a = c .before .before .before .args in
     let b = built c in
-    (b .0 ∙ sym (longer-flat (a .loaded .now) (a .rules) false (a .set) (a .depth) (a .c)), b .1)
+    (b .0 ∙ sym (longer-flat (a .loaded .now) (a .rules) Absent (a .set) (a .depth) (a .c)), b .1)
 
 pub longer-rules-spec : {M : Type 1} → statement M
 longer-rules-spec =

@@ -1,6 +1,6 @@
 -- `states::build_states` meets its contract. The invariant: the states before the one at hand are done.
 -- The measure is what is left of 256 states. Assumes nothing.
-use mathlib.Core.Bool.{false, cond}
+use mathlib.Core.Bool.{cond}
 use mathlib.Core.List.{List}
 use mathlib.Core.Path.{_≡_, refl, sym, ap, subst, _∙_}
 use Prim.Native.Nat.{ℕ, _-_, _≤_}
@@ -8,7 +8,7 @@ use native.Mathlib.Numerals.{add-one}
 use borrow.Author.Tests.{lt-ltb, le-ltb}
 use native.Mathlib.Omega.{arith}
 use lib.ListN.{length, set, length-set}
-use Rattle.meaning.specs.Table.{Table}
+use Rattle.meaning.specs.Table.{Absent, Table}
 use Rattle.meaning.specs.bridge.Flat.{tableAt}
 use Rattle.automaton.specs.States.{states}
 use Rattle.automaton.specs.bridge.Noted.{NotedAt, Kept}
@@ -20,8 +20,8 @@ use Rattle.automaton.specs.Layout.{statesFrom}
 
 abbrev Inv-loop : tie.InvT-loop
 Inv-loop loaded rules classes words₀ sets₀ count₀ state₀ words sets count state =
-    (state .0 ≤ length (states (tableAt loaded rules false))) × (length sets ≡ length sets₀) × Kept words₀ words
-    × NotedAt (tableAt loaded rules false) rules (state .0) (state .0) 0 words sets count
+    (state .0 ≤ length (states (tableAt loaded rules Absent))) × (length sets ≡ length sets₀) × Kept words₀ words
+    × NotedAt (tableAt loaded rules Absent) rules (state .0) (state .0) 0 words sets count
 
 abbrev μ-loop : tie.MeasureT-loop
 μ-loop loaded rules classes words₀ sets₀ count₀ state₀ words sets count state = 256 - state .0
@@ -30,7 +30,7 @@ abbrev entry : tie.At-loop Inv-loop μ-loop → tie.Start Inv-loop μ-loop
 entry l = l .before .before .before .before .before
 
 abbrev table : tie.Start Inv-loop μ-loop → Table
-table s = let a = s .args in tableAt (a .loaded .now) (a .rules) false
+table s = let a = s .args in tableAt (a .loaded .now) (a .rules) Absent
 
 -- the words since the function began
 kept : (l : tie.At-loop Inv-loop μ-loop) (w : List ℕ) → Kept (l .loop .words) w → Kept (entry l .args .words .now) w
@@ -55,7 +55,7 @@ loop-holds c =
       refl,
       kept-same (set (a .words .now) statesFrom 0),
       noted-start (table s) (a .rules) (a .words .now) (a .sets .now) (c .all-rules .result) (h .0) (h .1) (omega arith) (g .3) (h .2)
-          (rules-counted (a .loaded .now) (a .rules) false) (c .all-rules .ensures .0) (c .all-rules .ensures .1),
+          (rules-counted (a .loaded .now) (a .rules) Absent) (c .all-rules .ensures .0) (c .all-rules .ensures .1),
     )
 
 cast-if1 : tie.Need-cast-if1 Inv-loop μ-loop

@@ -1,12 +1,11 @@
 -- `states::note_class` meets its contract. The four ways: no state is met, a state that is there, one too many, a new one.
 -- What is met is the successor, since the state accepts nothing. Assumes nothing.
-use mathlib.Core.Bool.{false}
 use mathlib.Core.Path.{_≡_, refl}
 use Prim.Native.Nat.{_+_, _*_, _≤_}
 use borrow.Author.Needs.{needs}
 use native.Mathlib.Omega.{arith}
 use lib.ListN.{set, length-set}
-use Rattle.meaning.specs.Table.{Table}
+use Rattle.meaning.specs.Table.{Absent, Table}
 use Rattle.meaning.specs.bridge.Flat.{tableAt}
 use Rattle.automaton.specs.Sound.{depthWord}
 use Rattle.automaton.specs.bridge.Build.{stateOf, numberIn, statesAt}
@@ -20,7 +19,7 @@ abbrev entry : tie.After-longer-rules → tie.Start
 entry l = l .before .before .before .before .before .before .before .before .before
 
 abbrev table : tie.Start → Table
-table s = let a = s .args in tableAt (a .loaded .now) (a .rules) false
+table s = let a = s .args in tableAt (a .loaded .now) (a .rules) Absent
 
 low : (s : tie.Start) → depthWord (s .args .words .now) (s .args .state .0) ≤ s .args .state .0
 low s = s .pre .1 .1 .shallow (s .args .state .0) (s .pre .1 .0 .1)

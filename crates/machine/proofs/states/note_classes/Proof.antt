@@ -1,12 +1,11 @@
 -- `states::note_classes` meets its contract. The invariant: the targets of the classes so far are noted.
 -- The measure is what is left of the classes. Assumes nothing.
-use mathlib.Core.Bool.{false}
 use mathlib.Core.Path.{_≡_, refl, sym, subst, _∙_}
 use Prim.Native.Nat.{suc, _-_, _≤_}
 use native.Mathlib.Numerals.{add-one}
 use native.Mathlib.Omega.{arith}
 use lib.ListN.{length}
-use Rattle.meaning.specs.Table.{Table}
+use Rattle.meaning.specs.Table.{Absent, Table}
 use Rattle.meaning.specs.bridge.Flat.{tableAt}
 use Rattle.automaton.specs.Classes.{starts}
 use Rattle.automaton.specs.bridge.Noted.{NotedAt, Kept}
@@ -17,7 +16,7 @@ use Rattle.machine.proofs.states.note_classes.Tie as tie
 
 abbrev Inv-loop : tie.InvT-loop
 Inv-loop loaded rules classes words₀ sets₀ count state total₀ class₀ words sets total class =
-    (class .0 ≤ classes) × (length sets ≡ length sets₀) × Kept words₀ words × NotedAt (tableAt loaded rules false) rules (suc (state .0)) (state .0) (class .0) words sets total
+    (class .0 ≤ classes) × (length sets ≡ length sets₀) × Kept words₀ words × NotedAt (tableAt loaded rules Absent) rules (suc (state .0)) (state .0) (class .0) words sets total
 
 abbrev μ-loop : tie.MeasureT-loop
 μ-loop loaded rules classes words₀ sets₀ count state total₀ class₀ words sets total class =
@@ -27,7 +26,7 @@ abbrev entry : tie.At-loop Inv-loop μ-loop → tie.Start Inv-loop μ-loop
 entry l = l .before .before .before .before
 
 abbrev table : tie.Start Inv-loop μ-loop → Table
-table s = let a = s .args in tableAt (a .loaded .now) (a .rules) false
+table s = let a = s .args in tableAt (a .loaded .now) (a .rules) Absent
 
 loop-holds : tie.Need-loop-holds Inv-loop μ-loop
 loop-holds c = let s = c .before .before .before in (omega arith, refl, kept-same (s .args .words .now), s .pre .1 .1)

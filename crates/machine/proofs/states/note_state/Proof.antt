@@ -1,12 +1,11 @@
 -- `states::note_state` meets its contract: what the state accepts is noted, and a state with an accept has no targets.
 -- Assumes nothing.
-use mathlib.Core.Bool.{false}
 use mathlib.Core.List.{List}
 use mathlib.Core.Path.{_≡_, sym, _∙_}
 use Prim.Native.Nat.{ℕ, suc, _+_, _*_, _≤_}
 use native.Mathlib.Omega.{arith}
 use lib.ListN.{length, set, length-set}
-use Rattle.meaning.specs.Table.{Table}
+use Rattle.meaning.specs.Table.{Absent, Table}
 use Rattle.meaning.specs.bridge.Flat.{tableAt}
 use Rattle.automaton.specs.Classes.{starts}
 use Rattle.automaton.specs.States.{acceptOf}
@@ -20,7 +19,7 @@ use Rattle.machine.proofs.states.note_state.Tie as tie
 use Rattle.automaton.specs.Layout.{statesFrom}
 
 abbrev table : tie.Start → Table
-table s = let a = s .args in tableAt (a .loaded .now) (a .rules) false
+table s = let a = s .args in tableAt (a .loaded .now) (a .rules) Absent
 
 low : (s : tie.Start) → depthWord (s .args .words .now) (s .args .state .0) ≤ s .args .state .0
 low s = s .pre .1 .1 .shallow (s .args .state .0) (s .pre .1 .0 .3)

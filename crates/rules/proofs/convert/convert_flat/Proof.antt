@@ -7,21 +7,22 @@ use borrow.Author.Needs.{needs}
 use lib.ListN.{length}
 use Rattle.meaning.specs.Table.{Table}
 use Rattle.meaning.specs.bridge.Flat.{tableAt}
+use Rattle.rules.specs.bridge.Modes.{theMode}
 use Rattle.rules.specs.bridge.Readings.{choiceOf}
 use Rattle.meaning.proofs.Laws.Writing.{Taken, choice-taken, Reached, reached-start, reached-close, reached-stop, reached-room, reached-step}
 use Rattle.rules.proofs.convert.convert_flat.Statement.{statement}
 use Rattle.rules.proofs.convert.convert_flat.Tie as tie
 
 abbrev Inv-loop : tie.InvT-loop
-Inv-loop loaded rules defaulted input output₀ marks place₀ count₀ output place count =
-    Reached (tableAt loaded rules defaulted) loaded input output₀ output place count × (length output ≡ length output₀)
+Inv-loop loaded rules mode input output₀ marks place₀ count₀ output place count =
+    Reached (tableAt loaded rules (theMode mode)) loaded input output₀ output place count × (length output ≡ length output₀)
 
 abbrev μ-loop : tie.MeasureT-loop
-μ-loop loaded rules defaulted input output₀ marks place₀ count₀ output place count = length input - place
+μ-loop loaded rules mode input output₀ marks place₀ count₀ output place count = length input - place
 
 -- the array as a table
 abbrev table : tie.Start Inv-loop μ-loop → Table
-table s = let a = s .args in tableAt (a .loaded .now) (a .rules) (a .defaulted)
+table s = let a = s .args in tableAt (a .loaded .now) (a .rules) (theMode (a .mode))
 
 mark-plain-requires : tie.Need-mark-plain-requires Inv-loop μ-loop
 mark-plain-requires c κs = let s = c .before .before .before in (s .pre .0, s .pre .1 .0)
@@ -65,53 +66,36 @@ taken :
 taken c =
     let s = start c in
     let called = c .before .before in
-    choice-taken (s .args .loaded .now) (s .args .rules) (s .args .defaulted) (s .args .input .now)
+    choice-taken (s .args .loaded .now) (s .args .rules) (theMode (s .args .mode)) (s .args .input .now)
     (turn c .loop .place) (c .group .given .0 .0) (s .pre .1 .0) (s .pre .1 .1 .0) (s .pre .1 .1 .1 .0) (called .before .before .loop-test .taken)
     (called .choose-marked .ensures) (ap choiceOf (c .group .given .1))
 
-write-group-requires : tie.Need-write-group-requires Inv-loop μ-loop
-write-group-requires c κs =
+write-chosen-requires : tie.Need-write-chosen-requires Inv-loop μ-loop
+write-chosen-requires c κs =
     let b = c .before .before in
-    let g = b .group .given .0 .0 in
     let k = taken b in
-    let flat = start b .pre .0 in (
-      (k .below, omega (arith, flat .long)),
-      (
-        (flat .size g (k .below), flat .outputs g (k .below)),
-        (k .room, reached-room (turn b .loop .inv .0) k (start b .pre .1 .1 .1 .1)),
-      ),
-    )
+    ((start b .pre .0, k .below), (k .room, reached-room (turn b .loop .inv .0) k (start b .pre .1 .1 .1 .1)))
 
-mul-place : tie.Need-mul-place Inv-loop μ-loop
-mul-place c = omega (arith, taken (c .before .before .before .before .before) .below)
-
-mul-place-2 : tie.Need-mul-place-2 Inv-loop μ-loop
-mul-place-2 c = omega (arith, taken (c .before .before .before .before .before) .below)
-
-shared-slice-read-place : tie.Need-shared-slice-read-place Inv-loop μ-loop
-shared-slice-read-place c =
-    let b = c .before .before .before .before .before .before in
-    omega (arith, taken b .below, start b .pre .0 .long)
-
-cast-place : tie.Need-cast-place Inv-loop μ-loop
-cast-place c =
-    let b = c .before .before .before .before .before .before in
-    omega (arith, start b .pre .0 .size (b .group .given .0 .0) (taken b .below))
+size-of-requires : tie.Need-size-of-requires Inv-loop μ-loop
+size-of-requires c κs =
+    let b = c .before .before .before .before .before in
+    (taken b .below, omega (arith, start b .pre .0 .long))
 
 add-place : tie.Need-add-place Inv-loop μ-loop
-add-place c = omega (arith, taken (c .before .before .before .before .before .before) .room)
+add-place c = omega (arith, taken (c .before .before .before .before .before .before) .room, c .size-of .ensures)
 
 loop-less : tie.Need-loop-less Inv-loop μ-loop
 loop-less c =
     let k = taken (c .before .before .before .before .before .before) in
-    omega (arith, k .room, k .positive)
+    omega (arith, k .room, k .positive, c .size-of .ensures)
 
 loop-again : tie.Need-loop-again Inv-loop μ-loop
 loop-again c =
     let after = c .before .before .before in
-    let w = after .write-group in
+    let w = after .write-chosen in
     let b = after .before .before .before in
     let inv = turn b .loop .inv in
+    rw (c .size-of .ensures)
     (reached-step (inv .0) (taken b) (w .last .1 .1 .1 .1 .0) (w .result) (w .ensures .0) (w .ensures .1), w .kept .1 .1 .1 .1 .0 ∙ inv .1)
 
 same-length-2 : tie.Need-same-length-2 Inv-loop μ-loop
@@ -133,11 +117,8 @@ convert-flat-spec =
     enum-told
     same-length
     returns
-    write-group-requires
-    mul-place
-    mul-place-2
-    shared-slice-read-place
-    cast-place
+    write-chosen-requires
+    size-of-requires
     add-place
     loop-less
     loop-again

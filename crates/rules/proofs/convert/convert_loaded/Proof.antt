@@ -6,6 +6,7 @@ use native.Mathlib.Omega.{arith}
 use borrow.Author.Needs.{needs}
 use lib.ListN.{length}
 use Rattle.meaning.specs.bridge.Flat.{expansionAt}
+use Rattle.rules.specs.bridge.Modes.{theMode}
 use Rattle.rules.proofs.Laws.Converting.{expansion-eight, flat-long, flat-narrow, flat-converted, expansion-fits}
 use Rattle.rules.proofs.convert.convert_loaded.Statement.{statement}
 use Rattle.rules.proofs.convert.convert_loaded.Tie as tie
@@ -13,7 +14,7 @@ use Rattle.rules.proofs.convert.convert_loaded.Tie as tie
 returns : tie.Need-returns
 returns c =
     let a = c .before .before .before .before .args in
-    flat-long (a .loaded .now) (a .rules) (a .defaulted) (a .input .now) (a .output .now) (c .if1 .taken)
+    flat-long (a .loaded .now) (a .rules) (theMode (a .mode)) (a .input .now) (a .output .now) (c .if1 .taken)
 
 expansion-requires : tie.Need-expansion-requires
 expansion-requires c κs = search needs
@@ -22,18 +23,18 @@ mul-if2 : tie.Need-mul-if2
 mul-if2 c =
     let s = c .before .before .before .before .before in
     let a = s .args in
-    let small = expansion-eight (a .loaded .now) (a .rules) (a .defaulted) (s .pre .0) (s .pre .1 .0) in
-    rw (c .expansion .ensures) (omega (arith, expansion-fits (a .loaded .now) (a .rules) (a .defaulted) (a .input .now) (a .output .now) (c .before .if1 .left) small))
+    let small = expansion-eight (a .loaded .now) (a .rules) (theMode (a .mode)) (s .pre .0) (s .pre .1 .0) in
+    rw (c .expansion .ensures) (omega (arith, expansion-fits (a .loaded .now) (a .rules) (theMode (a .mode)) (a .input .now) (a .output .now) (c .before .if1 .left) small))
 
 returns-2 : tie.Need-returns-2
 returns-2 c =
     let a = c .before .before .before .before .before .before .args in
-    flat-narrow (a .loaded .now) (a .rules) (a .defaulted) (a .input .now) (a .output .now) (c .before .before .if1 .left)
+    flat-narrow (a .loaded .now) (a .rules) (theMode (a .mode)) (a .input .now) (a .output .now) (c .before .before .if1 .left)
     (subst (λ x. length (a .output .now) < x * length (a .input .now)) (c .before .expansion .ensures) (c .if2 .taken))
 
 -- the text of every input has room
 wide : (c : tie.Else2) →
-    let a = c .before .before .before .before .before .before .args in expansionAt (a .loaded .now) (a .rules) (a .defaulted) * length (a .input .now) ≤ length (a .output .now)
+    let a = c .before .before .before .before .before .before .args in expansionAt (a .loaded .now) (a .rules) (theMode (a .mode)) * length (a .input .now) ≤ length (a .output .now)
 wide c = let a = c .before .before .before .before .before .before .args in subst (λ x. x * length (a .input .now) ≤ length (a .output .now)) (c .before .expansion .ensures) (c .if2 .left)
 
 convert-flat-requires : tie.Need-convert-flat-requires
@@ -49,7 +50,7 @@ returns-3 c =
     let done = c .before .before in
     let passed = done .before .before in
     let a = passed .before .before .before .before .before .before .args in
-    flat-converted (a .loaded .now) (a .rules) (a .defaulted) (a .input .now) (a .output .now) (passed .before .before .if1 .left) (wide passed)
+    flat-converted (a .loaded .now) (a .rules) (theMode (a .mode)) (a .input .now) (a .output .now) (passed .before .before .if1 .left) (wide passed)
     (done .convert-flat .ensures .0) (done .convert-flat .ensures .1)
 
 pub convert-loaded-spec : {M : Type 1} → statement M

@@ -1,9 +1,9 @@
 -- `rules::convert::expansion` meets its contract: after each group the greatest count so far is that of the groups passed.
 -- The measure is what is left of the groups.
-use mathlib.Core.Bool.{cond}
 use mathlib.Core.Logic.{⊎-elim}
-use mathlib.Core.Path.{_≡_, ap, _∙_}
+use mathlib.Core.Path.{_≡_, refl, ap₂, _∙_}
 use Prim.Native.Nat.{_+_, _*_, _-_, _≤_, _<_}
+use borrow.Author.Needs.{needs}
 use native.Mathlib.Numerals.{add-one}
 use native.Mathlib.Omega.{arith}
 use Rattle.meaning.specs.Block.{at, blockSize}
@@ -12,25 +12,17 @@ use Rattle.rules.proofs.convert.expansion.Statement.{statement}
 use Rattle.rules.proofs.convert.expansion.Tie as tie
 
 abbrev Inv-loop : tie.InvT-loop
-Inv-loop loaded rules defaulted most₀ group₀ most group =
-    (group ≤ rules) × (most ≡ expansionFrom loaded group (cond defaulted (at loaded (32 * blockSize + 2)) 0)) × (most < 65536)
+Inv-loop loaded rules most₀ group₀ most group = (group ≤ rules) × (most ≡ expansionFrom loaded group most₀)
 
 abbrev μ-loop : tie.MeasureT-loop
-μ-loop loaded rules defaulted most₀ group₀ most group = rules - group
+μ-loop loaded rules most₀ group₀ most group = rules - group
 
-shared-slice-read-most : tie.Need-shared-slice-read-most Inv-loop μ-loop
-shared-slice-read-most c = omega arith
-
-cast-most : tie.Need-cast-most Inv-loop μ-loop
-cast-most c = omega (arith, c .shared-slice-known .given (32 * blockSize + 2))
+default-expansion-requires : tie.Need-default-expansion-requires Inv-loop μ-loop
+default-expansion-requires c κs = search needs
 
 loop-holds : tie.Need-loop-holds Inv-loop μ-loop
 unfolding expansionFrom
-loop-holds c =
-    ⊎-elim
-    (λ w. let e : c .if1 .most ≡ at (c .before .args .loaded .now) (32 * blockSize + 2) = w .2 in let h = w .1 .given (32 * blockSize + 2) in (omega arith, rw (w .0 .taken) e, omega arith))
-    (λ w. let e : c .if1 .most ≡ 0 = w .1 in (omega arith, rw (w .0 .left) e, omega arith))
-    (c .if1 .came)
+loop-holds c = (omega arith, refl)
 
 mul-count : tie.Need-mul-count Inv-loop μ-loop
 mul-count c = omega arith
@@ -56,21 +48,22 @@ loop-less c = omega arith
 loop-again : tie.Need-loop-again Inv-loop μ-loop
 unfolding expansionFrom
 loop-again c =
-    let count = at (c .before .before .before .before .before .args .loaded .now) (blockSize * c .before .before .before .loop .group + 2) in
+    let count = at (c .before .before .before .before .before .before .args .loaded .now) (blockSize * c .before .before .before .loop .group + 2) in
     let inv = c .before .before .before .loop .inv in
     let test = c .before .before .loop-test .taken in
-    let known = c .before .shared-slice-known2 .given (blockSize * c .before .before .before .loop .group + 2) in
     rw add-one
     (⊎-elim
-    (λ w. let e : c .if2 .most ≡ count = w .1 in let h : c .before .before .before .loop .most < count = w .0 .taken in (omega arith, omega arith, omega arith))
-    (λ w. let e : c .if2 .most ≡ c .before .before .before .loop .most = w .1 in let h : count ≤ c .before .before .before .loop .most = w .0 .left in (omega arith, omega arith, omega arith))
-    (c .if2 .came))
+    (λ w. let e : c .if1 .most ≡ count = w .1 in let h : c .before .before .before .loop .most < count = w .0 .taken in (omega arith, omega arith))
+    (λ w. let e : c .if1 .most ≡ c .before .before .before .loop .most = w .1 in let h : count ≤ c .before .before .before .loop .most = w .0 .left in (omega arith, omega arith))
+    (c .if1 .came))
 
 returns : tie.Need-returns Inv-loop μ-loop
 returns c =
+    let first = c .before .before in
+    let a = first .before .before .args in
     let l = c .before .loop .inv in
-    let e : c .before .loop .group ≡ c .before .before .before .args .rules = omega arith in
-    l .1 ∙ ap (λ n. expansionFrom (c .before .before .before .args .loaded .now) n (cond (c .before .before .before .args .defaulted) (at (c .before .before .before .args .loaded .now) (32 * blockSize + 2)) 0)) e
+    let e : c .before .loop .group ≡ a .rules = omega arith in
+    l .1 ∙ ap₂ (expansionFrom (a .loaded .now)) e (first .default-expansion .ensures)
 
 pub expansion-spec : {M : Type 1} → statement M
 expansion-spec =
@@ -78,8 +71,7 @@ expansion-spec =
     (tie.spec
     Inv-loop
     μ-loop
-    shared-slice-read-most
-    cast-most
+    default-expansion-requires
     loop-holds
     mul-count
     add-count

@@ -9,24 +9,24 @@ use native.Mathlib.Omega.{arith}
 use borrow.Author.Tests.{lt-ltb, le-ltb}
 use lib.Dec.{ltb}
 use lib.ListN.{drop}
-use Rattle.meaning.specs.Table.{defaultNumber}
 use Rattle.meaning.specs.Block.{at, blockSize}
-use Rattle.meaning.specs.Meaning.{choose}
+use Rattle.meaning.specs.Meaning.{orDefault, choose}
 use Rattle.meaning.specs.bridge.Flat.{tableAt}
 use Rattle.meaning.proofs.Laws.Choosing.{KeptOf, kept-none, kept-skip, kept-longer, kept-shorter, kept-choose}
+use Rattle.rules.specs.bridge.Modes.{theMode}
 use Rattle.rules.proofs.pattern.choose_at.Statement.{statement}
 use Rattle.rules.proofs.pattern.choose_at.Tie as tie
 
 abbrev Inv-loop : tie.InvT-loop
-Inv-loop loaded rules defaulted input from best₀ least₀ r₀ b l r = (r ≤ rules) × KeptOf loaded rules defaulted (drop from input) r b l
+Inv-loop loaded rules mode input from best₀ least₀ r₀ b l r = (r ≤ rules) × KeptOf loaded rules (theMode mode) (drop from input) r b l
 
 abbrev μ-loop : tie.MeasureT-loop
-μ-loop loaded rules defaulted input from best₀ least₀ r₀ b l r = rules - r
+μ-loop loaded rules mode input from best₀ least₀ r₀ b l r = rules - r
 
 loop-holds : tie.Need-loop-holds Inv-loop μ-loop
 loop-holds c =
     let a = c .before .before .args in
-    (omega arith, kept-none (a .loaded .now) (a .rules) (a .defaulted) (drop (a .at) (a .input .now)))
+    (omega arith, kept-none (a .loaded .now) (a .rules) (theMode (a .mode)) (drop (a .at) (a .input .now)))
 
 mul-size : tie.Need-mul-size Inv-loop μ-loop
 mul-size c = omega arith
@@ -60,9 +60,9 @@ loop-again c =
     let r = l .loop .r in
     let i : r < a .rules = omega arith in
     let z : at (a .loaded .now) (blockSize * r) ≤ 8 = s .pre .0 .size r (omega arith) in
-    let shorter = kept-shorter (a .loaded .now) (a .rules) (a .defaulted) u r (l .loop .best) (l .loop .least) i in
-    let skip = kept-skip (a .loaded .now) (a .rules) (a .defaulted) u r (l .loop .best) (l .loop .least) i in
-    let longer = kept-longer (a .loaded .now) (a .rules) (a .defaulted) u r (l .loop .best) (l .loop .least) i in (
+    let shorter = kept-shorter (a .loaded .now) (a .rules) (theMode (a .mode)) u r (l .loop .best) (l .loop .least) i in
+    let skip = kept-skip (a .loaded .now) (a .rules) (theMode (a .mode)) u r (l .loop .best) (l .loop .least) i in
+    let longer = kept-longer (a .loaded .now) (a .rules) (theMode (a .mode)) u r (l .loop .best) (l .loop .least) i in (
       omega arith,
       ⊎-elim
           (λ w. rw (w .3, w .4) (shorter (w .1 .result) (w .0 .taken) (w .1 .ensures) (w .2 .taken) (l .loop .inv .1)))
@@ -76,22 +76,22 @@ loop-again c =
 chosen : (c : tie.After-loop Inv-loop μ-loop) →
     let l = c .before in
     let a = l .before .before .before .args in
-    choose (tableAt (a .loaded .now) (a .rules) (a .defaulted)) (drop (a .at) (a .input .now))
-    ≡ cond (ltb (l .loop .best) (a .rules)) (some (l .loop .best)) (cond (a .defaulted) (some defaultNumber) none)
+    choose (tableAt (a .loaded .now) (a .rules) (theMode (a .mode))) (drop (a .at) (a .input .now))
+    ≡ cond (ltb (l .loop .best) (a .rules)) (some (l .loop .best)) (orDefault (theMode (a .mode)) (drop (a .at) (a .input .now)) none)
 chosen c =
     let l = c .before in
     let a = l .before .before .before .args in
     let e : l .loop .r ≡ a .rules = omega arith in
-    kept-choose (a .loaded .now) (a .rules) (a .defaulted) (drop (a .at) (a .input .now)) (l .loop .best) (l .loop .least) (rw e at (l .loop .inv .1))
+    kept-choose (a .loaded .now) (a .rules) (theMode (a .mode)) (drop (a .at) (a .input .now)) (l .loop .best) (l .loop .least) (rw e at (l .loop .inv .1))
 
 returns : tie.Need-returns Inv-loop μ-loop
 returns c = sym (chosen (c .before) ∙ rw (lt-ltb _ _ (c .if3 .taken)))
 
-returns-2 : tie.Need-returns-2 Inv-loop μ-loop
-returns-2 c = sym (chosen (c .before .before) ∙ rw (le-ltb _ _ (c .before .if3 .left), c .if4 .taken))
+fall-requires : tie.Need-fall-requires Inv-loop μ-loop
+fall-requires c κs = omega arith
 
-returns-3 : tie.Need-returns-3 Inv-loop μ-loop
-returns-3 c = sym (chosen (c .before .before) ∙ rw (le-ltb _ _ (c .before .if3 .left), c .if4 .left))
+returns-2 : tie.Need-returns-2 Inv-loop μ-loop
+returns-2 c = c .fall .ensures ∙ sym (chosen (c .before .before) ∙ rw (le-ltb _ _ (c .before .if3 .left)))
 
 pub choose-at-spec : {M : Type 1} → statement M
 choose-at-spec =
@@ -109,5 +109,5 @@ choose-at-spec =
     loop-less
     loop-again
     returns
-    returns-2
-    returns-3)
+    fall-requires
+    returns-2)

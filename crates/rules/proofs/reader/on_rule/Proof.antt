@@ -17,7 +17,7 @@ use Rattle.rules.proofs.reader.on_rule.Tie as tie
 
 -- the function's entry, and what `admit` answers
 abbrev entered : tie.Else2 → tie.Start
-entered c = c .before .before .before .before
+entered c = c .before .before .before .before .before
 
 abbrev asked : tie.Start → Outcome Reader
 asked s = admit (s .args .reader) (rule (s .args .size) (s .args .anchored))
@@ -28,8 +28,11 @@ no-gap c = sym (c .before .has-gap .ensures) ∙ c .if2 .left
 returns : tie.Need-returns
 unfolding admit
 returns c =
-    let e : asked (c .before .before) ≡ refused 3 = select-here _ _ _ (c .if1 .taken) in
+    let e : asked (c .before .before .before) ≡ refused 3 = select-here _ _ _ (sym (c .before .has-default .ensures) ∙ c .if1 .taken) in
     (sym e, kept _ _ e)
+
+has-default-requires : tie.Need-has-default-requires
+has-default-requires c κs = search needs
 
 has-gap-requires : tie.Need-has-gap-requires
 has-gap-requires c κs = search needs
@@ -38,7 +41,8 @@ returns-2 : tie.Need-returns-2
 unfolding admit
 returns-2 c =
     let d = c .before .before in
-    let e : asked (d .before .before) ≡ refused 4 = select-next _ _ _ (d .if1 .left) ∙ select-here _ _ _ (sym (c .before .has-gap .ensures) ∙ c .if2 .taken) in
+    let e : asked (d .before .before .before) ≡ refused 4 =
+    select-next _ _ _ (sym (d .before .has-default .ensures) ∙ d .if1 .left) ∙ select-here _ _ _ (sym (c .before .has-gap .ensures) ∙ c .if2 .taken) in
     (sym e, kept _ _ e)
 
 returns-3 : tie.Need-returns-3
@@ -46,7 +50,7 @@ unfolding admit
 returns-3 c =
     let d = c .before in
     let e : asked (entered d) ≡ refused 6 =
-    select-next _ _ _ (d .before .before .if1 .left) ∙ select-next _ _ _ (no-gap d) ∙ select-here _ _ _ (eq-eqb _ _ (c .if3 .taken)) in
+    select-next _ _ _ (sym (d .before .before .before .has-default .ensures) ∙ d .before .before .if1 .left) ∙ select-next _ _ _ (no-gap d) ∙ select-here _ _ _ (eq-eqb _ _ (c .if3 .taken)) in
     (sym e, kept _ _ e)
 
 mul-at : tie.Need-mul-at
@@ -70,8 +74,8 @@ mul-loaded-2 c = search needs
 slice-write-loaded-2 : tie.Need-slice-write-loaded-2
 slice-write-loaded-2 c = simp length-set (omega arith)
 
-add-t10 : tie.Need-add-t10
-add-t10 c = search needs
+add-t11 : tie.Need-add-t11
+add-t11 c = search needs
 
 same-length : tie.Need-same-length
 same-length c = search needs
@@ -81,13 +85,14 @@ unfolding admit
 returns-4 c =
     let d = c .before .before in
     let e : asked (entered d) ≡ accepted _ =
-    select-next _ _ _ (d .before .before .if1 .left) ∙ select-next _ _ _ (no-gap d) ∙ select-next _ _ _ (ne-eqb _ _ (c .before .if3 .left)) ∙ select-last _ in
+    select-next _ _ _ (sym (d .before .before .before .has-default .ensures) ∙ d .before .before .if1 .left) ∙ select-next _ _ _ (no-gap d) ∙ select-next _ _ _ (ne-eqb _ _ (c .before .if3 .left)) ∙ select-last _ in
     (sym e, rw (c .bit-of .ensures) (changed _ _ e))
 
 pub on-rule-spec : {M : Type 1} → statement M
 on-rule-spec =
     tie.close
     (tie.spec
+    has-default-requires
     returns
     has-gap-requires
     returns-2
@@ -99,6 +104,6 @@ on-rule-spec =
     add-loaded
     mul-loaded-2
     slice-write-loaded-2
-    add-t10
+    add-t11
     same-length
     returns-4)

@@ -29,20 +29,20 @@ enum-known-record-4 c = search needs
 on-term-requires : tie.Need-on-term-requires
 on-term-requires c κs = search needs
 
-enum-told : tie.Need-enum-told
-enum-told c = search needs
+enum-known-record-5 : tie.Need-enum-known-record-5
+enum-known-record-5 c = search needs
 
 on-default-requires : tie.Need-on-default-requires
 on-default-requires c κs = search needs
 
-enum-known-record-5 : tie.Need-enum-known-record-5
-enum-known-record-5 c = search needs
+enum-known-record-6 : tie.Need-enum-known-record-6
+enum-known-record-6 c = search needs
 
 on-hexadecimal-requires : tie.Need-on-hexadecimal-requires
 on-hexadecimal-requires c κs = search needs
 
-enum-told-2 : tie.Need-enum-told-2
-enum-told-2 c = search needs
+enum-told : tie.Need-enum-told
+enum-told c = search needs
 
 same-length : tie.Need-same-length
 same-length c = search needs
@@ -72,16 +72,16 @@ same-length-5 : tie.Need-same-length-5
 same-length-5 c = search needs
 
 returns-5 : tie.Need-returns-5
-returns-5 c = simp (c .before .before .before .before .enum-told .given .1) (c .before .before .on-default .ensures)
+returns-5 c = simp (c .before .before .before .before .before .record5 .given .1) (c .before .before .on-default .ensures)
 
 same-length-6 : tie.Need-same-length-6
 same-length-6 c = search needs
 
 returns-6 : tie.Need-returns-6
-returns-6 c = simp (c .before .before .before .before .before .record5 .given .1) (c .before .before .on-hexadecimal .ensures)
+returns-6 c = simp (c .before .before .before .before .before .record6 .given .1) (c .before .before .on-hexadecimal .ensures)
 
 returns-7 : tie.Need-returns-7
-returns-7 c = simp (c .enum-told2 .given .1) (refl, refl)
+returns-7 c = simp (c .enum-told .given .1) (refl, refl)
 
 pub take-record-spec : {M : Type 1} → statement M
 take-record-spec =
@@ -95,11 +95,11 @@ take-record-spec =
     on-output-requires
     enum-known-record-4
     on-term-requires
-    enum-told
-    on-default-requires
     enum-known-record-5
+    on-default-requires
+    enum-known-record-6
     on-hexadecimal-requires
-    enum-told-2
+    enum-told
     same-length
     returns
     same-length-2

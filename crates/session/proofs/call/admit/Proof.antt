@@ -22,7 +22,7 @@ use Rattle.reckoning.proofs.Laws.Admitting.{roomTests, words-unsound, session-u
 use Rattle.session.proofs.call.admit.Statement.{statement}
 use Rattle.session.proofs.call.admit.Tie as tie
 
--- the function's entry, the words and the session, where the counts of uses are known to be 33
+-- the function's entry, the words and the session, where the counts of uses are known to be 34
 abbrev start : tie.After-places → tie.Start
 start p = p .before .before
 

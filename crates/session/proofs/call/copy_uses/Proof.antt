@@ -11,13 +11,13 @@ use Rattle.session.proofs.call.copy_uses.Statement.{statement}
 use Rattle.session.proofs.call.copy_uses.Tie as tie
 
 abbrev Inv-loop : tie.InvT-loop
-Inv-loop uses from to₀ i₀ to i = (i ≤ 33) × (length to ≡ 33) × (take i to ≡ take i uses)
+Inv-loop uses from to₀ i₀ to i = (i ≤ 34) × (length to ≡ 34) × (take i to ≡ take i uses)
 
 abbrev μ-loop : tie.MeasureT-loop
-μ-loop uses from to₀ i₀ to i = 33 - i
+μ-loop uses from to₀ i₀ to i = 34 - i
 
--- both have their 33 places
-places : (c : tie.After-to Inv-loop μ-loop) → length (c .before .before .args .uses .now) ≡ 33
+-- both have their 34 places
+places : (c : tie.After-to Inv-loop μ-loop) → length (c .before .before .args .uses .now) ≡ 34
 places c = c .before .from .given .0
 
 loop-holds : tie.Need-loop-holds Inv-loop μ-loop
@@ -55,7 +55,7 @@ returns : tie.Need-returns Inv-loop μ-loop
 returns c =
     let l = c .before .loop in
     let uses = c .before .before .before .before .args .uses .now in
-    let e : l .i ≡ 33 = omega (arith, l .inv .0, c .loop-test .left) in
+    let e : l .i ≡ 34 = omega (arith, l .inv .0, c .loop-test .left) in
     sym (take-all (l .i) (l .to) (omega (arith, e, l .inv .1))) ∙ l .inv .2 ∙ take-all (l .i) uses (omega (arith, e, places (c .before .before)))
 
 pub copy-uses-spec : {M : Type 1} → statement M

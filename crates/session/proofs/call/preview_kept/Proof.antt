@@ -51,7 +51,7 @@ resume-requires c κs =
     let copied = c .before .before .copy-uses in
     let t = c .before .before .before .before in
     let a = start (t .before .before) .args in
-    subst (λ uses. (length uses ≡ 33) × Resumable (a .words .now) (sessionOf (together (a .kept) uses)) (length (a .piece .now)) 0) (sym (copied .ensures))
+    subst (λ uses. (length uses ≡ 34) × Resumable (a .words .now) (sessionOf (together (a .kept) uses)) (length (a .piece .now)) 0) (sym (copied .ensures))
     (t .before .before .admit .ensures .0, (_, admitted t, λ any. absurd (omega arith)))
 
 returns : tie.Need-returns

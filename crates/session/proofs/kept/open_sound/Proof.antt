@@ -19,11 +19,11 @@ small c =
     let b : s .args .consumed ≤ 1099511627777 = omega (arith, s .pre .3) in
     cost-small (s .args .words .now) (s .pre .0) (s .args .consumed) (c .cost .ensures) b
 
-leads-to-requires : tie.Need-leads-to-requires
-leads-to-requires c κs = search needs
+stands-at-requires : tie.Need-stands-at-requires
+stands-at-requires c κs = search needs
 
 returns : tie.Need-returns
-returns c = sym (all-stops _ (failed (c .before .leads-to .ensures) (c .if1 .taken)))
+returns c = sym (all-stops _ (failed (c .before .stands-at .ensures) (c .if1 .taken)))
 
 cost-requires : tie.Need-cost-requires
 cost-requires c κs = search needs
@@ -38,13 +38,13 @@ returns-2 : tie.Need-returns-2
 returns-2 c =
     let a = start c .args in
     ap (λ x. leb (a .steps) (x * a .consumed + a .count)) (c .cost .ensures)
-    ∙ sym (all-next _ (passed (c .before .before .leads-to .ensures) (c .before .if1 .left)) ∙ all-last _)
+    ∙ sym (all-next _ (passed (c .before .before .stands-at .ensures) (c .before .if1 .left)) ∙ all-last _)
 
 pub open-sound-spec : {M : Type 1} → statement M
 open-sound-spec =
     tie.close
     (tie.spec
-    leads-to-requires
+    stands-at-requires
     returns
     cost-requires
     mul-result

@@ -25,8 +25,8 @@ text s = s .args .given .now ++ s .args .piece .now
 abbrev written : tie.After-emit-defaults → List ℕ
 written d = d .emit-defaults .last .1 .1 .1 .1 .1 .0
 
-has-default-requires : tie.Need-has-default-requires
-has-default-requires c κs = let s = c .before .before .before .before .before .before .before in sound-header (s .args .words .now) (s .pre .0 .0) .long
+takes-one-requires : tie.Need-takes-one-requires
+takes-one-requires c κs = let s = c .before .before .before .before .before .before .before in sound-header (s .args .words .now) (s .pre .0 .0) .long
 
 emit-defaults-requires : tie.Need-emit-defaults-requires
 emit-defaults-requires c κs =
@@ -35,7 +35,7 @@ emit-defaults-requires c κs =
     let b = d .before in
     let s = b .before .before .before .before .before .before .before in
     let w = s .args .words .now in
-    let one = eqb→eq (at w 5) 1 (to-T (eqb (at w 5) 1) (sym (d .has-default .ensures) ∙ t .if2 .taken)) in
+    let one = eqb→eq (at w 5) 1 (to-T (eqb (at w 5) 1) (sym (d .takes-one .ensures) ∙ t .if2 .taken)) in
     ((s .pre .0 .0, s .pre .0 .1, one), (s .pre .1 .0, b .if1 .taken))
 
 -- where the run began
@@ -122,7 +122,7 @@ pub advance-spec : {M : Type 1} → statement M
 advance-spec =
     tie.close
     (tie.spec
-    has-default-requires
+    takes-one-requires
     emit-defaults-requires
     sub-count-uses
     count-uses-requires

@@ -132,7 +132,8 @@ emit-default-requires c κs =
     let w = a .words .now in
     let l = c .before .before .before .before .before .before .before .loop in
     let h = sound-header w (s .pre .0 .0) in
-    let d = sound-default w (s .pre .0 .0) (s .pre .0 .2) in
+    let one = s .pre .0 .2 in
+    let d = sound-default w (s .pre .0 .0) (λ e. omega arith) in
     let k = leads (c .before .before .before) in
     let room =
     defaulted-room w (text s) (a .run .at) (a .run .count) (a .run .steps) (a .output .now) (a .run) (s .pre .1 .1) refl refl refl (s .pre .1 .0)

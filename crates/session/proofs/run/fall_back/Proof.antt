@@ -1,11 +1,15 @@
 -- `run::fall_back` meets its contract: no rule is named, so the machine's step is to roll back, to wait or to close.
 -- Assumes nothing.
-use mathlib.Core.Bool.{Bool, true, false}
+use mathlib.Core.Bool.{Bool, true, false, _&&_, _||_, true≢false}
 use mathlib.Core.List.{List, _++_}
-use mathlib.Core.Path.{_≡_, sym, subst, _∙_}
-use Prim.Native.Nat.{ℕ, _<_}
+use mathlib.Core.Path.{_≡_, refl, sym, subst, _∙_}
+use Prim.Native.Nat.{ℕ, _≤_, _<_}
 use native.Mathlib.Omega.{arith}
 use borrow.Author.Needs.{needs}
+use borrow.Author.Tests.{ltb-false}
+use lib.Dec.{T, ltb, ltb→lt}
+use lib.ListN.{length}
+use Rattle.lists.proofs.Laws.Tests.{to-T}
 use Rattle.session.specs.bridge.Running.{lent, Move, Back, Wait, Close, Decides, Stands, acceptNow}
 use Rattle.session.proofs.Laws.Running.{of-not-true, of-not-false}
 use Rattle.session.proofs.Laws.Turning.{stuck-backs, pause-waits, end-backs, end-closes, wait-moves, close-moves}
@@ -29,12 +33,51 @@ none s stuck ended e f = sym (λ i. acceptNow (s .args .words .now) (s .args .ru
 abbrev Decided : tie.Start → Move → Bool → Type 0
 Decided s v ended = Decides (s .args .words .now) (text s) ended (s .args .run .state .0) (s .args .run .from) (s .args .run .at) v
 
+-- the store is given back: before a character without a target, or at the end with one
+backs : (s : tie.Start) (stuck ended : Bool) → s .args .stuck ≡ stuck → s .args .ended ≡ ended → T (stuck || (ended && ltb (s .args .run .from) (s .args .run .at))) →
+    (s .args .run .from < length (text s)) × Decided s Back (s .args .ended)
+backs s true ended e f t =
+    let a = s .args in
+    let P = s .pre .0 .1 in
+    let i = standing s true e .0 in (
+      omega (arith, i, P .order),
+      stuck-backs (a .words .now) (text s) (s .pre .0 .0) (a .run .state .0) (P .state) (a .run .from) (a .run .at) (a .ended) (standing s true e) (none s true (a .ended) e (λ _. a .ended)),
+    )
+backs s false true e f t =
+    let a = s .args in
+    let P = s .pre .0 .1 in
+    let i : a .run .from < a .run .at = ltb→lt (a .run .from) (a .run .at) t in (
+      omega (arith, i, P .inside),
+      subst (Decided s Back) (sym f)
+          (end-backs (a .words .now) (text s) (s .pre .0 .0) (a .run .state .0) (P .state) (a .run .from) (a .run .at) (standing s false e) i (none s false true e f)),
+    )
+backs s false false e f t = absurd t
+
+-- it is not
+keeps : (s : tie.Start) (stuck ended : Bool) → s .args .stuck ≡ stuck → s .args .ended ≡ ended → stuck || (ended && ltb (s .args .run .from) (s .args .run .at)) ≡ false →
+    (s .args .stuck ≡ false) × (s .args .ended ≡ true → s .args .run .at ≤ s .args .run .from)
+keeps s true ended e f t = absurd (true≢false t)
+keeps s false true e f t = (e, λ _. ltb-false (s .args .run .from) (s .args .run .at) t)
+keeps s false false e f t = (e, λ g. absurd (true≢false (sym g ∙ f)))
+
+abbrev start : tie.After-gives-back → tie.Start
+start g = g .before .before .before .before .before
+
+rolls : (c : tie.Then1) → (start (c .before) .args .run .from < length (text (start (c .before)))) × Decided (start (c .before)) Back (start (c .before) .args .ended)
+rolls c =
+    let s = start (c .before) in
+    backs s (s .args .stuck) (s .args .ended) refl refl (to-T _ (sym (c .before .gives-back .ensures) ∙ c .if1 .taken))
+
+stays : (c : tie.Else1) → (start (c .before) .args .stuck ≡ false) × (start (c .before) .args .ended ≡ true → start (c .before) .args .run .at ≤ start (c .before) .args .run .from)
+stays c =
+    let s = start (c .before) in
+    keeps s (s .args .stuck) (s .args .ended) refl refl (sym (c .before .gives-back .ensures) ∙ c .if1 .left)
+
+gives-back-requires : tie.Need-gives-back-requires
+gives-back-requires c κs = search needs
+
 roll-back-requires : tie.Need-roll-back-requires
-roll-back-requires c κs =
-    let t = c .before .before in
-    let s = t .before .before .before .before .before in
-    let i = standing s true (t .if1 .taken) .0 in
-    (s .pre .0, omega (arith, i, s .pre .0 .1 .order))
+roll-back-requires c κs = let t = c .before .before in (start (t .before) .pre .0, rolls t .0)
 
 same-length : tie.Need-same-length
 same-length c = search needs
@@ -42,16 +85,8 @@ same-length c = search needs
 returns : tie.Need-returns
 returns c =
     let d = c .before .before in
-    let t = d .before .before .before in
-    let s = t .before .before .before .before .before in
-    let a = s .args in
-    let e = t .if1 .taken in
-    let known = d .roll-back .ensures in (
-      known .0 (a .ended)
-          (stuck-backs (a .words .now) (text s) (s .pre .0 .0) (a .run .state .0) (s .pre .0 .1 .state) (a .run .from) (a .run .at) (a .ended) (standing s true e)
-          (none s true (a .ended) e (λ _. a .ended))),
-      known .1,
-    )
+    let known = d .roll-back .ensures in
+    (known .0 (rolls (d .before .before .before) .1), known .1)
 
 waiting-requires : tie.Need-waiting-requires
 waiting-requires c κs = search needs
@@ -59,9 +94,9 @@ waiting-requires c κs = search needs
 returns-2 : tie.Need-returns-2
 returns-2 c =
     let t = c .before in
-    let s = t .before .before .before .before .before .before in
+    let s = start (t .before .before) in
     let a = s .args in
-    let e = t .before .if1 .left in
+    let e = stays (t .before) .0 in
     let f = of-not-true (a .ended) (t .if2 .taken) in
     let P = s .pre .0 .1 in
     let decided : Decided s Wait (a .ended) =
@@ -69,59 +104,32 @@ returns-2 c =
     (pause-waits (a .words .now) (text s) (s .pre .0 .0) (a .run .state .0) (P .state) (a .run .from) (a .run .at) (standing s false e) (none s false false e f)) in
     wait-moves (a .words .now) (text s) (s .pre .0 .0) (a .run) (lent (a .output .now) (a .uses .now)) P (s .pre .0 .2) (c .waiting .result) (a .ended) decided (c .waiting .ensures)
 
-roll-back-requires-2 : tie.Need-roll-back-requires-2
-roll-back-requires-2 c κs =
-    let t = c .before .before in
-    let s = t .before .before .before .before .before .before .before .before in
-    let i : s .args .run .from < s .args .run .at = t .if3 .taken in
-    (s .pre .0, omega (arith, i, s .pre .0 .1 .inside))
-
-same-length-2 : tie.Need-same-length-2
-same-length-2 c = search needs
+halted-requires : tie.Need-halted-requires
+halted-requires c κs = let P = start (c .before .before) .pre .0 .1 in omega (arith, P .few, P .order, P .inside, P .short)
 
 returns-3 : tie.Need-returns-3
 returns-3 c =
-    let d = c .before .before in
-    let t = d .before .before .before in
-    let l = t .before .before in
-    let s = l .before .before .before .before .before .before in
-    let a = s .args in
-    let e = l .before .if1 .left in
-    let f = of-not-false (a .ended) (l .if2 .left) in
-    let known = d .roll-back2 .ensures in
-    let decided : Decided s Back (a .ended) =
-    subst (Decided s Back) (sym f)
-    (end-backs (a .words .now) (text s) (s .pre .0 .0) (a .run .state .0) (s .pre .0 .1 .state) (a .run .from) (a .run .at) (standing s false e) (t .if3 .taken) (none s false true e f)) in
-    (known .0 (a .ended) decided, known .1)
-
-halted-requires : tie.Need-halted-requires
-halted-requires c κs = search needs
-
-returns-4 : tie.Need-returns-4
-returns-4 c =
     let t = c .before in
-    let l = t .before .before in
-    let s = l .before .before .before .before .before .before in
+    let s = start (t .before .before) in
     let a = s .args in
-    let e = l .before .if1 .left in
-    let f = of-not-false (a .ended) (l .if2 .left) in
+    let k = stays (t .before) in
+    let e = k .0 in
+    let f = of-not-false (a .ended) (t .if2 .left) in
     let P = s .pre .0 .1 in
     let decided : Decided s Close (a .ended) =
     subst (Decided s Close) (sym f)
-    (end-closes (a .words .now) (text s) (s .pre .0 .0) (a .run .state .0) (P .state) (a .run .from) (a .run .at) (standing s false e) (t .if3 .left) (none s false true e f)) in
+    (end-closes (a .words .now) (text s) (s .pre .0 .0) (a .run .state .0) (P .state) (a .run .from) (a .run .at) (standing s false e) (k .1 f) (none s false true e f)) in
     close-moves (a .words .now) (text s) (s .pre .0 .0) (a .run) (lent (a .output .now) (a .uses .now)) P (s .pre .0 .2) (c .halted .result) (a .ended) decided (c .halted .ensures)
 
 pub fall-back-spec : {M : Type 1} → statement M
 fall-back-spec =
     tie.close
     (tie.spec
+    gives-back-requires
     roll-back-requires
     same-length
     returns
     waiting-requires
     returns-2
-    roll-back-requires-2
-    same-length-2
-    returns-3
     halted-requires
-    returns-4)
+    returns-3)

@@ -38,7 +38,7 @@ loop-again : tie.Need-loop-again Inv-loop μ-loop
 loop-again c =
     let l = c .before .before in
     let uses = l .before .args .uses .now in
-    let size : length uses ≡ 33 = l .before .pre .0 in
+    let size : length uses ≡ 34 = l .before .pre .0 in
     let more : l .loop .i + 1 ≤ 32 = omega arith in
     let next = ap (all (eqb 0)) (held-next uses 32 (l .loop .i) (omega arith) (omega arith)) in (
       more,
@@ -52,7 +52,7 @@ returns : tie.Need-returns Inv-loop μ-loop
 returns c =
     let l = c .before in
     let uses = l .before .args .uses .now in
-    let size : length uses ≡ 33 = l .before .pre .0 in
+    let size : length uses ≡ 34 = l .before .pre .0 in
     let e : l .loop .i ≡ 32 = omega arith in
     let none-left = ap (λ n. all (eqb 0) (drop n (take 32 uses))) e ∙ ap (all (eqb 0)) (held-done uses 32 (omega arith)) in
     sym (l .loop .inv .1 ∙ ap (λ b. eqb (l .loop .joined) 0 && b) none-left ∙ and-true (eqb (l .loop .joined) 0))

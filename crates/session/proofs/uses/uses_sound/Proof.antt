@@ -1,6 +1,6 @@
--- `uses::uses_sound` meets its contract: the first test that fails decides, and past two whether there is a default or it was not used.
--- The sum is what was consumed just where the default's count is what the rules leave of it.
-use mathlib.Core.Bool.{Bool, true, false, not}
+-- `uses::uses_sound` meets its contract: the first test that fails decides, and past three what a lacking default or mark leaves unused.
+-- The sum is what was consumed just where the default's count is what the rules and the pairs leave of it.
+use mathlib.Core.Bool.{true, false}
 use mathlib.Core.Logic.{_≢_}
 use mathlib.Core.Path.{_≡_, sym, ap, _∙_}
 use Prim.Native.Nat.{ℕ, _+_, _*_, _<_}
@@ -10,9 +10,8 @@ use borrow.Author.Tests.{eq-eqb, ne-eqb}
 use lib.Dec.{eqb}
 use lib.ListN.{take, drop}
 use Rattle.lists.specs.Lists.{all, sumBelow}
-use Rattle.lists.specs.Decide.{implies}
-use Rattle.lists.proofs.Laws.Tests.{passed, failed, all-stops, all-next, all-last}
-use Rattle.meaning.specs.Table.{defaultNumber}
+use Rattle.lists.proofs.Laws.Tests.{passed, failed, all-stops, all-next}
+use Rattle.meaning.specs.Table.{defaultNumber, pairNumber}
 use Rattle.meaning.specs.Block.{at}
 use Rattle.automaton.specs.Sound.{ruleCount, blockAt}
 use Rattle.automaton.proofs.Laws.Words.{sound-header}
@@ -33,40 +32,39 @@ sum-fails : (s : tie.Start) → used s ≢ s .args .consumed → false ≡ sound
 unfolding soundUses
 sum-fails s d = sym (all-stops _ (ne-eqb (used s) (s .args .consumed) d))
 
--- what the rules leave
+-- what the rules leave, and then the pairs
 abbrev start : tie.After-left → tie.Start
 start k = k .before .before .before .before
 
 left-of : (k : tie.After-left) → byRules (start k) + k .left .given .0 .0 ≡ start k .args .consumed
 left-of k = enough-less _ _ _ (sym (k .before .before .without-rules .ensures) ∙ ap restOf (k .left .given .1))
 
+abbrev ruled : tie.After-singles → tie.After-left
+ruled k = k .before .before .before .before .before
+
+singles-of : (k : tie.After-singles) → at (start (ruled k) .args .uses .now) pairNumber * 2 + k .singles .given .0 .0 ≡ ruled k .left .given .0 .0
+singles-of k = enough-less _ _ _ (sym (k .before .before .without-rule .ensures) ∙ ap restOf (k .singles .given .1))
+
 -- the counts of rules that the machine lacks, as the definition has them
-others : (c : tie.After-others-unused) → let a = start (c .before .before .before .before .before) .args in
+abbrev summed : tie.After-others-unused → tie.Else1
+summed c = c .before .before
+
+abbrev entry : tie.Else1 → tie.Start
+entry e = start (ruled (e .before .before .before))
+
+others : (c : tie.After-others-unused) → let a = entry (summed c) .args in
     c .others-unused .result ≡ all (eqb 0) (drop (ruleCount (a .words .now)) (take defaultNumber (a .uses .now)))
 others c =
-    let a = start (c .before .before .before .before .before) .args in
+    let a = entry (summed c) .args in
     c .others-unused .ensures ∙ ap (λ n. all (eqb 0) (drop n (take defaultNumber (a .uses .now)))) (c .before .rule-count .ensures)
 
 -- past the sum
-past-sum : (c : tie.Else1) → let s = start (c .before .before .before) in eqb (used s) (s .args .consumed) ≡ true
+past-sum : (c : tie.Else1) → let s = entry c in eqb (used s) (s .args .consumed) ≡ true
 unfolding charactersUsed
 past-sum c =
-    let s = start (c .before .before .before) in
-    eq-eqb (used s) (s .args .consumed) (omega (arith, left-of (c .before .before .before), c .if1 .left))
-
--- past the other rules, by whether there is a default
-past-others : (c : tie.After-has-default) (b : Bool) → let a = start (c .before .before .before .before .before .before .before) .args in
-    c .has-default .result ≡ b →
-    implies (not b) (eqb (at (a .uses .now) defaultNumber) 0) ≡ soundUses (a .words .now) (a .uses .now) (a .consumed)
-unfolding soundUses
-past-others c b known =
-    let d = c .before in
-    let a = start (d .before .before .before .before .before .before) .args in
-    sym
-    (all-next _ (past-sum (d .before .before .before))
-    ∙ all-next _ (passed (others (d .before)) (d .if2 .left))
-    ∙ all-last _
-    ∙ ap (λ x. implies (not x) (eqb (at (a .uses .now) defaultNumber) 0)) (sym (c .has-default .ensures) ∙ known))
+    let s = entry c in
+    let k = c .before .before .before in
+    eq-eqb (used s) (s .args .consumed) (omega (arith, left-of (ruled k), singles-of k, c .if1 .left))
 
 without-rules-requires : tie.Need-without-rules-requires
 without-rules-requires c κs = search needs
@@ -85,37 +83,62 @@ returns c =
     let lacking : s .args .consumed < byRules s = lacking-less _ _ (sym (k .without-rules .ensures) ∙ ap restOf (c .enum-told .given .1)) in
     sum-fails s (omega arith)
 
-element-copy-out-if1 : tie.Need-element-copy-out-if1
-element-copy-out-if1 c = search needs
+element-copy-out-without-rule : tie.Need-element-copy-out-without-rule
+element-copy-out-without-rule c = search needs
+
+without-rule-requires : tie.Need-without-rule-requires
+without-rule-requires c κs =
+    let k = c .before .before in
+    (omega (arith, left-of k, start k .pre .2), omega arith, omega arith)
+
+enum-known-singles : tie.Need-enum-known-singles
+enum-known-singles c = search needs
+
+enum-told-2 : tie.Need-enum-told-2
+enum-told-2 c = search needs
 
 returns-2 : tie.Need-returns-2
 unfolding charactersUsed
-returns-2 c = sum-fails (start (c .before .before .before)) (omega (arith, left-of (c .before .before .before), c .if1 .taken))
+returns-2 c =
+    let d = c .before .before in
+    let k = d .before .before .before in
+    let s = start k in
+    let lacking : k .left .given .0 .0 < at (s .args .uses .now) pairNumber * 2 = lacking-less _ _ (sym (d .without-rule .ensures) ∙ ap restOf (c .enum-told2 .given .1)) in
+    sum-fails s (omega (arith, left-of k))
+
+element-copy-out-if1 : tie.Need-element-copy-out-if1
+element-copy-out-if1 c = search needs
+
+returns-3 : tie.Need-returns-3
+unfolding charactersUsed
+returns-3 c = let k = c .before .before .before in sum-fails (start (ruled k)) (omega (arith, left-of (ruled k), singles-of k, c .if1 .taken))
 
 rule-count-requires : tie.Need-rule-count-requires
-rule-count-requires c κs = let s = start (c .before .before .before) in sound-header (s .args .words .now) (s .pre .0) .long
+rule-count-requires c κs = let s = entry c in sound-header (s .args .words .now) (s .pre .0) .long
 
 others-unused-requires : tie.Need-others-unused-requires
 others-unused-requires c κs =
-    let s = start (c .before .before .before .before) in
+    let s = entry (c .before) in
     (s .pre .1, omega (arith, c .rule-count .ensures, sound-header (s .args .words .now) (s .pre .0) .few-rules))
 
-returns-3 : tie.Need-returns-3
-unfolding soundUses
-returns-3 c = sym (all-next _ (past-sum (c .before .before .before)) ∙ all-stops _ (failed (others (c .before)) (c .if2 .taken)))
-
-has-default-requires : tie.Need-has-default-requires
-has-default-requires c κs =
-    let s = start (c .before .before .before .before .before .before) in sound-header (s .args .words .now) (s .pre .0) .long
-
-element-copy-out-result : tie.Need-element-copy-out-result
-element-copy-out-result c = search needs
-
 returns-4 : tie.Need-returns-4
-returns-4 c = c .if3 .taken ∙ past-others (c .before) true (c .if3 .taken)
+unfolding soundUses
+returns-4 c = sym (all-next _ (past-sum (summed (c .before))) ∙ all-stops _ (failed (others (c .before)) (c .if2 .taken)))
+
+element-copy-out-defaults-sound : tie.Need-element-copy-out-defaults-sound
+element-copy-out-defaults-sound c = search needs
+
+element-copy-out-defaults-sound-2 : tie.Need-element-copy-out-defaults-sound-2
+element-copy-out-defaults-sound-2 c = search needs
+
+defaults-sound-requires : tie.Need-defaults-sound-requires
+defaults-sound-requires c κs = entry (summed (c .before .before .before)) .pre .0
 
 returns-5 : tie.Need-returns-5
-returns-5 c = past-others (c .before .before) false (c .before .if3 .left)
+unfolding soundUses
+returns-5 c =
+    let e = c .before .before .before in
+    c .defaults-sound .ensures ∙ sym (all-next _ (past-sum (summed (e .before))) ∙ all-next _ (passed (others (e .before)) (e .if2 .left)))
 
 pub uses-sound-spec : {M : Type 1} → statement M
 uses-sound-spec =
@@ -125,12 +148,17 @@ uses-sound-spec =
     enum-known-left
     enum-told
     returns
-    element-copy-out-if1
+    element-copy-out-without-rule
+    without-rule-requires
+    enum-known-singles
+    enum-told-2
     returns-2
+    element-copy-out-if1
+    returns-3
     rule-count-requires
     others-unused-requires
-    returns-3
-    has-default-requires
-    element-copy-out-result
     returns-4
+    element-copy-out-defaults-sound
+    element-copy-out-defaults-sound-2
+    defaults-sound-requires
     returns-5)
