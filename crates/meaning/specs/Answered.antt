@@ -45,6 +45,8 @@ tableOrder =
     table 1 2 (unknown ++ (0 ∷ [])) unknown
     -- of one record: a range, the first record of all, with its lowest above its highest
     ∷ table 2 3 (span 0 1 0) (span 0 0 0)
+    -- a second default, with 2 in byte 1 or with the mark of request [8]
+    ∷ table 2 3 (short ++ default ++ entry 5 2 0 0 0) (short ++ default ++ entry 5 1 0 0 0)
     -- a range of a position not below K, the one before it being skipped
     ∷ table 3 4 (rule 1 0 ++ span 1 0 0) (rule 2 0 ++ span 1 0 0)
     -- a 33rd rule, the 32nd being unfilled

@@ -33,6 +33,11 @@ pub record PairsMeant : Type 0 where
   -- "A default record may carry 1 in byte 1.": 0 and 1 are read, each as what it says, and another byte is refused by 2
   pub carries : (m : Mark) → decode (defaultRecord m) ≡ some (default m)
   pub no-other : (s : Reading) (m : ℕ) → 1 < m → readOne s (decode (defaultWith m)) ≡ refused 2
+  -- "a first unit 55296 to 56319 and a second 56320 to 57343": none is both, so a text has one reading
+  pub apart : (x : ℕ) → T (isFirst x) → T (isSecond x) → ⊥
+  -- "where no rule fits": a rule that fits goes first, also one that takes a first unit alone
+  pub rules-first : (t : Table) (rest : List ℕ) (r : ℕ) → r < length (t .rules) → T (fits (ruleAt t r) rest) →
+      (n : ℕ) × (choose t rest ≡ some n) × (n < length (t .rules))
   -- "Under that mark, where no rule fits and the next two characters are such a pair, the default takes both and writes both unchanged."
   pub both : (t : Table) → mode t ≡ Paired → (x y : ℕ) (rest : List ℕ) → T (isFirst x) → T (isSecond y) → NoneFits t (x ∷ y ∷ rest) →
       Writes t pairNumber (x ∷ y ∷ []) (x ∷ y ∷ []) rest

@@ -11,12 +11,14 @@ use Rattle.meaning.specs.Claims.{CheckAccepts, CheckRefuses, ValuesTested, Dire
 use Rattle.meaning.specs.Answered.{tableOrder, EndsApart}
 use Rattle.meaning.specs.Digits.{DigitsOut}
 use Rattle.meaning.specs.AnyOrder.{TermsInAnyOrder}
+use Rattle.meaning.specs.Pairs.{PairsMeant}
 use Rattle.automaton.specs.Claims.{StatesOfWords, CompileAnswers, CompileAccepts, CompileRefuses, CompiledSound}
 use Rattle.automaton.specs.Answered.{compileOrder}
 use Rattle.automaton.specs.Digits.{DigitWords}
 use Rattle.automaton.specs.Starts.{StartsInPlace}
 use Rattle.automaton.specs.Witness.{RulesChecked, SecondOfT3}
 use Rattle.automaton.specs.AnyOrder.{CompiledAlike}
+use Rattle.automaton.specs.Pairs.{PairWords}
 use Rattle.reckoning.specs.Claims.{OutcomesAgree, CallsAnswer, CallsKeep, SoundAddsUp, RefusesOthers}
 use Rattle.reckoning.specs.Serves.{Demand3, UsesAddUp, Serves}
 use Rattle.reckoning.specs.Answered.{callOrder}
@@ -24,6 +26,7 @@ use Rattle.reckoning.specs.Append.{FeedsJoin, PartsAccepted, StopsJoin, FinishJ
 use Rattle.reckoning.specs.Preview.{LooksAhead}
 use Rattle.reckoning.specs.Examples.{holds, rows}
 use Rattle.reckoning.specs.Instances.{Instances}
+use Rattle.reckoning.specs.Pairs.{PairsRun}
 use Rattle.typed.specs.Claims.{TypedRules}
 use Rattle.session.specs.Caller as Code
 use Rattle.session.specs.Preview.{PreviewTells}
@@ -151,6 +154,13 @@ pub record Promises : Type 2 where
   pub terms-in-any-order : TermsInAnyOrder
   -- They compile to equal words and are accepted alike
   pub compiled-alike : CompiledAlike
+  -- # Request [8]: pairs outside the basic plane
+  -- Under the mark, where no rule fits, the default takes a pair whole and writes it unchanged, and any other unit alone; a rule that fits goes first; a mark other than 0 and 1 is refused by 2; E is at least 1
+  pub pairs-meant : PairsMeant
+  -- Header word 5 is 2 for this mode alone, and in sound words E is then at least 1
+  pub pair-words : PairWords
+  -- A pair costs two takes and one emit after the back; a first unit with nothing readable after it is held at state 0, its back counted once, and sound sessions allow just this
+  pub pairs-run : PairsRun
   -- # The program
   -- For some input of as many bytes as were read, it hands to its writes what the list of turns prints, each from the session that the last one left, the first from a fresh one under compiling's words; or compiling's refusal, and reads nothing
   pub program : Program
@@ -159,7 +169,7 @@ pub record Promises : Type 2 where
   -- # Examples
   -- The eleven lines of document 01 that are marked P, and two of request [1]
   pub rows : T (all holds rows)
-  -- Demand 3 on two lists of calls, with document 01's values
+  -- Demand 3 on two lists of calls, with document 01's values, and on one of pairs
   pub instances : Instances
   -- T3's second rule is dead, and its first is not
   pub second-of-t3 : SecondOfT3

@@ -27,7 +27,8 @@ isStopped Open = false
 isStopped Closed = false
 isStopped Stopped = true
 
--- "No next character and no end yet: wait": nothing is unread, no default is due, and the state is none "whose go equals its end"
+-- "No next character and no end yet: wait": nothing is unread, no default is due, and the state is none "whose go equals its end". A first unit
+-- that a back left (request [8]) is in the store, as a session keeps it.
 pub record Waits (m : Automaton) (ended : Bool) (c : Configuration) : Type 0 where
   pub no-end : ended ≡ false
   pub unread : c .unread ≡ []

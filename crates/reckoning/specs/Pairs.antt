@@ -43,3 +43,5 @@ pub record PairsRun : Type 0 where
   pub goes-on : (x : ℕ) (piece : List ℕ) → start (x ∷ []) piece 0 ≡ backed (x ∷ piece) [] 0
   -- "A sound session allows it where the mark is set, the unit is a first unit and state 0 has no target for it."
   pub allows : (w : List ℕ) → T (sound w) → (x : ℕ) → T (standsAt (fromWords w) 0 (x ∷ [])) ↔ ((at w 5 ≡ 2) × T (isFirst x) × (fromWords w .target 0 x ≡ 0))
+  -- "one held character": never more at state 0
+  pub one-only : (w : List ℕ) (x y : ℕ) (held : List ℕ) → T (standsAt (fromWords w) 0 (x ∷ y ∷ held)) → ⊥

@@ -3,22 +3,23 @@
 use mathlib.Core.Bool.{_&&_, cond}
 use mathlib.Core.List.{List, [], _∷_, _++_}
 use mathlib.Core.Logic.{_≢_}
-use mathlib.Core.Option.{none, some}
+use mathlib.Core.Option.{Option, none, some}
 use mathlib.Core.Path.{_≡_, refl, sym, ap, subst, _∙_}
 use Prim.Native.Nat.{ℕ, _≤_, _<_}
 use native.Mathlib.Omega.{arith}
 use borrow.Author.Tests.{lt-leb}
+use lib.Dec.{T, leb, leb→le}
 use lib.ListN.{length, drop, length-append}
 use lib.Seq.{take-at, drop-at}
-use Rattle.lists.proofs.Laws.Tests.{of-T, both}
+use Rattle.lists.proofs.Laws.Tests.{of-T, both, and-left, and-right}
 use Rattle.meaning.specs.Refusal.{refused}
-use Rattle.meaning.specs.Table.{Paired, Table, mode, present, least, isFirst, isSecond, group, defaultNumber, pairNumber, expansion}
+use Rattle.meaning.specs.Table.{Paired, Table, mode, present, least, firstUnits, secondUnits, isFirst, isSecond, ruleAt, group, defaultNumber, pairNumber, expansion}
 use Rattle.meaning.specs.Record.{decode}
 use Rattle.meaning.specs.Reader.{Reading, readOne}
-use Rattle.meaning.specs.Meaning.{orDefault, choose, written, textOf, chosen, convert, meaningText}
+use Rattle.meaning.specs.Meaning.{fits, best, orDefault, choose, written, textOf, chosen, convert, meaningText}
 use Rattle.meaning.specs.Pairs.{defaultWith, NoneFits, Writes, PairsMeant}
 use Rattle.meaning.proofs.Laws.Groups.{group-pair, default-size, least-le, written-pair}
-use Rattle.meaning.proofs.Laws.Choice.{facts-fit, choose-is, Numbered, plain, paired, choose-number}
+use Rattle.meaning.proofs.Laws.Choice.{fits-facts, facts-fit, Chosen, best-chosen, choose-is, Numbered, plain, paired, choose-number}
 use Rattle.meaning.proofs.Laws.Decoding.{refuses, decode-default}
 use Rattle.meaning.proofs.Laws.Encoding.{read-default}
 use Rattle.meaning.proofs.Laws.Described.{well-formed-shaped}
@@ -42,6 +43,21 @@ writes-first t n word out rest l e c w =
       text = ap (λ c. textOf (λ g v. written (group t g) v) (c .log)) first ∙ ap (λ u. u ++ meaningText t rest) w;
     }
 
+no-both : (x : ℕ) → T (isFirst x) → T (isSecond x) → ⊥
+no-both x f s =
+    let least : ℕ = secondUnits .lowest in
+    let most : ℕ = firstUnits .highest in
+    omega (arith, leb→le x most (and-right (leb (firstUnits .lowest) x) (leb x most) f), leb→le least x (and-left (leb least x) (leb x (secondUnits .highest)) s))
+
+-- the choice is that among the rules where one fits
+rule-first : (t : Table) (rest : List ℕ) (r : ℕ) → r < length (t .rules) → T (fits (ruleAt t r) rest) →
+    (n : ℕ) × (choose t rest ≡ some n) × (n < length (t .rules))
+rule-first t rest r l f = from (best t (length (t .rules)) rest) (best-chosen t (length (t .rules)) rest)
+  where
+    from : (b : Option ℕ) → Chosen t (length (t .rules)) rest b → (n : ℕ) × (choose t rest ≡ some n) × (n < length (t .rules))
+    from none c = absurd (c r l (fits-facts t r rest f))
+    from (some n) c = (n, choose-is t rest (some n) c, c .0)
+
 refuses-mark : (s : Reading) (m : ℕ) → 1 < m → readOne s (decode (defaultWith m)) ≡ refused 2
 unfolding readOne
 refuses-mark s m h = ap (readOne s) (decode-default m 0 0 0 0 0 0 ∙ sym (refuses 0 _ _ (lt-leb m 1 h)))
@@ -51,6 +67,8 @@ pairs-meant =
     record {
       carries = read-default;
       no-other = refuses-mark;
+      apart = no-both;
+      rules-first = rule-first;
       both = λ t m x y rest f g h.
           writes-first t pairNumber (x ∷ y ∷ []) (x ∷ y ∷ []) rest (omega arith) (ap (λ k. k .size) (group-pair t))
           (none-fits t (x ∷ y ∷ rest) m h ∙ ap (λ b. some (cond b pairNumber defaultNumber)) (of-T (isFirst x && isSecond y) (both (isFirst x) (isSecond y) f g)))

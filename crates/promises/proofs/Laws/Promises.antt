@@ -5,6 +5,7 @@ use Rattle.meaning.proofs.Laws.Reading.{ends-apart}
 use Rattle.meaning.proofs.Laws.Answered.{tables-in-order}
 use Rattle.meaning.proofs.Laws.Digits.{digits-out}
 use Rattle.meaning.proofs.Laws.AnyOrder.{terms-in-any-order}
+use Rattle.meaning.proofs.Laws.Pairs.{pairs-meant}
 use Rattle.automaton.proofs.Laws.Compile.{compile-answers, compile-accepts, compile-refuses, compiling-sound}
 use Rattle.automaton.proofs.Laws.Answered.{compiling-in-order}
 use Rattle.automaton.proofs.Laws.Reached.{states-of-words}
@@ -13,6 +14,7 @@ use Rattle.automaton.proofs.Laws.Starts.{starts-in-place}
 use Rattle.automaton.proofs.Laws.Judging.{rules-checked}
 use Rattle.automaton.proofs.Laws.SecondOfT3.{second-of-t3}
 use Rattle.automaton.proofs.Laws.AnyOrder.{compiled-alike}
+use Rattle.automaton.proofs.Laws.Pairs.{pair-words}
 use Rattle.reckoning.proofs.Laws.Answers.{calls-answer, calls-keep, sound-adds-up, refuses-others}
 use Rattle.reckoning.proofs.Laws.Answered.{calls-in-order}
 use Rattle.reckoning.proofs.Laws.Demand3.{outcomes-agree}
@@ -20,6 +22,7 @@ use Rattle.reckoning.proofs.Laws.Append.{feeds-join, parts-accepted, stops-join
 use Rattle.reckoning.proofs.Laws.Preview.{looks-ahead}
 use Rattle.reckoning.proofs.Laws.Examples.{rows-hold}
 use Rattle.reckoning.proofs.Laws.Instances.{instances}
+use Rattle.reckoning.proofs.Laws.Pairs.{pairs-run}
 use Rattle.typed.proofs.Laws.Promised.{typed-rules}
 use Rattle.session.proofs.Laws.Caller.{code-serves}
 use Rattle.session.proofs.Laws.Foreseen.{preview-tells}
@@ -88,6 +91,9 @@ promises = record {
   c-witnesses-tell = witnesses-tell;
   terms-in-any-order = terms-in-any-order;
   compiled-alike = compiled-alike;
+  pairs-meant = pairs-meant;
+  pair-words = pair-words;
+  pairs-run = pairs-run;
   program = program;
   prints-meaning = prints-meaning;
   rows = rows-hold;

@@ -2,7 +2,7 @@
 -- The steps after a back are computed from the mark and the units.
 use mathlib.Core.Bool.{Bool, true, false, _&&_, not}
 use mathlib.Core.List.{List, [], _∷_, _++_}
-use mathlib.Core.Option.{some}
+use mathlib.Core.Option.{Option, some}
 use mathlib.Core.Path.{_≡_, refl, ap, _∙_}
 use Prim.Native.Nat.{ℕ, zero, suc, _+_}
 use native.Mathlib.Omega.{arith}
@@ -86,17 +86,25 @@ is-paired Absent t = absurd t
 is-paired Single t = absurd t
 is-paired Paired t = refl
 
-no-path : (A : Automaton) (x : ℕ) → T (isAt 0 (path A 0 (x ∷ []))) → ⊥
+-- no character leads to state 0
+no-path : (A : Automaton) (q x : ℕ) (held : List ℕ) → T (isAt 0 (path A q (x ∷ held))) → ⊥
 unfolding path
-no-path A x t = go (A .target 0 x) t
+no-path A q x [] t = go (A .target q x) t
   where
-    by : (b : Bool) (q : ℕ) → T (isAt 0 (pathIf b (some (suc q)))) → ⊥
-    by true q t = omega (arith, eqb→eq 0 (suc q) t)
-    by false q t = t
+    by : (b : Bool) (r : ℕ) → T (isAt 0 (pathIf b (some (suc r)))) → ⊥
+    by true r t = omega (arith, eqb→eq 0 (suc r) t)
+    by false r t = t
 
-    go : (q : ℕ) → T (isAt 0 (pathIf (used q && not (settled A q)) (some q))) → ⊥
+    go : (r : ℕ) → T (isAt 0 (pathIf (used r && not (settled A r)) (some r))) → ⊥
     go zero t = t
-    go (suc q) t = by (used (suc q) && not (settled A (suc q))) q t
+    go (suc r) t = by (used (suc r) && not (settled A (suc r))) r t
+no-path A q x (y ∷ held) t =
+    let r : ℕ = A .target q x in
+    passed (used r && not (settled A r)) (path A r (y ∷ held)) (no-path A r y held) t
+  where
+    passed : (b : Bool) (p : Option ℕ) → (T (isAt 0 p) → ⊥) → T (isAt 0 (pathIf b p)) → ⊥
+    passed true p h t = h t
+    passed false p h t = t
 
 module _ (w : List ℕ) (W : T (sound w)) (x : ℕ) where
   abbrev A : Automaton
@@ -111,7 +119,7 @@ module _ (w : List ℕ) (W : T (sound w)) (x : ℕ) where
   by-paired e = ap wordMode e
 
   allowed : T (standsAt A 0 (x ∷ [])) → (at w 5 ≡ 2) × T (isFirst x) × (A .target 0 x ≡ 0)
-  allowed t = or-cases (isAt 0 (path A 0 (x ∷ []))) _ t (λ u. absurd (no-path A x u))
+  allowed t = or-cases (isAt 0 (path A 0 (x ∷ []))) _ t (λ u. absurd (no-path A 0 x [] u))
       (λ u.
       let p = isPaired (A .default) in
       let v = and-right p _ u in
@@ -133,4 +141,5 @@ pairs-run =
           };
       goes-on = λ x piece. refl;
       allows = λ w W x. (allowed w W x, allowing w W x);
+      one-only = λ w x y held t. or-cases (isAt 0 (path (fromWords w) 0 (x ∷ y ∷ held))) _ t (no-path (fromWords w) 0 x (y ∷ held)) (λ u. u);
     }
