@@ -7,7 +7,7 @@ use lib.Dec.{eqb, ltb}
 use lib.IntN.{natAbs}
 use lib.ListN.{length, take}
 use Rattle.lists.specs.Lists.{flatMap, fold}
-use Rattle.meaning.specs.Table.{Group, Mode, Absent, Single, Paired, Table, mode, isFirst, isSecond, ruleAt, group, defaultNumber, pairNumber}
+use Rattle.meaning.specs.Table.{Group, Mode, Absent, Single, Paired, Table, mode, isPair, ruleAt, group, defaultNumber, pairNumber}
 use Rattle.meaning.specs.Value.{value, fitsWord}
 
 -- "A rule fits if the next K characters exist and lie in its ranges and, when anchored, they are the last K of the input." The input goes
@@ -30,7 +30,7 @@ best t (suc r) rest = better t (best t r rest) r (fits (ruleAt t r) rest)
 abbrev pub startsPair : List ℕ → Bool
 startsPair [] = false
 startsPair (x ∷ []) = false
-startsPair (x ∷ (y ∷ rest)) = isFirst x && isSecond y
+startsPair (x ∷ (y ∷ rest)) = isPair x y
 
 -- "With none, the default is chosen", and under the mark, "where no rule fits and the next two characters are such a pair, the default
 -- takes both"; none: "With no default either"

@@ -92,6 +92,10 @@ isFirst c = within c firstUnits
 abbrev pub isSecond : ℕ → Bool
 isSecond c = within c secondUnits
 
+-- "such a pair"
+abbrev pub isPair : ℕ → ℕ → Bool
+isPair x y = isFirst x && isSecond y
+
 -- "the default takes both and writes both unchanged": as a group with K = 2
 abbrev pub pairGroup : Group
 pairGroup =

@@ -6,7 +6,7 @@ use lib.Dec.{eqb, ltb}
 use lib.ListN.{length, getD, take, drop}
 use Rattle.lists.specs.Lists.{isEmpty}
 use Rattle.lists.specs.Decide.{select}
-use Rattle.meaning.specs.Table.{Mode, Absent, Single, Paired, isFirst, isSecond, defaultNumber, pairNumber}
+use Rattle.meaning.specs.Table.{Mode, Absent, Single, Paired, isFirst, isPair, defaultNumber, pairNumber}
 use Rattle.meaning.specs.Meaning.{Emission}
 use Rattle.automaton.specs.Sound.{used}
 use Rattle.automaton.specs.Automaton.{Automaton}
@@ -90,7 +90,7 @@ fall Absent ended u = nowhere
 fall Single ended u = taking defaultNumber 1
 fall Paired ended [] = taking defaultNumber 1
 fall Paired ended (x ∷ []) = fallOne (not ended && isFirst x)
-fall Paired ended (x ∷ (y ∷ u)) = fallTwo (isFirst x && isSecond y)
+fall Paired ended (x ∷ (y ∷ u)) = fallTwo (isPair x y)
 
 -- the takes, "only when the next unit or the end is known", then the *emit*
 abbrev pub fallBy : Fall → Configuration → Step

@@ -2,7 +2,7 @@
 ghost use mathlib.Core.Bool.{_&&_};
 ghost use mathlib.Core.Path.{_≡_};
 ghost use lib.Dec.{leb};
-ghost use Rattle.meaning.specs.Table.{present, least, isFirst, isSecond};
+ghost use Rattle.meaning.specs.Table.{present, least, isFirst, isSecond, isPair};
 ghost use Rattle.meaning.specs.Record.{markOf};
 ghost use Rattle.rules.specs.bridge.Modes.{theMode, markedMode};
 
@@ -71,7 +71,7 @@ fn is_second(unit: u16) -> bool
 
 // The two units are a pair.
 pub fn is_pair(first: u16, second: u16) -> bool
-    ensures { λ r. ⌜ r ≡ isFirst first && isSecond second ⌝ }
+    ensures { λ r. ⌜ r ≡ isPair first second ⌝ }
 {
     if !is_first(first) {
         return false;
