@@ -7,7 +7,15 @@
  * The library is libcobbletwill.a, for x86-64 Linux. docs/FORMAT.md of its sources
  * has tables, typed rules, machine words and sessions character by character and
  * byte by byte. K is the length of a rule's pattern, L the greatest K of a table, and E
- * the greatest number of output characters in a group, which is a rule or the default.
+ * the greatest number of output characters in a group, which is a rule or the default;
+ * under a marked default, at least 1.
+ *
+ * Pairs. A character is a unit of 16 bits. UTF-16 has two units for a character outside
+ * the basic plane: a first, 55296 to 56319, and a second, 56320 to 57343. A default takes
+ * one unit and writes its own output. A marked default, whose record has 1 in byte 1,
+ * takes both units of such a pair, where no rule fits, and writes both unchanged; any
+ * other unit it treats alone, as one without the mark does. A first unit at the end of a
+ * piece waits for what follows, and is treated alone at the input's end.
  *
  * Names. COBBLETWILL_REFUSED_... is the number of a refusal, COBBLETWILL_..._SIZE a
  * number of elements, with which an array is declared, and COBBLETWILL_MAX_... a
@@ -16,7 +24,7 @@
  * Buffers. A buffer is a pointer to its first element and then its number of
  * elements. With the number 0 the pointer is not used and may be null. No other
  * pointer may be null: `session`, `later`, `place`, `written`, `length` and the
- * `input` of witness always point to one object, `uses` and `later_uses` to 33.
+ * `input` of witness always point to one object, `uses` and `later_uses` to 34.
  * Pointers are aligned as their type.
  *
  * Overlaps. What a call may write (the table of from_text, the words of compile
@@ -46,11 +54,13 @@
  * later versions, nor are sessions of 0.3, which have no counts of uses. Tables,
  * words and sessions of 0.4, which has no from_text, of 0.5, which has no preview,
  * of 0.6, which has no witness, of 0.7, which takes terms by rising position alone,
- * and of 0.8, which has other names of refusals and sizes, stay valid. */
+ * of 0.8, which has other names of refusals and sizes, and of 0.9, which has no marked
+ * default, stay valid, but for sessions: those of 0.9 and before, of 312 bytes, have no
+ * count of pairs and are not for 0.10. */
 #define COBBLETWILL_VERSION_MAJOR 0
-#define COBBLETWILL_VERSION_MINOR 9
+#define COBBLETWILL_VERSION_MINOR 10
 #define COBBLETWILL_VERSION_PATCH 0
-#define COBBLETWILL_VERSION "0.9.0"
+#define COBBLETWILL_VERSION "0.10.0"
 
 /* The version as one number, which rises with it; that of the library is what
  * cobbletwill_version() answers. */
@@ -83,10 +93,12 @@ enum {
     COBBLETWILL_INPUT_SIZE = 9,
     /* The characters that a session can hold. */
     COBBLETWILL_HELD_SIZE = 8,
-    /* The counts of uses in a session: a rule's at its number, 0 to 31, and the
-     * default's at COBBLETWILL_USES_DEFAULT. */
-    COBBLETWILL_USES_SIZE = 33,
+    /* The counts of uses in a session: a rule's at its number, 0 to 31, the default's
+     * on one unit at COBBLETWILL_USES_DEFAULT, and on a pair at
+     * COBBLETWILL_USES_PAIRS. */
+    COBBLETWILL_USES_SIZE = 34,
     COBBLETWILL_USES_DEFAULT = 32,
+    COBBLETWILL_USES_PAIRS = 33,
 
     /* The greatest numbers of a table and its machine: K or L, E, rules, classes of
      * characters, states. */
@@ -129,8 +141,8 @@ enum {
 
     /* 1: the table's length is no multiple of 8. */
     COBBLETWILL_REFUSED_TABLE_LENGTH = 1,
-    /* 2: unknown kind, a field outside its own range, a byte that must be zero
-     * and isn't, lowest above highest. */
+    /* 2: unknown kind, a field outside its own range, as a default's mark above 1, a
+     * byte that must be zero and isn't, lowest above highest. */
     COBBLETWILL_REFUSED_FIELD = 2,
     /* 3: a record where its kind can't come, a position not below K, ranges out
      * of order, a term's position repeated. */
@@ -160,10 +172,11 @@ enum {
      * characters received with those of the piece. A finish never meets it. */
     COBBLETWILL_REFUSED_TOO_LONG = 14,
     /* 15: an output buffer shorter than E times the input, E being the greatest
-     * number of output characters in a group of the table; for feed, shorter than
-     * E times the characters held and those of the piece; for finish, shorter
-     * than E times the characters held. 8 times as many is enough for every
-     * table. For from_text, a table shorter than the text's records. */
+     * number of output characters in a group of the table, and at least 1 under a
+     * marked default; for feed, shorter than E times the characters held and those
+     * of the piece; for finish, shorter than E times the characters held. 8 times as
+     * many is enough for every table. For from_text, a table shorter than the text's
+     * records. */
     COBBLETWILL_REFUSED_SHORT_OUTPUT = 15,
     /* 16: a text outside the grammar. */
     COBBLETWILL_REFUSED_GRAMMAR = 16,
@@ -385,7 +398,7 @@ typedef struct cobbletwill_tally {
 } cobbletwill_tally;
 
 /*
- * What a feed or a finish leaves for the next one: 312 bytes aligned as a uint64_t,
+ * What a feed or a finish leaves for the next one: 320 bytes aligned as a uint64_t,
  * the fields in this order without gaps. With all of it 0 a session is fresh, as
  *
  *     cobbletwill_session session = COBBLETWILL_FRESH;
@@ -407,12 +420,15 @@ typedef struct cobbletwill_session {
     /* How many characters are held, at most 8. Received less this is consumed. */
     uint16_t held_count;
     /* The characters held: received, but not decided yet. Places from
-     * `held_count` on are 0. */
+     * `held_count` on are 0. At state 0 none is held, but for a first unit that no
+     * pattern begins with, which waits under a marked default. */
     uint16_t held[COBBLETWILL_HELD_SIZE];
     /* How often each rule was used, that is, wrote its output: rule i at i, and
-     * the default at COBBLETWILL_USES_DEFAULT. Each count times the length of its
-     * pattern, the default's times 1, add up to the characters consumed. Counts
-     * of rules or a default that the table lacks are 0. */
+     * the default on one unit at COBBLETWILL_USES_DEFAULT; and how many pairs it let
+     * through, at COBBLETWILL_USES_PAIRS. Each count times the length of its
+     * pattern, the default's times 1 and that of pairs times 2, add up to the
+     * characters consumed. Counts of rules or a default that the table lacks are 0,
+     * and that of pairs where its default is not marked. */
     uint64_t uses[COBBLETWILL_USES_SIZE];
 } cobbletwill_session;
 
@@ -437,7 +453,7 @@ COBBLETWILL_HOLDS(offsetof(cobbletwill_input, characters) == 2);
 COBBLETWILL_HOLDS(sizeof(cobbletwill_tally) == 16);
 COBBLETWILL_HOLDS(offsetof(cobbletwill_tally, produced) == 0);
 COBBLETWILL_HOLDS(offsetof(cobbletwill_tally, steps) == 8);
-COBBLETWILL_HOLDS(sizeof(cobbletwill_session) == 8 + 16 + 4 + 2 + 2 + 8 * 2 + 33 * 8);
+COBBLETWILL_HOLDS(sizeof(cobbletwill_session) == 8 + 16 + 4 + 2 + 2 + 8 * 2 + 34 * 8);
 COBBLETWILL_HOLDS(offsetof(cobbletwill_session, received) == 0);
 COBBLETWILL_HOLDS(offsetof(cobbletwill_session, tally) == 8);
 COBBLETWILL_HOLDS(offsetof(cobbletwill_session, status) == 24);
@@ -445,7 +461,8 @@ COBBLETWILL_HOLDS(offsetof(cobbletwill_session, state) == 28);
 COBBLETWILL_HOLDS(offsetof(cobbletwill_session, held_count) == 30);
 COBBLETWILL_HOLDS(offsetof(cobbletwill_session, held) == 32);
 COBBLETWILL_HOLDS(offsetof(cobbletwill_session, uses) == 48);
-COBBLETWILL_HOLDS(COBBLETWILL_USES_SIZE == COBBLETWILL_USES_DEFAULT + 1);
+COBBLETWILL_HOLDS(COBBLETWILL_USES_SIZE == COBBLETWILL_USES_PAIRS + 1);
+COBBLETWILL_HOLDS(COBBLETWILL_USES_PAIRS == COBBLETWILL_USES_DEFAULT + 1);
 COBBLETWILL_HOLDS(COBBLETWILL_USES_DEFAULT == COBBLETWILL_MAX_RULES);
 COBBLETWILL_HOLDS(COBBLETWILL_HELD_SIZE == COBBLETWILL_MAX_PATTERN);
 COBBLETWILL_HOLDS(COBBLETWILL_INPUT_SIZE == COBBLETWILL_MAX_PATTERN + 1);
@@ -456,7 +473,7 @@ COBBLETWILL_HOLDS(COBBLETWILL_INPUT_SIZE == COBBLETWILL_MAX_PATTERN + 1);
  * Feed and finish of a session that is lent in two parts, for callers that can't
  * call the inline functions below. `session` points to a session, of which the 48
  * bytes before its counts are read and written and the others not touched; `uses`
- * points to its 33 counts, there or elsewhere. A call changes counts where they
+ * points to its 34 counts, there or elsewhere. A call changes counts where they
  * stand and copies none. All else is as for cobbletwill_feed and
  * cobbletwill_finish.
  */
@@ -499,7 +516,8 @@ static inline uint32_t cobbletwill_may_be_sound(const uint16_t *words,
            words[0] <= COBBLETWILL_MAX_STATES && words[1] >= 1 &&
            words[1] <= COBBLETWILL_MAX_CLASSES && words[2] >= 1 &&
            words[2] <= COBBLETWILL_MAX_PATTERN && words[3] <= COBBLETWILL_MAX_EXPANSION &&
-           words[4] >= 1 && words[4] <= COBBLETWILL_MAX_RULES && words[5] <= 1;
+           words[4] >= 1 && words[4] <= COBBLETWILL_MAX_RULES && words[5] <= 2 &&
+           (words[5] < 2 || words[3] >= 1);
 }
 
 /* L, 1 to 8. */
@@ -511,8 +529,8 @@ static inline uint32_t cobbletwill_longest_pattern(const uint16_t *words,
     return words[2];
 }
 
-/* E, 0 to 8. Sound words have 0 too, where no group writes anything: a room is
- * divided by E in cobbletwill_longest_piece. */
+/* E, 0 to 8. Sound words have 0 too, where no group writes anything and the default is
+ * not marked: a room is divided by E in cobbletwill_longest_piece. */
 static inline uint32_t cobbletwill_expansion(const uint16_t *words,
                                              size_t words_length) {
     if (!cobbletwill_may_be_sound(words, words_length)) {
@@ -530,13 +548,22 @@ static inline uint32_t cobbletwill_rule_count(const uint16_t *words,
     return words[4];
 }
 
-/* 1 where there is a default. */
+/* 1 where there is a default, marked or not. */
 static inline uint32_t cobbletwill_has_default(const uint16_t *words,
                                                size_t words_length) {
     if (!cobbletwill_may_be_sound(words, words_length)) {
         return 0;
     }
-    return words[5];
+    return words[5] != 0;
+}
+
+/* 1 where there is a marked default, which lets pairs through whole. */
+static inline uint32_t cobbletwill_keeps_pairs(const uint16_t *words,
+                                               size_t words_length) {
+    if (!cobbletwill_may_be_sound(words, words_length)) {
+        return 0;
+    }
+    return words[5] == 2;
 }
 
 /*
@@ -605,7 +632,8 @@ static inline size_t cobbletwill_longest_piece(const uint16_t *words,
  * rule fits and there is no default. Then `*session` is the session after the
  * piece, `*written` is the number of characters written from the start of `output`,
  * and the rest of `output` is as found. Characters that a pattern may still take
- * are held and written by a later call.
+ * are held and written by a later call, and so is a first unit that may be half of a
+ * pair under a marked default.
  *
  * Else answers the first refusal in this order, and `*session`, `output` and
  * `*written` are as found:

@@ -53,7 +53,8 @@ impl Machine {
         self.words[2]
     }
 
-    /// E, the greatest number of output characters in a group: 0 where no group writes any.
+    /// E, the greatest number of output characters in a group: 0 where no group writes any,
+    /// but at least 1 under a marked default.
     /// [`Session::longest_piece`](crate::Session::longest_piece) divides a room by it.
     pub fn expansion(&self) -> u16 {
         self.words[3]
@@ -64,9 +65,15 @@ impl Machine {
         self.words[4]
     }
 
-    /// Whether there is a default.
+    /// Whether there is a default, marked or not.
     pub fn has_default(&self) -> bool {
         self.words[5] != 0
+    }
+
+    /// Whether there is a marked default, which lets pairs outside the basic plane
+    /// through whole.
+    pub fn keeps_pairs(&self) -> bool {
+        self.words[5] == 2
     }
 
     /// The most steps for an input of so many characters: (L + 3) times them,
@@ -88,6 +95,7 @@ impl fmt::Debug for Machine {
             .field("expansion", &self.expansion())
             .field("rule_count", &self.rule_count())
             .field("has_default", &self.has_default())
+            .field("keeps_pairs", &self.keeps_pairs())
             .finish_non_exhaustive()
     }
 }

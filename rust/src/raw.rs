@@ -17,10 +17,13 @@ pub const INPUT_SIZE: usize = 9;
 
 /// The characters that a session can hold.
 pub const HELD_SIZE: usize = 8;
-/// The counts of uses in a session: a rule's at its number, and the default's.
-pub const USES_SIZE: usize = 33;
-/// The place of the default's count.
+/// The counts of uses in a session: a rule's at its number, the default's, and that of
+/// pairs.
+pub const USES_SIZE: usize = 34;
+/// The place of the default's count, of its uses on one unit.
 pub const USES_DEFAULT: usize = 32;
+/// The place of the count of pairs, which a marked default lets through.
+pub const USES_PAIRS: usize = 33;
 
 /// The most output characters of a group, so that so many times the input is room enough
 /// under every table.
@@ -65,8 +68,8 @@ pub struct Session {
     pub held_count: u16,
     /// The characters held; places from `held_count` on are 0.
     pub held: [u16; HELD_SIZE],
-    /// How often each rule was used, at its number, and the default, at
-    /// [`USES_DEFAULT`].
+    /// How often each rule was used, at its number, the default on one unit, at
+    /// [`USES_DEFAULT`], and on a pair, at [`USES_PAIRS`].
     pub uses: [u64; USES_SIZE],
 }
 
@@ -102,7 +105,7 @@ const _: () = {
     assert!(offset_of!(Input, length) == 0);
     assert!(offset_of!(Input, characters) == 2);
     assert!(size_of::<Tally>() == 16 && align_of::<Tally>() == 8);
-    assert!(size_of::<Session>() == 312 && align_of::<Session>() == 8);
+    assert!(size_of::<Session>() == 320 && align_of::<Session>() == 8);
     assert!(offset_of!(Tally, produced) == 0);
     assert!(offset_of!(Tally, steps) == 8);
     assert!(offset_of!(Session, received) == 0);
@@ -197,7 +200,7 @@ mod c {
 }
 
 /// The version of the library that is linked: 65,536 times the first of its three numbers,
-/// 256 times the second, and the third, so that 0.9.0 is 2,304.
+/// 256 times the second, and the third, so that 0.10.0 is 2,560.
 pub fn version() -> u32 {
     // SAFETY: the function takes nothing.
     unsafe { c::cobbletwill_version() }

@@ -30,8 +30,12 @@ pub const fn term(position: u8, coefficient: i16) -> Record {
     [4, position, 0, 0, c0, c1, 0, 0]
 }
 
-/// Kind 5: the default.
+/// Kind 5: the default, which takes one unit.
 pub const DEFAULT: Record = [5, 0, 0, 0, 0, 0, 0, 0];
+
+/// Kind 5: the marked default, which lets a pair outside the basic plane through whole
+/// and takes one of all other units.
+pub const MARKED_DEFAULT: Record = [5, 1, 0, 0, 0, 0, 0, 0];
 
 /// Kind 6: an output character that is a hexadecimal digit of the character at a
 /// position, the one that stands above so many bits: 0, 4, 8 or 12.

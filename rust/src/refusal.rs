@@ -9,8 +9,8 @@ use std::fmt;
 pub enum Refusal {
     /// 1: the table's length is no multiple of 8.
     TableLength = 1,
-    /// 2: an unknown kind, a field outside its own range, a byte that must be
-    /// zero and isn't, lowest above highest.
+    /// 2: an unknown kind, a field outside its own range, as a default's mark above 1,
+    /// a byte that must be zero and isn't, lowest above highest.
     Field = 2,
     /// 3: a record where its kind can't come, a position not below K, ranges out
     /// of order, a term's position repeated.

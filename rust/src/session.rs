@@ -1,7 +1,7 @@
 //! Sessions, feed, finish and preview.
 
 use crate::machine::Machine;
-use crate::raw::{self, Session, HELD_SIZE, MAX_CHARACTERS, USES_DEFAULT};
+use crate::raw::{self, Session, HELD_SIZE, MAX_CHARACTERS, USES_DEFAULT, USES_PAIRS};
 use crate::refusal::Refusal;
 
 /// The status of a session.
@@ -52,9 +52,15 @@ impl Session {
         self.uses[..USES_DEFAULT].get(rule).copied().unwrap_or(0)
     }
 
-    /// How often the default was used; 0 where the machine has none.
+    /// How often the default was used on one unit; 0 where the machine has none.
     pub fn default_uses(&self) -> u64 {
         self.uses[USES_DEFAULT]
+    }
+
+    /// How often the default was used on a pair, that is, how many pairs it let through
+    /// whole; 0 where the machine has no marked default.
+    pub fn pair_uses(&self) -> u64 {
+        self.uses[USES_PAIRS]
     }
 
     /// The output that a feed of so many characters needs: E times (held + piece). The

@@ -21,12 +21,12 @@ use witness::check::Judgement;
 use witness::check::witness;
 use words::sound_words::is_sound;
 
-// The version of the library, 0.9.0 in one number: 65536 times the first, 256 times the second, and the third.
+// The version of the library, 0.10.0 in one number: 65536 times the first, 256 times the second, and the third.
 #[no_mangle]
 pub extern "C" fn cobbletwill_version() -> u32
-    ensures { λ r. ⌜ r ≡ 2304 ⌝ }
+    ensures { λ r. ⌜ r ≡ 2560 ⌝ }
 {
-    2304
+    2560
 }
 
 // 0 for a table that keeps the rules, else the number of its refusal, 1 to 7.

@@ -153,7 +153,7 @@ pub record Contracts : Type 2 where
       (λ κs (words, _) answer _. Face.TestsWords (now words) answer ∷ [])
   -- cobbletwill_version
   pub c-version : EntryPoint c-version.ended c-version.Symbol.routine
-      (λ κs _ answer _. (answer ≡ 2304) ∷ [])
+      (λ κs _ answer _. (answer ≡ 2560) ∷ [])
   -- cobbletwill_feed_parts
   pub c-feed : EntryPoint c-feed.ended c-feed.Symbol.routine
       (λ κs (words, (session, (uses, (piece, (output, (written, _)))))) answer (_, (session′, (uses′, (_, (output′, (written′, _)))))).

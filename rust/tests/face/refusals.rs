@@ -240,7 +240,7 @@ fn sessions_by_12_to_15() {
     refused(fresh, &[97, 97], 9, Refusal::ShortOutput);
 }
 
-/// T1 has three rules and a default. One use more of any of the 33 counts, or one
+/// T1 has three rules and a default. One use more of any of the 34 counts, or one
 /// character more that no rule took, is refused.
 #[test]
 fn uses_that_do_not_add_up_by_12() {
