@@ -13,7 +13,7 @@
 
 static void test_fresh(void) {
     cobbletwill_session fresh = COBBLETWILL_FRESH;
-    unsigned char zero[48 + 33 * 8] = {0};
+    unsigned char zero[48 + 34 * 8] = {0};
     EXPECT(sizeof fresh == sizeof zero);
     EXPECT(memcmp(&fresh, zero, sizeof zero) == 0);
 }
@@ -65,6 +65,7 @@ static void nothing_said(const uint16_t *of, size_t length) {
     EXPECT(cobbletwill_expansion(of, length) == 0);
     EXPECT(cobbletwill_rule_count(of, length) == 0);
     EXPECT(cobbletwill_has_default(of, length) == 0);
+    EXPECT(cobbletwill_keeps_pairs(of, length) == 0);
     for (int i = 0; i < 3; i++) {
         memset(&session, bytes[i], sizeof session);
         EXPECT(cobbletwill_feed_room(of, length, &session, 4096) == 0);
@@ -78,7 +79,7 @@ static void nothing_said(const uint16_t *of, size_t length) {
 /* Erased memory, too few words, and each header word one beyond its limits and at the
  * greatest number, the others as in words that may be sound. */
 static void test_erased(void) {
-    static const uint16_t least[] = {1, 1, 1, 0, 1, 0}, greatest[] = {256, 64, 8, 8, 32, 1};
+    static const uint16_t least[] = {1, 1, 1, 0, 1, 0}, greatest[] = {256, 64, 8, 8, 32, 2};
     memset(words, 0, sizeof words);
     nothing_said(words, COBBLETWILL_WORDS_SIZE);
     memset(words, 255, sizeof words);
@@ -100,6 +101,23 @@ static void test_erased(void) {
             nothing_said(words, COBBLETWILL_WORDS_SIZE);
         }
     }
+}
+
+/* Each sort of default. A marked one has an E of at least 1, the others may have 0. */
+static void test_defaults(void) {
+    static const uint16_t header[] = {2, 3, 5, 1, 4, 0};
+    const size_t length = COBBLETWILL_WORDS_SIZE;
+    memcpy(words, header, sizeof header);
+    for (uint16_t sort = 0; sort <= 2; sort++) {
+        words[5] = sort;
+        words[3] = 1;
+        EXPECT(cobbletwill_may_be_sound(words, length) == 1);
+        EXPECT(cobbletwill_has_default(words, length) == (sort > 0));
+        EXPECT(cobbletwill_keeps_pairs(words, length) == (sort == 2));
+        words[3] = 0;
+        EXPECT(cobbletwill_may_be_sound(words, length) == (sort < 2));
+    }
+    nothing_said(words, length);
 }
 
 /* Of words that may be sound: rooms too long for a size_t, and sessions that can't be sound. */
@@ -136,6 +154,7 @@ int main(void) {
     test_refused();
     test_version();
     test_erased();
+    test_defaults();
     test_rooms();
     REPORT("header");
     return 0;

@@ -92,12 +92,14 @@ static void on_fault(int signal) {
     _exit(1);
 }
 
-/* All of it 0x5a, but for the words of the table and a session. */
-static void lend(cobbletwill_session session) {
+/* All of it 0x5a, but for the words of a table and a session. */
+static void lend_under(const uint8_t *bytes, size_t length, cobbletwill_session session) {
     memset(lent, 0x5a, sizeof *lent);
-    EXPECT(cobbletwill_compile(table, sizeof table, lent->words, COBBLETWILL_WORDS_SIZE) == COBBLETWILL_OK);
+    EXPECT(cobbletwill_compile(bytes, length, lent->words, COBBLETWILL_WORDS_SIZE) == COBBLETWILL_OK);
     lent->session = session;
 }
+
+static void lend(cobbletwill_session session) { lend_under(table, sizeof table, session); }
 
 static const cobbletwill_session fresh = COBBLETWILL_FRESH;
 static const uint16_t text[] = {'z', 'z', 'a'};
@@ -114,12 +116,16 @@ static cobbletwill_session fed(void) {
     return lent->session;
 }
 
-/* A feed, a finish and a preview of a session are refused by a number. */
-static void all_refused(cobbletwill_session session, uint32_t number) {
-    lend(session);
+/* A feed, a finish and a preview of what is lent are refused by a number. */
+static void lent_refused(uint32_t number) {
     refused(&feed, number);
     refused(&finish, number);
     refused(&preview, number);
+}
+
+static void all_refused(cobbletwill_session session, uint32_t number) {
+    lend(session);
+    lent_refused(number);
 }
 
 /* Each refusal by 12 has the session after `zza` with one thing changed. L is 3
@@ -192,15 +198,110 @@ static void test_unsound_digits(void) {
         lend(fresh);
         lent->words[damages[i].at] = damages[i].word;
         EXPECT(cobbletwill_is_sound(lent->words, COBBLETWILL_WORDS_SIZE) == 0);
-        refused(&feed, COBBLETWILL_REFUSED_UNSOUND_WORDS);
-        refused(&finish, COBBLETWILL_REFUSED_UNSOUND_WORDS);
-        refused(&preview, COBBLETWILL_REFUSED_UNSOUND_WORDS);
+        lent_refused(COBBLETWILL_REFUSED_UNSOUND_WORDS);
     }
     /* Coefficients from K on and entries beyond the output count are not looked at. */
     lend(fresh);
     lent->words[POSITION_2] = 1;
     lent->words[UNUSED] = 2;
     EXPECT(cobbletwill_is_sound(lent->words, COBBLETWILL_WORDS_SIZE) == 1);
+}
+
+/* A first unit of a pair and `b` write nothing, and so does the marked default: E is 1 for the pairs. */
+static const uint8_t marked[] = {
+    RULE(2, 0), RANGE(0, 0xd83d, 0xd83d), RANGE(1, 'b', 'b'), MARKED(1),
+};
+
+static void lend_marked(cobbletwill_session session) { lend_under(marked, sizeof marked, session); }
+
+/* Word 5 is 0, 1 or 2, and with 2 word 3, which is E, is at least 1. */
+static void test_unsound_marks(void) {
+    static const uint16_t beyond[] = {3, 4, 255, 256, UINT16_MAX};
+    for (size_t i = 0; i < sizeof beyond / sizeof beyond[0]; i++) {
+        lend_marked(fresh);
+        lent->words[5] = beyond[i];
+        EXPECT(cobbletwill_is_sound(lent->words, COBBLETWILL_WORDS_SIZE) == 0);
+        lent_refused(COBBLETWILL_REFUSED_UNSOUND_WORDS);
+    }
+    lend_marked(fresh);
+    EXPECT(lent->words[3] == 1 && lent->words[5] == 2);
+    EXPECT(cobbletwill_is_sound(lent->words, COBBLETWILL_WORDS_SIZE) == 1);
+    lent->words[3] = 0;
+    EXPECT(cobbletwill_is_sound(lent->words, COBBLETWILL_WORDS_SIZE) == 0);
+    lent_refused(COBBLETWILL_REFUSED_UNSOUND_WORDS);
+    /* Without the mark nothing is written, and E may be 0. */
+    lent->words[5] = 1;
+    EXPECT(cobbletwill_is_sound(lent->words, COBBLETWILL_WORDS_SIZE) == 1);
+}
+
+/* Each has the session of a first unit that waits with one thing changed. No rule begins with the unit, the back is
+ * counted, and nothing is consumed. */
+static void test_waiting_units(void) {
+    static const uint16_t first[] = {0xd800, 0xd83c, 0xd83e, 0xdbff};
+    static const uint16_t others[] = {0xd83d, 0xdc00, 0xdfff, 0xd7ff, 0xe000, 'b', 0};
+    cobbletwill_session waiting = COBBLETWILL_FRESH, session;
+    waiting.received = waiting.tally.steps = waiting.held_count = 1;
+    for (size_t i = 0; i < sizeof first / sizeof first[0]; i++) {
+        waiting.held[0] = first[i];
+        lend_marked(waiting);
+        EXPECT(make(&finish) == COBBLETWILL_OK && lent->session.tally.steps == 4);
+        /* Without the mark nothing waits so. */
+        lend_marked(waiting);
+        lent->words[5] = 1;
+        lent_refused(COBBLETWILL_REFUSED_UNSOUND_SESSION);
+    }
+#define UNSOUND(change) \
+    (session = waiting, change, lend_marked(session), lent_refused(COBBLETWILL_REFUSED_UNSOUND_SESSION))
+    for (size_t i = 0; i < sizeof others / sizeof others[0]; i++) {
+        UNSOUND(session.held[0] = others[i]);
+    }
+    UNSOUND(session.state = 1);
+    UNSOUND(session.held_count = 0);
+    UNSOUND((session.received = session.held_count = 2, session.held[1] = 0xdc00));
+    UNSOUND((session.received = session.held_count = 2, session.held[1] = 0xdbff));
+    UNSOUND(session.tally.steps = 2);
+    UNSOUND(session.tally.produced = 1);
+    UNSOUND(session.uses[COBBLETWILL_USES_PAIRS] = 1);
+    UNSOUND(session.uses[COBBLETWILL_USES_DEFAULT] = 1);
+    UNSOUND(session.status = 1);
+    UNSOUND(session.status = 2);
+#undef UNSOUND
+}
+
+/* Two characters consumed are one pair or two units, and 2^63 pairs would add 0 modulo 2^64. Without the mark there are
+ * no pairs. */
+static void test_unsound_pairs(void) {
+    static const uint64_t pairs[] = {0, 2, UINT64_MAX, (UINT64_C(1) << 63) + 1};
+    cobbletwill_session session = COBBLETWILL_FRESH;
+    session.received = session.tally.produced = 2;
+    for (size_t i = 0; i < sizeof pairs / sizeof pairs[0]; i++) {
+        session.uses[COBBLETWILL_USES_PAIRS] = pairs[i];
+        lend_marked(session);
+        lent_refused(COBBLETWILL_REFUSED_UNSOUND_SESSION);
+    }
+    session.uses[COBBLETWILL_USES_PAIRS] = 1;
+    all_refused(session, COBBLETWILL_REFUSED_UNSOUND_SESSION);
+    lend_marked(session);
+    EXPECT(make(&finish) == COBBLETWILL_OK);
+    session.uses[COBBLETWILL_USES_PAIRS] = 0;
+    session.uses[COBBLETWILL_USES_DEFAULT] = 2;
+    lend_marked(session);
+    EXPECT(make(&finish) == COBBLETWILL_OK);
+}
+
+/* Room for pairs, which are written one for one, though no group writes anything. */
+static void test_room_of_pairs(void) {
+    struct call short_output = feed;
+    lend_marked(fresh);
+    short_output.output_length = 2;
+    refused(&short_output, COBBLETWILL_REFUSED_SHORT_OUTPUT);
+    const struct call convert = {CONVERT, marked, sizeof marked, text, 3, 2, 0};
+    refused(&convert, COBBLETWILL_REFUSED_SHORT_OUTPUT);
+    lent->session.received = lent->session.tally.steps = lent->session.held_count = 1;
+    lent->session.held[0] = 0xd800;
+    short_output.of = FINISH;
+    short_output.output_length = 0;
+    refused(&short_output, COBBLETWILL_REFUSED_SHORT_OUTPUT);
 }
 
 static void test_sessions(void) {
@@ -215,9 +316,7 @@ static void test_sessions(void) {
     short_words.of = PREVIEW;
     refused(&short_words, COBBLETWILL_REFUSED_UNSOUND_WORDS);
     lent->words[0] = 0;
-    refused(&feed, COBBLETWILL_REFUSED_UNSOUND_WORDS);
-    refused(&finish, COBBLETWILL_REFUSED_UNSOUND_WORDS);
-    refused(&preview, COBBLETWILL_REFUSED_UNSOUND_WORDS);
+    lent_refused(COBBLETWILL_REFUSED_UNSOUND_WORDS);
 
     cobbletwill_session ended = {3, {2, 7}, 1, 0, 0, {0}, {0}};
     ended.uses[COBBLETWILL_USES_DEFAULT] = 3;
@@ -291,6 +390,10 @@ static void test_tables(void) {
     table_refused(too_many, sizeof too_many, COBBLETWILL_REFUSED_TOO_MANY);
     table_refused(value, sizeof value, COBBLETWILL_REFUSED_VALUE);
     table_refused(shift, sizeof shift, COBBLETWILL_REFUSED_FIELD);
+    for (int mark = 2; mark <= 255; mark++) {
+        const uint8_t unknown[] = {RULE(1, 0), RANGE(0, 'a', 'a'), MARKED((uint8_t)mark)};
+        table_refused(unknown, sizeof unknown, COBBLETWILL_REFUSED_FIELD);
+    }
     table_refused(digit_place, sizeof digit_place, COBBLETWILL_REFUSED_PLACE);
     table_refused(digit_term, sizeof digit_term, COBBLETWILL_REFUSED_PLACE);
     table_refused(digit_unfilled, sizeof digit_unfilled, COBBLETWILL_REFUSED_UNFILLED);
@@ -392,6 +495,10 @@ int main(void) {
     test_unsound_sessions();
     test_parts();
     test_unsound_digits();
+    test_unsound_marks();
+    test_waiting_units();
+    test_unsound_pairs();
+    test_room_of_pairs();
     test_typed();
     EXPECT(made > 1000);
     REPORT("refused");

@@ -1,6 +1,6 @@
 #!/usr/bin/env bash
-# The library and its header for C: the header in C and C++, what the library needs and takes, refused calls, typed rules, previews, live and
-# dead rules, the output that calls need, its stack, and an installed copy.
+# The library and its header for C: the header in C and C++, what the library needs and takes, refused calls, typed rules, previews, pairs, live
+# and dead rules, the output that calls need, its stack, and an installed copy.
 set -euo pipefail
 trap 'echo "tests/c: line $LINENO of $0 failed" >&2' ERR
 cd "$(dirname "$0")/../.."
@@ -35,7 +35,7 @@ header() {
     fi
     "$@" -Wall -Wextra -Wpedantic -Wmissing-field-initializers -Wconversion -Werror -Iinclude -o "$out/header" tests/c/header.c
     "$out/header" > "$out/said"
-    counted header 779
+    counted header 843
     head -n -1 "$out/said" | cmp - tests/c/texts.txt
     tried=$((tried + 1))
 }
@@ -79,9 +79,10 @@ while read -r test least; do
     "$out/$test" > "$out/said"
     counted "$test" "$least"
 done << 'END'
-refused 2961
+refused 10416
 typed 941509
 preview 32
+pairs 885
 witness 510
 rooms 14152
 END
@@ -130,4 +131,4 @@ cc -std=c11 -Wall -Wextra -Werror -O2 -o "$out/station" examples/c/station.c "${
 [ -s tables/sdi12/expected.txt ]
 "$out/station" tables/sdi12/rules.tab < tables/sdi12/input.txt 2> "$out/counts" | cmp - tables/sdi12/expected.txt
 
-echo "tests/c: header, $functions functions, $refusals refusals, typed rules, previews, live and dead rules, rooms, stack and installed copy as stated"
+echo "tests/c: header, $functions functions, $refusals refusals, typed rules, previews, pairs, live and dead rules, rooms, stack and installed copy as stated"

@@ -14,7 +14,8 @@
     2, (position), 0, 0, LOW(lowest), HIGH(lowest), LOW(highest), HIGH(highest)
 #define OUTPUT(constant) 3, 0, 0, 0, LOW(constant), HIGH(constant), LOW((constant) >> 16), HIGH((constant) >> 16)
 #define TERM(position, coefficient) 4, (position), 0, 0, LOW(coefficient), HIGH(coefficient), 0, 0
-#define DEFAULT 5, 0, 0, 0, 0, 0, 0, 0
+#define DEFAULT MARKED(0)
+#define MARKED(mark) 5, (mark), 0, 0, 0, 0, 0, 0
 #define DIGIT(position, shift) 6, (position), (shift), 0, 0, 0, 0, 0
 
 /* The records of T1 of document 01, and these with other terms of its sum. */
