@@ -2,6 +2,7 @@
 
 use cobbletwill::record::{self, Record};
 
+use crate::fault::Wrong;
 use crate::units::{is_among, is_blank, symbol_from, units};
 
 /// The word that begins a hexadecimal digit. No symbol of request 4 has its first
@@ -14,9 +15,6 @@ const NO_CHARACTER: &str = "`x` with a digit 0 to 7 has to come here";
 const NO_COMMA: &str = "`,` and a shift have to come here";
 const NO_SHIFT: &str = "a shift has to come here: 0, 4, 8 or 12";
 const ALONE: &str = "a hexadecimal digit stands alone, in no sum, product or parentheses";
-
-/// A place, and what is wrong there.
-pub type Wrong = (usize, &'static str);
 
 /// A hexadecimal digit of the character at a position, by its shift.
 #[derive(Clone, Copy, Debug, PartialEq, Eq)]

@@ -3,6 +3,9 @@
 use std::error::Error;
 use std::fmt;
 
+/// A place by its number, and what is wrong there.
+pub type Wrong = (usize, &'static str);
+
 /// A place in a source.
 #[derive(Clone, Copy, Debug, PartialEq, Eq)]
 pub struct At {

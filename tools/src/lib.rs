@@ -12,6 +12,7 @@ pub mod build;
 mod digit;
 mod fault;
 pub mod listing;
+mod mark;
 mod place;
 mod refused;
 pub mod source;

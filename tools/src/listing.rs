@@ -94,6 +94,7 @@ fn describe(record: &Record) -> String {
             let coefficient = i16::from_le_bytes([b4, b5]);
             format!("plus {coefficient} times x{first}")
         }
+        5 if first == 1 => "default, which keeps pairs".to_owned(),
         5 => "default".to_owned(),
         6 => format!("writes {} of x{first}, shift {second}", digit(second)),
         _ => format!("unknown kind {kind}"),
@@ -138,9 +139,10 @@ pub fn verdict(table: &[u8]) -> String {
 
 /// The measures of a compiled table.
 fn measures(machine: &Machine) -> String {
-    let default = match machine.has_default() {
-        true => "a default",
-        false => "no default",
+    let default = match (machine.has_default(), machine.keeps_pairs()) {
+        (true, true) => "a default that keeps pairs",
+        (true, false) => "a default",
+        (false, _) => "no default",
     };
     let (rules, classes, states) = (
         machine.rule_count(),

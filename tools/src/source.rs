@@ -1,20 +1,27 @@
 //! Tables from their sources: the text of change request 4, with two helps for
 //! the bench. A line that begins with `#` is a comment, and in quotes the control
 //! pictures ␀ to ␡ stand for the characters that they name. Beside its expressions
-//! there is `hex(x0, 4)`, a hexadecimal digit of a character, by its shift.
+//! there is `hex(x0, 4)`, a hexadecimal digit of a character, by its shift, and behind
+//! `else` there may be `keep pairs`, the mark of request 8.
 //!
 //! A source becomes rules that can be typed, which the library reads.
+
+use std::mem::replace;
+use std::ops::Range;
 
 use cobbletwill::record::BYTES;
 use cobbletwill::{Refusal, Table};
 
-use crate::digit::{Digit, Wrong};
+use crate::digit::Digit;
+use crate::fault::Wrong;
 pub use crate::fault::{At, Fault};
+use crate::mark::{mark_default, mark_end};
 use crate::refused::{line_start, place, readable};
 use crate::units::{picture_of, pictured, units};
 
 const NO_TEXT: &str = "a byte that is no UTF-8";
 const CONTROL: &str = "a control character; its picture, as ␊, may stand here";
+const TWICE: &str = "`keep pairs` stands here for a second time";
 
 /// A source and its rules as they can be typed: what stands at a place of one stands
 /// there in the other.
@@ -23,6 +30,7 @@ pub struct Source {
     units: Vec<u16>,
     typed: Vec<u16>,
     digits: Vec<Digit>,
+    keeps_pairs: bool,
 }
 
 impl Source {
@@ -33,6 +41,7 @@ impl Source {
             typed: without_comments(&units),
             units,
             digits: Vec::new(),
+            keeps_pairs: false,
         };
         match source.bring_to_typed() {
             Ok(()) => Ok(source),
@@ -48,7 +57,11 @@ impl Source {
     /// or 9.
     pub fn table(&self) -> Result<Vec<u8>, Fault> {
         let table = Table::from_text(&self.typed).map_err(|refusal| self.refused(refusal))?;
-        Ok(self.with_digits(table.into_bytes()))
+        let mut table = self.with_digits(table.into_bytes());
+        if self.keeps_pairs {
+            mark_default(&mut table);
+        }
+        Ok(table)
     }
 
     /// Where the source has a rule, by its number.
@@ -56,8 +69,8 @@ impl Source {
         self.at(line_start(&self.typed, number))
     }
 
-    /// Brings pictures and digits to what can be typed, up to a place from which on
-    /// something is wrong; in quotes no control character stands but by its picture.
+    /// Brings pictures, digits and the mark to what can be typed, up to a place from which
+    /// on something is wrong; in quotes no control character stands but by its picture.
     fn bring_to_typed(&mut self) -> Result<(), (usize, Wrong)> {
         let (mut quoted, mut place) = (false, 0);
         while let Some(&unit) = self.typed.get(place) {
@@ -68,24 +81,33 @@ impl Source {
                     return Err((place, (place, CONTROL)));
                 }
                 (true, _) => self.typed[place] = pictured(unit).unwrap_or(unit),
-                (false, _) => {
-                    let digit = Digit::at(&self.typed, place);
-                    if let Some(digit) = digit.map_err(|wrong| (place, wrong))? {
-                        self.put(place, digit);
-                    }
-                }
+                (false, _) => { self.bring_symbol(place) }.map_err(|wrong| (place, wrong))?,
             }
             place += 1;
         }
         Ok(())
     }
 
-    /// Puts what stands for a digit at its place, and blanks behind.
-    fn put(&mut self, place: usize, digit: Digit) {
-        let stand_in = digit.stand_in();
-        self.typed[place..digit.end].fill(u16::from(b' '));
-        self.typed[place..place + stand_in.len()].copy_from_slice(&stand_in);
-        self.digits.push(digit);
+    /// Brings a digit or the mark, if it begins at a place outside the quotes, to what can
+    /// be typed: the digit to what stands for it, the mark to nothing, and blanks behind.
+    fn bring_symbol(&mut self, place: usize) -> Result<(), Wrong> {
+        if let Some(digit) = Digit::at(&self.typed, place)? {
+            self.put(place..digit.end, &digit.stand_in());
+            self.digits.push(digit);
+        } else if let Some(end) = mark_end(&self.typed, place)? {
+            if replace(&mut self.keeps_pairs, true) {
+                return Err((place, TWICE));
+            }
+            self.put(place..end, &[]);
+        }
+        Ok(())
+    }
+
+    /// Puts what can be typed in the stead of a symbol, and blanks behind.
+    fn put(&mut self, symbol: Range<usize>, stand_in: &[u16]) {
+        let (head, rest) = self.typed[symbol].split_at_mut(stand_in.len());
+        head.copy_from_slice(stand_in);
+        rest.fill(u16::from(b' '));
     }
 
     /// The table with the digits in the stead of what stands for them: the last two

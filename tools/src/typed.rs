@@ -1,8 +1,9 @@
 //! Tables as rules that can be typed.
 
-use cobbletwill::record::Record;
+use cobbletwill::record::{Record, MARKED_DEFAULT};
 use cobbletwill::{check, Refusal};
 
+use crate::mark::MARK;
 use crate::place::{is_output, opens_group};
 use crate::units::{is_among, picture_of, pictured, units};
 
@@ -14,7 +15,8 @@ const MARKS: &str = "\"\\[]$";
 
 /// A table's rules as text, a line each; refused as by the table check. The library
 /// reads the text back to the same records, the terms of each sum by position, unless
-/// one is a digit: that can't be typed, and is written as in a source.
+/// one is a digit or the marked default: these can't be typed, and are written as in a
+/// source.
 pub fn text(table: &[u8]) -> Result<Vec<u16>, Refusal> {
     let lines = lines(table)?.into_iter();
     Ok(lines
@@ -60,6 +62,7 @@ fn line(group: &[Record]) -> Vec<u16> {
     let (head, outputs) = group.split_at(outputs);
     let pattern = match head {
         [[1, _, anchored, ..], ranges @ ..] => pattern(ranges, *anchored == 1),
+        [MARKED_DEFAULT, ..] => units(&format!("else {}", MARK.join(" "))),
         _ => units("else"),
     };
     let outputs = outputs.chunk_by(|_, next| !is_output(next));

@@ -1,7 +1,7 @@
 //! Listings, written by hand: of accepted tables and of one for each refusal. Which
 //! input shows a rule is free: `…` stands for any text there.
 
-use cobbletwill::record::{digit, output, range, rule, term, Record, DEFAULT};
+use cobbletwill::record::{digit, output, range, rule, term, Record, DEFAULT, MARKED_DEFAULT};
 use cobbletwill::{witness, Machine};
 use tools::listing::{listing, verdict};
 use tools::source;
@@ -152,6 +152,42 @@ fn digits() {
              writes the second highest hexadecimal digit of x0, shift 8",
             "accepted: rules 1, a default, classes 4, states 4, L 3, E 3",
         ],
+    );
+}
+
+/// E is 1 for the pairs, though nothing else is written.
+#[test]
+fn a_marked_default() {
+    let a = [rule(1, false), range(0, 97, 97)];
+    lists(
+        &[&a[..], &[MARKED_DEFAULT]].concat(),
+        &[
+            "rule 0: \"a\" ==> [];",
+            "      chosen first on \"a\"",
+            "   0  01 01 00 00 00 00 00 00  rule of length 1",
+            "   1  02 00 00 00 61 00 61 00  position 0 takes 97 'a'",
+            "default: else keep pairs ==> [];",
+            "   2  05 01 00 00 00 00 00 00  default, which keeps pairs",
+            "accepted: rules 1, a default that keeps pairs, classes 3, states 2, L 1, E 1",
+        ],
+    );
+    lists(
+        &[&a[..], &[[5, 2, 0, 0, 0, 0, 0, 0], output(63)]].concat(),
+        &[
+            "rule 0",
+            "   0  01 01 00 00 00 00 00 00  rule of length 1",
+            "   1  02 00 00 00 61 00 61 00  position 0 takes 97 'a'",
+            "default",
+            "   2  05 02 00 00 00 00 00 00  default  <- refused 2",
+            "   3  03 00 00 00 3f 00 00 00  writes 63 '?'",
+            FIELD,
+            "at record 2, in the default",
+        ],
+    );
+    let leaving = [MARKED_DEFAULT, output(1), term(0, 1)];
+    says(
+        &[&a[..], &leaving].concat(),
+        &[VALUE, "at record 3, in the default"],
     );
 }
 

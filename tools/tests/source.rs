@@ -1,7 +1,8 @@
 //! The source form: request 4's grammar, as the library reads it, the helps of the
-//! bench, and digits.
+//! bench, digits, and the mark of the default.
 
-use cobbletwill::record::{digit, output, range, rule, term, Record, DEFAULT};
+use cobbletwill::record::{digit, output, range, rule, term, Record, DEFAULT, MARKED_DEFAULT};
+use cobbletwill::{Refusal, Table};
 use tools::source::table;
 
 /// A source gives these records.
@@ -229,6 +230,101 @@ fn texts_that_are_no_digit() {
     // What stands before it is looked at first.
     outside("else => [hex(x0, 5)];", 1, 7, "`=>`");
     outside("\"[a\"]\" ==> [];\n", 1, 4, "`]`");
+}
+
+/// "A default record may carry 1 in byte 1."
+#[test]
+fn the_mark() {
+    let a = [rule(1, false), one(0, b'a')];
+    let marked = |source: &str, written: &[Record]| {
+        let default = [&[MARKED_DEFAULT], written].concat();
+        gives(source, &[&a[..], &default].concat());
+    };
+    marked("\"a\" ==> [];\nelse keep pairs ==> [];", &[]);
+    marked("\"a\" ==> [];\nelse keep pairs ==> [63];", &[output(63)]);
+    marked(
+        "\"a\"==>[];else keep pairs==>[x0,hex(x0,4)];",
+        &[output(0), term(0, 1), digit(0, 4)],
+    );
+    marked("\"a\" ==> [];\n else\n# b\nkeep\r\n  pairs\n==> [];", &[]);
+    // A digit before it, and the constant 5, whose record is none of kind 5.
+    let x = [rule(1, false), one(0, b'x'), digit(0, 0), output(5)];
+    gives(
+        "\"x\" ==> [hex(x0, 0), 5]; else keep pairs ==> [5];",
+        &[&x[..], &[MARKED_DEFAULT, output(5)]].concat(),
+    );
+    // In quotes it is a text as any other.
+    let letters = (0..).zip(*b"keep").map(|(at, letter)| one(at, letter));
+    let head = [rule(4, false)].into_iter().chain(letters);
+    let all: Vec<Record> = head.chain([DEFAULT]).collect();
+    gives("\"keep\" ==> []; else ==> [];", &all);
+}
+
+/// "No text of request 4 could mean it": the library refuses each text that has it.
+#[test]
+fn the_mark_can_not_be_typed() {
+    for mark in ["keep pairs", "keep", "pairs", "keeppairs"] {
+        for text in [
+            format!("\"a\" ==> []; else {mark} ==> [];"),
+            format!("\"a\" ==> []; {mark} else ==> [];"),
+            format!("\"a\" ==> []; else ==> [] {mark};"),
+            format!("{mark} \"a\" ==> []; else ==> [];"),
+        ] {
+            let units: Vec<u16> = text.encode_utf16().collect();
+            assert_eq!(Table::from_text(&units), Err(Refusal::Grammar), "{text}");
+        }
+    }
+}
+
+#[test]
+fn the_mark_stands_behind_else_once() {
+    let behind_else = "`keep pairs` stands behind `else`, and nowhere else";
+    faulty("keep pairs", 1, 1, behind_else);
+    faulty("\"a\" ==> [];\nkeep pairs;", 2, 1, behind_else);
+    faulty("\"a\" ==> [];\nkeep pairs else ==> [];", 2, 1, behind_else);
+    faulty("\"a\" keep pairs ==> [];", 1, 5, behind_else);
+    faulty("\"else\" keep pairs ==> [];", 1, 8, behind_else);
+    faulty("\"a\" ==> [];\nelse ==> keep pairs [];", 2, 10, behind_else);
+    faulty("\"a\" ==> [];\nelse ==> [keep pairs];", 2, 11, behind_else);
+    faulty("\"a\" ==> [];\nelse ==> [] keep pairs;", 2, 13, behind_else);
+    let twice = "`keep pairs` stands here for a second time";
+    faulty("else keep pairs keep pairs ==> [];", 1, 17, twice);
+    faulty(
+        "else keep pairs ==> [];\nelse keep pairs ==> [];",
+        2,
+        6,
+        twice,
+    );
+    let pairs = "`pairs` has to come here";
+    faulty("else keep ==> [];", 1, 11, pairs);
+    faulty("else keep", 1, 10, pairs);
+    faulty("else keep pair ==> [];", 1, 11, pairs);
+    faulty("else keep Pairs ==> [];", 1, 11, pairs);
+    // One symbol each, in small letters.
+    outside("else Keep pairs ==> [];", 1, 6, "`==>`");
+    outside("else ke ep pairs ==> [];", 1, 6, "`==>`");
+    outside("else pairs ==> [];", 1, 6, "`==>`");
+    // What stands before it is looked at first.
+    outside("els keep pairs ==> [];", 1, 4, "`e`");
+    outside("\"a\" => [];\nelse keep ==> [];", 1, 6, "`=>`");
+    outside(
+        "an else keep pairs ==> [];",
+        1,
+        1,
+        "a pattern in quotes or `else`",
+    );
+}
+
+/// As the unmarked default: for every character, though none of a pair comes to it, and
+/// with a rule before it.
+#[test]
+fn a_marked_default_is_refused_as_any() {
+    let value = "refused 7: an output value may leave 0 to 65535";
+    faulty("\"a\" ==> [];\nelse keep pairs ==> [x0 + 1];", 2, 22, value);
+    faulty("else keep pairs ==> [x0];", 1, 26, "refused 5: no rule");
+    let place = "refused 3: a record where its kind can't come, a position not below K, \
+                 ranges out of order, a term's position repeated";
+    faulty("else keep pairs ==> [];\n\"a\" ==> [];", 2, 1, place);
 }
 
 #[test]

@@ -1,6 +1,6 @@
 //! Tables as rules that can be typed: by hand, and read back by the library.
 
-use cobbletwill::record::{digit, output, range, rule, term, Record, DEFAULT};
+use cobbletwill::record::{digit, output, range, rule, term, Record, DEFAULT, MARKED_DEFAULT};
 use cobbletwill::{check, Machine, Refusal, Table};
 use tools::source::table;
 use tools::typed::{source, text};
@@ -145,6 +145,17 @@ fn sources() {
     let records = [&[rule(2, false)], &ranges[..], &outputs].concat().concat();
     let lines = source(&records).expect("accepted");
     assert_eq!(lines, ["\"[␀-ÿ]\\␊\" ==> [hex(x0, 4), x0, hex(x1, 12)];"]);
+    assert_eq!(table(&lines.concat()), Ok(records.clone()));
+    let typed = text(&records).expect("accepted");
+    assert_eq!(read_back(&typed), Err(Refusal::Grammar));
+}
+
+/// The mark is written as a source has it, which can't be typed.
+#[test]
+fn the_mark() {
+    let records = spelled(&[97], &[MARKED_DEFAULT, output(63)]).concat();
+    let lines = source(&records).expect("accepted");
+    assert_eq!(lines, ["\"a\" ==> [];", "else keep pairs ==> [63];"]);
     assert_eq!(table(&lines.concat()), Ok(records.clone()));
     let typed = text(&records).expect("accepted");
     assert_eq!(read_back(&typed), Err(Refusal::Grammar));
