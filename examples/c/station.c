@@ -88,8 +88,8 @@ struct statement {
     const char *text;
 };
 
-/* One more than any table has, so that too many are noticed. */
-enum { STATEMENTS = COBBLETWILL_USES_SIZE + 1 };
+/* One more than the rules and the default of any table, so that too many are noticed. */
+enum { STATEMENTS = COBBLETWILL_MAX_RULES + 2 };
 
 /* Finds the statements of a source, each up to its semicolon or the end of its first
  * line; their number. A line that begins with # is a comment, and in quotes a
