@@ -1,7 +1,8 @@
 //! The proved rollback converter for Rust callers, over the C face of
 //! `include/cobbletwill.h`. Document 01 says what tables, machine words, sessions
 //! and refusals are, request \[4\] of document 02 what can be typed, request \[5\]
-//! what a preview is, request \[6\] which rules are live and which are dead.
+//! what a preview is, request \[6\] which rules are live and which are dead, request
+//! \[8\] what a marked default makes of pairs outside the basic plane.
 //!
 //! ```
 //! use cobbletwill::record::{output, range, rule, term, DEFAULT};

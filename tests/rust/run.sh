@@ -31,8 +31,8 @@ while read -r package least; do
 done << 'END'
 reference 170
 compare 91
-rust 44
-tools 53
+rust 51
+tools 61
 END
 [ "$packages" = "$(find . -maxdepth 2 -name Cargo.toml | wc -l)" ] || fail "not every package is tested"
 
