@@ -6,6 +6,8 @@
 #   rules, lines NUMBER live|dead    so is each rule of the table, and the number behind the last
 #   feeds TEXT, answers N, bytes     a feed to a fresh session, and a preview of it, answers so and leaves these bytes, eight a line; then each
 #                                    count of uses that is not 0, behind the place of its bytes and a colon
+#   units UNITS, answers N, writes UNITS, bytes
+#                                    the same of a piece in hexadecimal, with what the feed writes
 # or, without a table, any number of
 #   text, lines, records, bytes      these lines, typed, have these records
 #   text, lines, refused N           these lines, typed, are refused so
@@ -39,7 +41,7 @@ awk -v out="$out" '
     part == "text" && $1 == "refused" { open_file(block "/" count ".lines") }
     part == "text" { print > file; next }
     $1 == "table" { part = "table"; open_file(block "/hex"); next }
-    $1 == "input" || $1 == "feeds" || $1 == "words" || $1 == "rules" {
+    $1 == "input" || $1 == "feeds" || $1 == "units" || $1 == "words" || $1 == "rules" {
         command = block "/" ++count ".command"
         text = $0
         sub(/^[a-z]+ ?/, "", text)
@@ -51,6 +53,12 @@ awk -v out="$out" '
     }
     $1 == "prints" { next }
     $1 == "answers" { print $2 > file; next }
+    $1 == "writes" {
+        line = $1
+        for (i = 2; i <= NF && $i ~ /^[0-9A-F][0-9A-F][0-9A-F][0-9A-F]$/; i++) line = line " " $i
+        print line > file
+        next
+    }
     part == "input" { print > file; next }
     part == "words" || part == "rules" { print $1, $2 > file; next }
     {
@@ -76,7 +84,7 @@ for block in "$out"/[0-9]*/; do
                 (cd "$block" && "$program" < input) > "$found"
                 ;;
             words | rules) "$out/show" "$kind" "$block/rules.tab" > "$found" ;;
-            session) "$out/show" session "$block/rules.tab" "$text" > "$found" ;;
+            session | units) "$out/show" "$kind" "$block/rules.tab" "$text" > "$found" ;;
             text) "$out/show" text "${command%.command}.text" > "$found" ;;
         esac
         diff "${command%.command}.lines" "$found" || { echo "format: example $(basename "$block") of $page, $kind $text: expected and found differ" >&2; exit 1; }
@@ -87,6 +95,6 @@ done
 
 # Every marked block was run, every kind of example was met, and there are as many as ever.
 [ "$(grep -c '^```example$' "$page")" = "$(find "$out" -name 1.lines | wc -l)" ] || { echo "format: a block of $page expects nothing" >&2; exit 1; }
-[ "$(tr ' ' '\n' <<< "$kinds" | sort -u | xargs)" = "input rules session text words" ] || { echo "format: only the examples$kinds are met" >&2; exit 1; }
-[ "$examples" -ge 51 ] || { echo "format: only $examples examples are met" >&2; exit 1; }
+[ "$(tr ' ' '\n' <<< "$kinds" | sort -u | xargs)" = "input rules session text units words" ] || { echo "format: only the examples$kinds are met" >&2; exit 1; }
+[ "$examples" -ge 56 ] || { echo "format: only $examples examples are met" >&2; exit 1; }
 echo "format: $examples examples of $page as stated"

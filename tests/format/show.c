@@ -9,11 +9,15 @@
  * `show session TABLE PIECE` feeds a piece to a fresh session and prints the
  * answer and the session's bytes, eight a line; of its counts of uses those that
  * are not 0, each behind its place. Where a preview saw anything else, it says so.
+ * `show units TABLE UNITS` does the same for a piece in hexadecimal, and prints the
+ * units that were written behind the answer.
  * `show text RULES` prints the records of typed rules, one character a byte, eight
  * bytes a line, or the refusal.
  */
 #include <inttypes.h>
+#include <stdbool.h>
 #include <stdio.h>
+#include <stdlib.h>
 #include <string.h>
 
 #include "cobbletwill.h"
@@ -65,18 +69,47 @@ static void show_eight(const void *at) {
     }
 }
 
-static void show_session(const char *text) {
-    cobbletwill_session session = COBBLETWILL_FRESH, later = COBBLETWILL_FRESH;
-    uint16_t piece[64], output[8 * 64];
-    uint64_t written, foreseen;
-    size_t length = strlen(text) < 64 ? strlen(text) : 64;
-    for (size_t i = 0; i < length; i++) {
-        piece[i] = (uint8_t)text[i];
+enum { PIECE = 64 };
+
+/* A text's characters, one a byte; their number. */
+static size_t read_text(const char *text, uint16_t piece[PIECE]) {
+    size_t length = 0;
+    for (; length < PIECE && text[length] != 0; length++) {
+        piece[length] = (uint8_t)text[length];
     }
+    return length;
+}
+
+/* Units in hexadecimal with blanks between; their number. */
+static size_t read_units(const char *text, uint16_t piece[PIECE]) {
+    size_t length = 0;
+    char *end = NULL;
+    for (unsigned long unit = strtoul(text, &end, 16); length < PIECE && end != text; unit = strtoul(text, &end, 16)) {
+        piece[length++] = (uint16_t)unit;
+        text = end;
+    }
+    return length;
+}
+
+static void show_written(const uint16_t *output, uint64_t written) {
+    printf("writes");
+    for (uint64_t i = 0; i < written; i++) {
+        printf(" %04X", (unsigned)output[i]);
+    }
+    putchar('\n');
+}
+
+static void show_session(const uint16_t *piece, size_t length, bool shows_written) {
+    cobbletwill_session session = COBBLETWILL_FRESH, later = COBBLETWILL_FRESH;
+    uint16_t output[8 * PIECE];
+    uint64_t written = 0, foreseen = 0;
     uint32_t seen = cobbletwill_preview(words, COBBLETWILL_WORDS_SIZE, &session, piece, length, &later, &foreseen);
     uint32_t answer =
-        cobbletwill_feed(words, COBBLETWILL_WORDS_SIZE, &session, piece, length, output, 8 * 64, &written);
+        cobbletwill_feed(words, COBBLETWILL_WORDS_SIZE, &session, piece, length, output, 8 * PIECE, &written);
     printf("%" PRIu32 "\n", answer);
+    if (shows_written) {
+        show_written(output, written);
+    }
     if (seen != answer || foreseen != written || memcmp(&session, &later, sizeof session) != 0) {
         puts("a preview saw something else");
     }
@@ -112,7 +145,7 @@ static void show_records(size_t text_length) {
 int main(int argc, char **argv) {
     FILE *file = argc > 2 ? fopen(argv[2], "rb") : NULL;
     if (file == NULL) {
-        fputs("usage: show words TABLE | show rules TABLE | show session TABLE PIECE | show text RULES\n", stderr);
+        fputs("usage: show words|rules TABLE | show session|units TABLE PIECE | show text RULES\n", stderr);
         return 2;
     }
     size_t length = fread(bytes, 1, sizeof bytes, file);
@@ -126,8 +159,11 @@ int main(int argc, char **argv) {
         printf("refused %" PRIu32 "\n", answer);
         return 1;
     }
-    if (argc == 4) {
-        show_session(argv[3]);
+    uint16_t piece[PIECE];
+    if (argc == 4 && strcmp(argv[1], "units") == 0) {
+        show_session(piece, read_units(argv[3], piece), true);
+    } else if (argc == 4) {
+        show_session(piece, read_text(argv[3], piece), false);
     } else if (strcmp(argv[1], "rules") == 0) {
         show_rules(length);
     } else {
