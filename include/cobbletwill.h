@@ -50,13 +50,12 @@
 #include <stdint.h>
 
 /* The version of this header and its library: record kinds, word and session
- * layout, answers, functions. Words of 0.2, which has no digits, are not for
- * later versions, nor are sessions of 0.3, which have no counts of uses. Tables,
- * words and sessions of 0.4, which has no from_text, of 0.5, which has no preview,
- * of 0.6, which has no witness, of 0.7, which takes terms by rising position alone,
- * of 0.8, which has other names of refusals and sizes, and of 0.9, which has no marked
- * default, stay valid, but for sessions: those of 0.9 and before, of 312 bytes, have no
- * count of pairs and are not for 0.10. */
+ * layout, answers, functions. Words of 0.2, which has no digits, are not for later
+ * versions. Tables and words of 0.4, which has no from_text, of 0.5, which has no
+ * preview, of 0.6, which has no witness, of 0.7, which takes terms by rising position
+ * alone, of 0.8, which has other names of refusals and sizes, and of 0.9, which has no
+ * marked default, stay valid. Sessions of 0.9 are not for 0.10: a session is 312 bytes
+ * there and has no count of pairs. Nor are those of the versions before. */
 #define COBBLETWILL_VERSION_MAJOR 0
 #define COBBLETWILL_VERSION_MINOR 10
 #define COBBLETWILL_VERSION_PATCH 0
@@ -290,7 +289,7 @@ uint32_t cobbletwill_convert(const uint8_t *table, size_t table_length,
  * Answers 0 for a text that is accepted. Then `*length` is the length in bytes of
  * its records, in the text's order, which are written from the start of `table`,
  * and the rest of `table` is as found. The records are of the kinds 1 to 5, the
- * check accepts them, and they mean what the text does.
+ * default's without the mark, the check accepts them, and they mean what the text does.
  *
  * Else answers the first refusal in this order, and `table` and `*length` are as
  * found:
