@@ -93,11 +93,10 @@ enum {
     /* The characters that a session can hold. */
     COBBLETWILL_HELD_SIZE = 8,
     /* The counts of uses in a session: a rule's at its number, 0 to 31, the default's
-     * on one unit at COBBLETWILL_USES_DEFAULT, and on a pair at
-     * COBBLETWILL_USES_PAIRS. */
+     * on one unit at COBBLETWILL_USES_DEFAULT, and on a pair at COBBLETWILL_PAIRS. */
     COBBLETWILL_USES_SIZE = 34,
     COBBLETWILL_USES_DEFAULT = 32,
-    COBBLETWILL_USES_PAIRS = 33,
+    COBBLETWILL_PAIRS = 33,
 
     /* The greatest numbers of a table and its machine: K or L, E, rules, classes of
      * characters, states. */
@@ -424,10 +423,10 @@ typedef struct cobbletwill_session {
     uint16_t held[COBBLETWILL_HELD_SIZE];
     /* How often each rule was used, that is, wrote its output: rule i at i, and
      * the default on one unit at COBBLETWILL_USES_DEFAULT; and how many pairs it let
-     * through, at COBBLETWILL_USES_PAIRS. Each count times the length of its
-     * pattern, the default's times 1 and that of pairs times 2, add up to the
-     * characters consumed. Counts of rules or a default that the table lacks are 0,
-     * and that of pairs where its default is not marked. */
+     * through, at COBBLETWILL_PAIRS. Each count times the length of its pattern, the
+     * default's times 1 and that of pairs times 2, add up to the characters consumed.
+     * Counts of rules or a default that the table lacks are 0, and that of pairs where
+     * its default is not marked. */
     uint64_t uses[COBBLETWILL_USES_SIZE];
 } cobbletwill_session;
 
@@ -460,8 +459,8 @@ COBBLETWILL_HOLDS(offsetof(cobbletwill_session, state) == 28);
 COBBLETWILL_HOLDS(offsetof(cobbletwill_session, held_count) == 30);
 COBBLETWILL_HOLDS(offsetof(cobbletwill_session, held) == 32);
 COBBLETWILL_HOLDS(offsetof(cobbletwill_session, uses) == 48);
-COBBLETWILL_HOLDS(COBBLETWILL_USES_SIZE == COBBLETWILL_USES_PAIRS + 1);
-COBBLETWILL_HOLDS(COBBLETWILL_USES_PAIRS == COBBLETWILL_USES_DEFAULT + 1);
+COBBLETWILL_HOLDS(COBBLETWILL_USES_SIZE == COBBLETWILL_PAIRS + 1);
+COBBLETWILL_HOLDS(COBBLETWILL_PAIRS == COBBLETWILL_USES_DEFAULT + 1);
 COBBLETWILL_HOLDS(COBBLETWILL_USES_DEFAULT == COBBLETWILL_MAX_RULES);
 COBBLETWILL_HOLDS(COBBLETWILL_HELD_SIZE == COBBLETWILL_MAX_PATTERN);
 COBBLETWILL_HOLDS(COBBLETWILL_INPUT_SIZE == COBBLETWILL_MAX_PATTERN + 1);

@@ -99,7 +99,7 @@ static void expect_closed(cobbletwill_session *session, const struct row *row, s
     EXPECT(count + written == row->closed.written);
     EXPECT(memcmp(text, row->text, row->closed.written * sizeof text[0]) == 0);
     expect_after(session, row, row->length, row->closed);
-    EXPECT(session->uses[COBBLETWILL_USES_PAIRS] == row->pairs);
+    EXPECT(session->uses[COBBLETWILL_PAIRS] == row->pairs);
     EXPECT(session->uses[COBBLETWILL_USES_DEFAULT] == row->singles);
 }
 

@@ -261,7 +261,7 @@ static void test_waiting_units(void) {
     UNSOUND((session.received = session.held_count = 2, session.held[1] = 0xdbff));
     UNSOUND(session.tally.steps = 2);
     UNSOUND(session.tally.produced = 1);
-    UNSOUND(session.uses[COBBLETWILL_USES_PAIRS] = 1);
+    UNSOUND(session.uses[COBBLETWILL_PAIRS] = 1);
     UNSOUND(session.uses[COBBLETWILL_USES_DEFAULT] = 1);
     UNSOUND(session.status = 1);
     UNSOUND(session.status = 2);
@@ -275,15 +275,15 @@ static void test_unsound_pairs(void) {
     cobbletwill_session session = COBBLETWILL_FRESH;
     session.received = session.tally.produced = 2;
     for (size_t i = 0; i < sizeof pairs / sizeof pairs[0]; i++) {
-        session.uses[COBBLETWILL_USES_PAIRS] = pairs[i];
+        session.uses[COBBLETWILL_PAIRS] = pairs[i];
         lend_marked(session);
         lent_refused(COBBLETWILL_REFUSED_UNSOUND_SESSION);
     }
-    session.uses[COBBLETWILL_USES_PAIRS] = 1;
+    session.uses[COBBLETWILL_PAIRS] = 1;
     all_refused(session, COBBLETWILL_REFUSED_UNSOUND_SESSION);
     lend_marked(session);
     EXPECT(make(&finish) == COBBLETWILL_OK);
-    session.uses[COBBLETWILL_USES_PAIRS] = 0;
+    session.uses[COBBLETWILL_PAIRS] = 0;
     session.uses[COBBLETWILL_USES_DEFAULT] = 2;
     lend_marked(session);
     EXPECT(make(&finish) == COBBLETWILL_OK);
