@@ -2,34 +2,10 @@
 //! the automaton that is made from a table.
 
 use crate::classes::Classes;
+use crate::meaning::Choice;
 use crate::refusal::Refusal;
 use crate::states::{StateNo, States};
-use crate::table::{RuleNo, Table, MAX_RULES};
-
-/// A group that the machine emits: a rule's or the default's.
-#[derive(Clone, Copy, Debug, PartialEq, Eq)]
-pub enum Choice {
-    /// The group of a rule.
-    Rule(RuleNo),
-    /// The default group.
-    Default,
-}
-
-impl Choice {
-    /// Every group that a machine may have, by number.
-    pub fn all() -> impl Iterator<Item = Choice> {
-        let rules = (0..MAX_RULES as u16).map(|number| Choice::Rule(RuleNo(number)));
-        rules.chain([Choice::Default])
-    }
-
-    /// The group's number: a rule's own, or 32 for the default.
-    pub fn number(self) -> usize {
-        match self {
-            Choice::Rule(rule) => rule.index(),
-            Choice::Default => MAX_RULES,
-        }
-    }
-}
+use crate::table::{Mode, RuleNo, Table};
 
 /// What the plain machine asks of the states, classes and groups.
 pub trait Automaton {
@@ -42,10 +18,10 @@ pub trait Automaton {
     /// The target of a state for a character's class.
     fn target(&self, state: StateNo, character: u16) -> Option<StateNo>;
 
-    /// Whether there is a default.
-    fn has_default(&self) -> bool;
+    /// What happens where no rule fits.
+    fn mode(&self) -> Mode;
 
-    /// Writes a group's output for the characters of the store.
+    /// Writes a group's output for the characters of the store, or a pair as it stands.
     fn write(&self, choice: Choice, store: &[u16], text: &mut Vec<u16>);
 
     /// The rule of a state whose go is set and equal to its end: it is emitted
@@ -94,17 +70,11 @@ impl Automaton for TableAutomaton {
         self.states.target(state, self.classes.class(character))
     }
 
-    fn has_default(&self) -> bool {
-        self.table.default.is_some()
+    fn mode(&self) -> Mode {
+        self.table.mode()
     }
 
     fn write(&self, choice: Choice, store: &[u16], text: &mut Vec<u16>) {
-        let group = match choice {
-            Choice::Rule(rule) => Some(&self.table.rules[rule.index()]),
-            Choice::Default => self.table.default.as_ref(),
-        };
-        if let Some(group) = group {
-            group.write(store, text);
-        }
+        self.table.write(choice, store, text);
     }
 }

@@ -27,7 +27,8 @@ pub fn encode(table: &Table) -> Vec<u8> {
 /// The records of a table.
 pub fn records(table: &Table) -> Vec<Record> {
     let rules = table.rules.iter().flat_map(rule_records);
-    let default = table.default.iter().flat_map(default_records);
+    let default = table.default.iter();
+    let default = default.flat_map(|group| default_records(group, table.marked));
     rules.chain(default).collect()
 }
 
@@ -50,8 +51,8 @@ fn rule_records(rule: &Group) -> Vec<Record> {
 }
 
 /// A default group has no ranges.
-fn default_records(default: &Group) -> Vec<Record> {
-    let mut records = vec![Record::Default];
+fn default_records(default: &Group, marked: bool) -> Vec<Record> {
+    let mut records = vec![Record::Default { marked }];
     records.extend(output_records(default));
     records
 }
@@ -135,9 +136,14 @@ impl TableBuilder {
         }))
     }
 
-    /// Kind 5.
+    /// Kind 5, not marked.
     pub fn default_group(self) -> Self {
-        self.record(Record::Default)
+        self.record(Record::Default { marked: false })
+    }
+
+    /// Kind 5, marked.
+    pub fn marked_default(self) -> Self {
+        self.record(Record::Default { marked: true })
     }
 
     /// Kind 6.
@@ -145,9 +151,14 @@ impl TableBuilder {
         self.record(Record::Digit(Digit { position, shift }))
     }
 
+    /// The output character x0.
+    pub fn copy(self) -> Self {
+        self.output(0).term(0, 1)
+    }
+
     /// The default that writes x0.
     pub fn copying_default(self) -> Self {
-        self.default_group().output(0).term(0, 1)
+        self.default_group().copy()
     }
 
     /// Any record.

@@ -1,16 +1,17 @@
 //! An independent version of the rollback converter, written from document 01
-//! and requests \[1\] to \[6\] of document 02 alone, for comparison with the
+//! and requests \[1\] to \[8\] of document 02 alone, for comparison with the
 //! definitions and the code of the project.
 //!
 //! The modules in document 01's order:
 //!
 //! - [`table`]: records, and the reader that refuses by 1 to 7
+//! - [`pairs`]: characters of two units
 //! - [`meaning`]: exact values, and Definition 7
 //! - [`classes`], [`states`]: what a machine is made of
 //! - [`automaton`]: the interface between the machine and where its states are kept
 //! - [`words`]: the layout of the machine words and their soundness
 //! - [`machine`]: the plain machine, one counted step at a time
-//! - [`uses`]: how often each rule and the default were used
+//! - [`uses`]: how often each rule, the default and pairs were used
 //! - [`session`]: sessions, feed, finish and preview
 //! - [`reckoning`]: what a list of calls must give, from the table and the calls alone
 //! - [`direct`], [`compile`]: direct conversion and compiling
@@ -32,6 +33,7 @@ pub mod direct;
 pub mod lengths;
 pub mod machine;
 pub mod meaning;
+pub mod pairs;
 pub mod random;
 pub mod reckoning;
 pub mod refusal;

@@ -1,7 +1,10 @@
 //! The plain machine, one counted step at a time.
 
-use crate::automaton::{Automaton, Choice};
+use crate::automaton::Automaton;
+use crate::meaning::Choice;
+use crate::pairs::{begins_with_pair, is_first_unit, PAIR};
 use crate::states::StateNo;
+use crate::table::Mode;
 use crate::uses::Uses;
 
 /// One step of the machine. Waiting is none.
@@ -37,12 +40,39 @@ enum Phase {
     Matching,
     /// The store was given back: the default is due, or a stop.
     RolledBack,
-    /// One character was read for the default, which is to be emitted.
-    DefaultRead,
+    /// The default has read the first of the characters that it takes.
+    Falling(Fall),
     /// Closed.
     Closed,
     /// Stopped.
     Stopped,
+}
+
+/// What the default takes after a back.
+#[derive(Clone, Copy, Debug, PartialEq, Eq)]
+enum Fall {
+    /// One unit, for which its output is written.
+    Single,
+    /// Both units of a pair, which are written unchanged.
+    Pair,
+}
+
+impl Fall {
+    /// How many characters are taken.
+    fn taken(self) -> usize {
+        match self {
+            Fall::Single => 1,
+            Fall::Pair => PAIR,
+        }
+    }
+
+    /// What is emitted.
+    fn choice(self) -> Choice {
+        match self {
+            Fall::Single => Choice::Default,
+            Fall::Pair => Choice::Pair,
+        }
+    }
 }
 
 /// "It holds a store, the unread characters and a state. Unread characters come
@@ -69,20 +99,28 @@ impl<'a, A: Automaton> Machine<'a, A> {
         Machine::resume(automaton, StateNo::START, &[], piece, ended)
     }
 
-    /// A machine that goes on from a state and a store.
+    /// A machine that goes on from a state and the characters that it held. Those of
+    /// state 0, which no target leads to, are a first unit "left by a back": it was
+    /// given back, and "the back is counted before the wait".
     pub fn resume(
         automaton: &'a A,
         state: StateNo,
-        store: &[u16],
+        held: &[u16],
         piece: &'a [u16],
         ended: bool,
     ) -> Self {
+        let left_by_back = state == StateNo::START && !held.is_empty();
+        let (phase, store, buffer) = if left_by_back {
+            (Phase::RolledBack, Vec::new(), held.to_vec())
+        } else {
+            (Phase::Matching, held.to_vec(), Vec::new())
+        };
         Machine {
             automaton,
-            phase: Phase::Matching,
+            phase,
             state,
-            store: store.to_vec(),
-            buffer: Vec::new(),
+            store,
+            buffer,
             piece,
             ended,
             output: Vec::new(),
@@ -102,9 +140,9 @@ impl<'a, A: Automaton> Machine<'a, A> {
     pub fn step(&mut self) -> Option<Step> {
         let step = match self.phase {
             Phase::Matching => self.match_on()?,
-            Phase::RolledBack if self.automaton.has_default() => self.read_for_default(),
-            Phase::RolledBack => self.stop(),
-            Phase::DefaultRead => self.emit(Choice::Default),
+            Phase::RolledBack => self.fall_back()?,
+            Phase::Falling(fall) if self.store.len() < fall.taken() => self.read_for(fall),
+            Phase::Falling(fall) => self.emit(fall.choice()),
             Phase::Closed | Phase::Stopped => return None,
         };
         self.steps += 1;
@@ -149,9 +187,35 @@ impl<'a, A: Automaton> Machine<'a, A> {
         }
     }
 
+    /// "Then with a default take one and emit the default, without one stop"; under the
+    /// mark as request \[8\] has it, none being a first unit that waits.
+    fn fall_back(&mut self) -> Option<Step> {
+        match self.automaton.mode() {
+            Mode::Absent => Some(self.stop()),
+            Mode::Single => Some(self.read_for(Fall::Single)),
+            Mode::Paired => self.marked_fall().map(|fall| self.read_for(fall)),
+        }
+    }
+
+    /// What the marked default takes. "A first unit with nothing readable after it
+    /// waits, and at the input's end it is treated alone."
+    fn marked_fall(&self) -> Option<Fall> {
+        let next: Vec<u16> = self.unread().take(PAIR).collect();
+        match next[..] {
+            [unit] if is_first_unit(unit) && !self.ended => None,
+            _ if begins_with_pair(&next) => Some(Fall::Pair),
+            _ => Some(Fall::Single),
+        }
+    }
+
+    /// The unread characters: "first from those given back, then from the piece".
+    fn unread(&self) -> impl Iterator<Item = u16> + '_ {
+        self.buffer.iter().rev().chain(self.piece).copied()
+    }
+
     /// The next unread character.
     fn next_character(&self) -> Option<u16> {
-        self.buffer.last().or(self.piece.first()).copied()
+        self.unread().next()
     }
 
     /// Moves the next unread character into the store.
@@ -168,10 +232,10 @@ impl<'a, A: Automaton> Machine<'a, A> {
         Step::Read
     }
 
-    /// "With a default take one": the state stays 0.
-    fn read_for_default(&mut self) -> Step {
+    /// "With a default take one", and of a pair another: the state stays 0.
+    fn read_for(&mut self, fall: Fall) -> Step {
         self.store_next();
-        self.phase = Phase::DefaultRead;
+        self.phase = Phase::Falling(fall);
         Step::Read
     }
 
@@ -223,9 +287,11 @@ impl<'a, A: Automaton> Machine<'a, A> {
         self.state
     }
 
-    /// The store: when the machine waits, the characters that it holds.
-    pub fn store(&self) -> &[u16] {
-        &self.store
+    /// When the machine waits, the characters that it holds: the store, or the first
+    /// unit that waits unread. Nothing is left of either when it has closed or stopped.
+    pub fn held(&self) -> Vec<u16> {
+        let store = self.store.iter().copied();
+        store.chain(self.unread()).collect()
     }
 
     /// What was written.

@@ -1,6 +1,7 @@
-//! What a table means: exact values, and Definition 7.
+//! What a table means: exact values, and Definition 7 as request \[8\] amends it.
 
-use crate::table::{Digit, Group, Output, RuleNo, Sum, Table};
+use crate::pairs::{begins_with_pair, PAIR};
+use crate::table::{Digit, Group, Mode, Output, RuleNo, Sum, Table, MAX_RULES};
 
 /// A character's digit: "its value v is the character divided by 2 to that
 /// shift, rounded down, modulo 16. The output is 48 + v when v is below 10, and
@@ -65,6 +66,59 @@ impl Group {
     }
 }
 
+/// What is chosen at a place.
+#[derive(Clone, Copy, Debug, PartialEq, Eq)]
+pub enum Choice {
+    /// A rule.
+    Rule(RuleNo),
+    /// The default on one unit.
+    Default,
+    /// The marked default on a pair.
+    Pair,
+}
+
+impl Choice {
+    /// Every choice that a table may have, by number.
+    pub fn all() -> impl Iterator<Item = Choice> {
+        let rules = (0..MAX_RULES as u16).map(|number| Choice::Rule(RuleNo(number)));
+        rules.chain([Choice::Default, Choice::Pair])
+    }
+
+    /// The number: a rule's own, 32 for the default, 33 for a pair.
+    pub fn number(self) -> usize {
+        match self {
+            Choice::Rule(rule) => rule.index(),
+            Choice::Default => MAX_RULES,
+            Choice::Pair => MAX_RULES + 1,
+        }
+    }
+}
+
+impl Table {
+    /// The group whose output a choice of this table writes; a pair has none.
+    pub fn group(&self, choice: Choice) -> Option<&Group> {
+        match choice {
+            Choice::Rule(rule) => Some(&self.rules[rule.index()]),
+            Choice::Default => self.default.as_ref(),
+            Choice::Pair => None,
+        }
+    }
+
+    /// How many characters a choice takes.
+    pub fn taken(&self, choice: Choice) -> usize {
+        self.group(choice).map_or(PAIR, Group::length)
+    }
+
+    /// Writes what a choice gives for the characters that it takes: a group's output,
+    /// and of a pair "both unchanged".
+    pub fn write(&self, choice: Choice, word: &[u16], text: &mut Vec<u16>) {
+        match self.group(choice) {
+            Some(group) => group.write(word, text),
+            None => text.extend(word),
+        }
+    }
+}
+
 /// How a conversion ends.
 #[derive(Clone, Copy, Debug, PartialEq, Eq)]
 pub enum Ending {
@@ -95,10 +149,17 @@ pub fn chosen_rule(table: &Table, rest: &[u16]) -> Option<RuleNo> {
         .map(|(number, _)| number)
 }
 
-/// "With none, the default is chosen."
-pub fn choose<'t>(table: &'t Table, rest: &[u16]) -> Option<&'t Group> {
-    let rule = chosen_rule(table, rest).map(|number| &table.rules[number.index()]);
-    rule.or(table.default.as_ref())
+/// "With none, the default is chosen." Under the mark, "where no rule fits and the next
+/// two characters are such a pair, the default takes both".
+pub fn choose(table: &Table, rest: &[u16]) -> Option<Choice> {
+    if let Some(rule) = chosen_rule(table, rest) {
+        return Some(Choice::Rule(rule));
+    }
+    match table.mode() {
+        Mode::Absent => None,
+        Mode::Paired if begins_with_pair(rest) => Some(Choice::Pair),
+        Mode::Single | Mode::Paired => Some(Choice::Default),
+    }
 }
 
 /// Definition 7, from place 0 to the input's end or to a stop.
@@ -106,7 +167,7 @@ pub fn convert(table: &Table, input: &[u16]) -> Meaning {
     let mut text = Vec::new();
     let mut place = 0;
     while place < input.len() {
-        let Some(group) = choose(table, &input[place..]) else {
+        let Some(choice) = choose(table, &input[place..]) else {
             let ending = Ending::Stopped;
             return Meaning {
                 text,
@@ -114,8 +175,8 @@ pub fn convert(table: &Table, input: &[u16]) -> Meaning {
                 ending,
             };
         };
-        let next = place + group.length();
-        group.write(&input[place..next], &mut text);
+        let next = place + table.taken(choice);
+        table.write(choice, &input[place..next], &mut text);
         place = next;
     }
     let ending = Ending::Closed;

@@ -80,11 +80,12 @@ impl Reckoning {
     fn run(&mut self, automaton: &TableAutomaton) {
         let mut machine = Machine::start(automaton, &self.input, self.ended);
         machine.run();
+        let held = machine.held();
         self.session = Session {
             status: machine.status(),
             state: machine.state().0,
-            held: held_places(machine.store()),
-            count: machine.store().len() as u16,
+            held: held_places(&held),
+            count: held.len() as u16,
             received: match machine.status() {
                 Status::Stopped => machine.consumed(),
                 Status::Open | Status::Closed => self.input.len() as u64,

@@ -177,51 +177,107 @@ fn refused_digits() -> [(u8, Vec<u8>); 14] {
 }
 
 /// A random table that keeps the rules for direct conversion. Its rules share a
-/// few letters and often each other's beginnings, so that they meet.
+/// few letters and often each other's beginnings, so that they meet. Two of three
+/// tables have a default, every second of them a marked one.
 pub fn random_table(random: &mut Random) -> Table {
     let letters = Letters::random(random);
+    let rules = random_rules(random, &letters);
+    let default = (!random.one_in(3)).then(|| random_outputs(random, Group::default_group()));
+    Table {
+        rules,
+        marked: default.is_some() && random.one_in(2),
+        default,
+    }
+}
+
+/// A random table with a marked default, which in one of three times writes nothing.
+/// Its rules are over units of pairs and the characters beside them.
+pub fn random_marked_table(random: &mut Random) -> Table {
+    let letters = Letters::units(random);
+    let rules = random_rules(random, &letters);
+    let default = match random.below(3) {
+        0 => Group::default_group(),
+        _ => random_outputs(random, Group::default_group()),
+    };
+    Table {
+        rules,
+        default: Some(default),
+        marked: true,
+    }
+}
+
+/// Random rules over some letters, mostly a few.
+fn random_rules(random: &mut Random, letters: &Letters) -> Vec<Group> {
     let rule_count = match random.below(20) {
         0 => random.between(9, MAX_RULES as i64),
         _ => random.between(1, 6),
     };
     let mut rules: Vec<Group> = Vec::new();
     for _ in 0..rule_count {
-        let rule = random_rule(random, &letters, &rules);
+        let rule = random_rule(random, letters, &rules);
         rules.push(rule);
     }
-    let has_default = !random.one_in(3);
-    Table {
-        rules,
-        default: has_default.then(|| random_outputs(random, Group::default_group())),
-    }
+    rules
 }
 
-/// The letters of a random table: some characters that follow each other.
+/// What a random table is over.
 struct Letters {
-    first: u16,
-    count: u16,
+    /// Some characters, rising.
+    letters: Vec<u16>,
+    /// Ranges of many characters.
+    wide: &'static [Range],
 }
 
 impl Letters {
-    /// Two to five letters, sometimes at a border of the characters.
+    /// Two to five letters that follow each other, sometimes at a border of the
+    /// characters or where the second units of pairs follow the first.
     fn random(random: &mut Random) -> Letters {
         let count = random.between(2, 5) as u16;
         let last_first = u16::MAX - (count - 1);
         let anywhere = random.character().min(last_first);
-        let first = *random.pick(&[97, 97, 97, 0, last_first, anywhere]);
-        Letters { first, count }
+        let first = *random.pick(&[97, 97, 97, 0, last_first, anywhere, 56319]);
+        Letters {
+            letters: (first..=first + (count - 1)).collect(),
+            wide: &[Range::ALL],
+        }
     }
 
-    /// All letters, rising.
-    fn all(&self) -> impl Iterator<Item = u16> {
-        self.first..=self.first + (self.count - 1)
+    /// About half of the units at the borders of both sorts, and of the characters
+    /// beside them.
+    fn units(random: &mut Random) -> Letters {
+        const BORDERS: [u16; 9] = [97, 55295, 55296, 55297, 56319, 56320, 56321, 57343, 57344];
+        let mut letters = BORDERS.to_vec();
+        letters.retain(|_| random.one_in(2));
+        if letters.is_empty() {
+            letters.push(*random.pick(&BORDERS));
+        }
+        Letters {
+            letters,
+            wide: &[Range::ALL, FIRST_UNITS, SECOND_UNITS, UNITS],
+        }
     }
 
     /// One letter.
     fn one(&self, random: &mut Random) -> u16 {
-        self.first + random.below(usize::from(self.count)) as u16
+        *random.pick(&self.letters)
     }
 }
+
+/// The first units of pairs.
+const FIRST_UNITS: Range = Range {
+    low: 55296,
+    high: 56319,
+};
+/// The second units of pairs.
+const SECOND_UNITS: Range = Range {
+    low: 56320,
+    high: 57343,
+};
+/// Both.
+const UNITS: Range = Range {
+    low: FIRST_UNITS.low,
+    high: SECOND_UNITS.high,
+};
 
 /// A random rule, anchored or not, that often begins as an earlier one.
 fn random_rule(random: &mut Random, letters: &Letters, earlier: &[Group]) -> Group {
@@ -245,10 +301,10 @@ fn random_rule(random: &mut Random, letters: &Letters, earlier: &[Group]) -> Gro
     random_outputs(random, rule)
 }
 
-/// Random ranges of a position: one letter, some letters, or every character.
+/// Random ranges of a position: one letter, some letters, or many characters.
 fn random_position(random: &mut Random, letters: &Letters) -> Vec<Range> {
     let ranges = match random.below(12) {
-        0 => vec![Range::ALL],
+        0 => vec![*random.pick(letters.wide)],
         1..=5 => Vec::new(),
         _ => some_letters(random, letters),
     };
@@ -262,7 +318,7 @@ fn random_position(random: &mut Random, letters: &Letters) -> Vec<Range> {
 /// Ranges over about half of the letters, sometimes one right after another.
 fn some_letters(random: &mut Random, letters: &Letters) -> Vec<Range> {
     let mut ranges: Vec<Range> = Vec::new();
-    for letter in letters.all() {
+    for &letter in &letters.letters {
         if random.one_in(2) {
             continue;
         }
@@ -345,12 +401,17 @@ fn random_terms(random: &mut Random, length: usize) -> Vec<Term> {
 }
 
 /// A random input of a length, made of words that the table's rules fit, of
-/// beginnings of such words, and of other characters.
+/// beginnings of such words, and of other characters; under a marked default also
+/// of units.
 pub fn random_input(random: &mut Random, table: &Table, length: usize) -> Vec<u16> {
     let mut input = Vec::new();
     while input.len() < length {
         if random.one_in(40) {
             input.push(random.character());
+            continue;
+        }
+        if table.marked && random.one_in(3) {
+            input.extend(random_units(random));
             continue;
         }
         let rule = random.pick(&table.rules);
@@ -363,6 +424,19 @@ pub fn random_input(random: &mut Random, table: &Table, length: usize) -> Vec<u1
     }
     input.truncate(length);
     input
+}
+
+/// A pair, three times of five, or one unit; each at a border of its sort or any.
+fn random_units(random: &mut Random) -> Vec<u16> {
+    let [first, second] = [FIRST_UNITS, SECOND_UNITS].map(|Range { low, high }| {
+        let any = random.between(i64::from(low), i64::from(high)) as u16;
+        *random.pick(&[low, high, any])
+    });
+    match random.below(5) {
+        0 => vec![first],
+        1 => vec![second],
+        _ => vec![first, second],
+    }
 }
 
 /// A random word that lies in the group's ranges.

@@ -1,11 +1,13 @@
 //! Sessions, their soundness, feed, finish and preview.
 
-use crate::automaton::{Automaton, Choice};
+use crate::automaton::Automaton;
 use crate::lengths::{Lengths, MAX_RECEIVED};
 use crate::machine::{Machine, Status};
+use crate::meaning::Choice;
+use crate::pairs::is_first_unit;
 use crate::refusal::Refusal;
 use crate::states::StateNo;
-use crate::table::{MAX_LENGTH, MAX_OUTPUTS};
+use crate::table::{Mode, MAX_LENGTH, MAX_OUTPUTS};
 use crate::uses::Uses;
 use crate::words::Words;
 
@@ -29,7 +31,7 @@ pub struct Session {
     pub produced: u64,
     /// Steps counted.
     pub steps: u64,
-    /// How often each rule and the default were used.
+    /// How often each rule, the default and pairs were used.
     pub uses: Uses,
 }
 
@@ -109,8 +111,9 @@ impl Session {
     }
 
     /// "The sum over rules of count times K, plus the default's count, is the
-    /// consumed total", K of the default being 1, and "counts of rules or a default
-    /// that the machine lacks" are 0. In 128 bits no counts add up to too much.
+    /// consumed total", K of the default being 1, to which "a pair adds 2"; "counts of
+    /// rules or a default that the machine lacks" are 0, and so is that of pairs
+    /// "without the mark". In 128 bits no counts add up to too much.
     fn uses_are_sound(&self, words: &Words) -> bool {
         let lengths = Choice::all().map(|choice| words.length(choice));
         let mut taken = 0;
@@ -125,11 +128,15 @@ impl Session {
     }
 
     /// Open, "the held characters lead from state 0 to the state by targets,
-    /// neither through nor to a state whose go equals its end"; closed or
-    /// stopped, "state 0, nothing held".
+    /// neither through nor to a state whose go equals its end", or a first unit waits;
+    /// closed or stopped, "state 0, nothing held".
     fn place_is_sound(&self, words: &Words, held: &[u16]) -> bool {
+        let at_start = self.state == StateNo::START.0;
         if self.status != Status::Open {
-            return self.state == StateNo::START.0 && held.is_empty();
+            return at_start && held.is_empty();
+        }
+        if at_start && waits(words, held) {
+            return true;
         }
         let reached = held.iter().try_fold(StateNo::START, |state, &character| {
             words
@@ -146,11 +153,12 @@ impl Session {
             Status::Stopped => self.received - u64::from(self.count) + machine.consumed(),
             Status::Open | Status::Closed => self.received + piece as u64,
         };
+        let held = machine.held();
         Session {
             status: machine.status(),
             state: machine.state().0,
-            held: held_places(machine.store()),
-            count: machine.store().len() as u16,
+            held: held_places(&held),
+            count: held.len() as u16,
             received,
             produced: self.produced + machine.output().len() as u64,
             steps: self.steps + machine.steps(),
@@ -159,10 +167,22 @@ impl Session {
     }
 }
 
-/// The places for held characters: the store, others 0.
-pub fn held_places(store: &[u16]) -> [u16; MAX_LENGTH] {
+/// "A waiting first unit left by a back is one held character at state 0. [...] A sound
+/// session allows it where the mark is set, the unit is a first unit and state 0 has no
+/// target for it."
+fn waits(words: &Words, held: &[u16]) -> bool {
+    let [unit] = *held else {
+        return false;
+    };
+    words.mode() == Mode::Paired
+        && is_first_unit(unit)
+        && words.target(StateNo::START, unit).is_none()
+}
+
+/// The places for held characters, others 0.
+pub fn held_places(held: &[u16]) -> [u16; MAX_LENGTH] {
     let mut places = [0; MAX_LENGTH];
-    places[..store.len()].copy_from_slice(store);
+    places[..held.len()].copy_from_slice(held);
     places
 }
 

@@ -204,6 +204,27 @@ impl Group {
     }
 }
 
+/// What happens where no rule fits.
+#[derive(Clone, Copy, Debug, PartialEq, Eq)]
+pub enum Mode {
+    /// There is no default.
+    Absent,
+    /// The default takes one unit.
+    Single,
+    /// The default is marked: it takes both units of a pair, else one.
+    Paired,
+}
+
+impl Mode {
+    /// "E is then at least 1": the least E of a mode.
+    pub fn least_outputs(self) -> usize {
+        match self {
+            Mode::Absent | Mode::Single => 0,
+            Mode::Paired => 1,
+        }
+    }
+}
+
 /// A table: its rules, numbered from 0, and the default if it has one.
 #[derive(Clone, Debug, Default, PartialEq, Eq)]
 pub struct Table {
@@ -211,6 +232,8 @@ pub struct Table {
     pub rules: Vec<Group>,
     /// The default group.
     pub default: Option<Group>,
+    /// Whether the default's record carries request \[8\]'s mark; false without one.
+    pub marked: bool,
 }
 
 impl Table {
@@ -246,10 +269,20 @@ impl Table {
         self.rules.iter().map(Group::length).max().unwrap_or(0)
     }
 
+    /// What happens where no rule fits.
+    pub fn mode(&self) -> Mode {
+        match (&self.default, self.marked) {
+            (None, _) => Mode::Absent,
+            (Some(_), false) => Mode::Single,
+            (Some(_), true) => Mode::Paired,
+        }
+    }
+
     /// E, the greatest number of output characters in a group, default
-    /// included.
+    /// included; under the mark at least 1.
     pub fn most_outputs(&self) -> usize {
-        self.groups().map(|g| g.outputs.len()).max().unwrap_or(0)
+        let counts = self.groups().map(|group| group.outputs.len());
+        counts.fold(self.mode().least_outputs(), usize::max)
     }
 
     /// Whether a group has a digit as output character.
@@ -265,7 +298,7 @@ impl Table {
             Record::Range { position, range } => self.add_range(position, range),
             Record::Output { constant } => self.add_sum(constant),
             Record::Term(term) => self.add_term(term),
-            Record::Default => self.add_default(),
+            Record::Default { marked } => self.add_default(marked),
             Record::Digit(digit) => self.add_digit(digit),
         }
     }
@@ -336,9 +369,10 @@ impl Table {
     }
 
     /// Kind 5: opens the default.
-    fn add_default(&mut self) -> Result<(), Refusal> {
+    fn add_default(&mut self, marked: bool) -> Result<(), Refusal> {
         self.check_new_group()?;
         self.default = Some(Group::default_group());
+        self.marked = marked;
         Ok(())
     }
 
@@ -410,8 +444,11 @@ pub enum Record {
     },
     /// Kind 4: a term of the output character before it.
     Term(Term),
-    /// Kind 5: the default.
-    Default,
+    /// Kind 5: the default, marked or not.
+    Default {
+        /// Whether it takes both units of a pair.
+        marked: bool,
+    },
     /// Kind 6: a digit as output character.
     Digit(Digit),
 }
@@ -437,7 +474,9 @@ impl Record {
                     coefficient: i16::from_le_bytes([c0, c1]),
                 }))
             }
-            [5, 0, 0, 0, 0, 0, 0, 0] => Ok(Record::Default),
+            [5, marked @ 0..=1, 0, 0, 0, 0, 0, 0] => Ok(Record::Default {
+                marked: marked == 1,
+            }),
             [6, position @ 0..=7, shift @ (0 | 4 | 8 | 12), 0, 0, 0, 0, 0] => {
                 Ok(Record::Digit(Digit {
                     position: usize::from(position),
@@ -482,7 +521,7 @@ impl Record {
                 let [c0, c1] = term.coefficient.to_le_bytes();
                 [4, term.position as u8, 0, 0, c0, c1, 0, 0]
             }
-            Record::Default => [5, 0, 0, 0, 0, 0, 0, 0],
+            Record::Default { marked } => [5, u8::from(marked), 0, 0, 0, 0, 0, 0],
             Record::Digit(digit) => [6, digit.position as u8, digit.shift as u8, 0, 0, 0, 0, 0],
         }
     }

@@ -89,9 +89,12 @@ impl Line {
         Ok(Line { pattern, outputs })
     }
 
-    /// The records before the output characters: kind 1 and its ranges, or kind 5.
+    /// The records before the output characters: kind 1 and its ranges, or kind 5,
+    /// which no text marks.
     fn opening(&self) -> Vec<Record> {
-        let pattern = self.pattern.as_ref();
-        pattern.map_or_else(|| vec![Record::Default], Pattern::records)
+        match &self.pattern {
+            Some(pattern) => pattern.records(),
+            None => vec![Record::Default { marked: false }],
+        }
     }
 }

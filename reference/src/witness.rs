@@ -5,7 +5,7 @@ use std::collections::{BTreeSet, HashSet};
 
 use crate::classes::starts_of;
 use crate::compile::compile;
-use crate::meaning::chosen_rule;
+use crate::meaning::{choose, Choice};
 use crate::refusal::Refusal;
 use crate::table::{Group, RuleNo, Table};
 
@@ -127,16 +127,11 @@ impl<'t> Search<'t> {
 /// stop.
 pub fn choices(table: &Table, input: &[u16]) -> Vec<RuleNo> {
     let (mut chosen, mut rest) = (Vec::new(), input);
-    while !rest.is_empty() {
-        let taken = match chosen_rule(table, rest) {
-            Some(rule) => {
-                chosen.push(rule);
-                table.rules[rule.index()].length()
-            }
-            None if table.default.is_some() => 1,
-            None => break,
-        };
-        rest = &rest[taken..];
+    while let Some(choice) = choose(table, rest).filter(|_| !rest.is_empty()) {
+        if let Choice::Rule(rule) = choice {
+            chosen.push(rule);
+        }
+        rest = &rest[table.taken(choice)..];
     }
     chosen
 }

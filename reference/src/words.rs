@@ -2,12 +2,13 @@
 
 use std::ops::RangeInclusive;
 
-use crate::automaton::{Automaton, Choice, TableAutomaton};
+use crate::automaton::{Automaton, TableAutomaton};
 use crate::classes::{class_of, ClassNo, MAX_CLASSES};
-use crate::meaning::digit;
+use crate::meaning::{digit, Choice};
+use crate::pairs::PAIR;
 use crate::refusal::Refusal;
 use crate::states::{State, StateNo, MAX_STATES};
-use crate::table::{Group, Output, RuleNo, MAX_LENGTH, MAX_OUTPUTS, MAX_RULES, SHIFTS};
+use crate::table::{Group, Mode, Output, RuleNo, MAX_LENGTH, MAX_OUTPUTS, MAX_RULES, SHIFTS};
 
 /// "Blocks become 83 words and the machine 19,961."
 pub const WORDS: usize = BLOCKS + (MAX_RULES + 1) * BLOCK;
@@ -40,8 +41,15 @@ const HEADER_LIMITS: [RangeInclusive<u16>; STARTS] = [
     1..=MAX_LENGTH as u16,
     0..=MAX_OUTPUTS as u16,
     1..=MAX_RULES as u16,
-    0..=1,
+    ABSENT..=PAIRED,
 ];
+
+/// Word 5 without a default.
+const ABSENT: u16 = 0;
+/// Word 5 with a default that takes one unit.
+const SINGLE: u16 = 1;
+/// "Header word 5 is 2 for this mode."
+const PAIRED: u16 = 2;
 
 /// Lays out a table's automaton in words; unused words are 0.
 pub fn lay_out(automaton: &TableAutomaton, words: &mut [u16; WORDS]) {
@@ -63,18 +71,22 @@ pub fn lay_out(automaton: &TableAutomaton, words: &mut [u16; WORDS]) {
     }
 }
 
-/// "0 states, 1 classes, 2 L, 3 E, 4 rules, 5 default (0 or 1)."
+/// "0 states, 1 classes, 2 L, 3 E, 4 rules, 5 default (0 or 1)", or 2.
 fn header(automaton: &TableAutomaton) -> [u16; STARTS] {
     let table = &automaton.table;
+    let mode = match table.mode() {
+        Mode::Absent => ABSENT,
+        Mode::Single => SINGLE,
+        Mode::Paired => PAIRED,
+    };
     [
-        automaton.states.list().len(),
-        automaton.classes.starts().len(),
-        table.longest(),
-        table.most_outputs(),
-        table.rules.len(),
-        usize::from(table.default.is_some()),
+        automaton.states.list().len() as u16,
+        automaton.classes.starts().len() as u16,
+        table.longest() as u16,
+        table.most_outputs() as u16,
+        table.rules.len() as u16,
+        mode,
     ]
-    .map(|count| count as u16)
 }
 
 /// "Three words a state (depth, end + 1, go + 1; 0 for none)" and its targets.
@@ -160,13 +172,19 @@ impl<'w> Words<'w> {
         self.0[4]
     }
 
-    /// K of a group; none of a rule or a default that the machine lacks.
+    /// How many characters a choice takes, K of a group; none of a rule or a default
+    /// that the machine lacks, nor of pairs without the mark.
     pub fn length(&self, choice: Choice) -> Option<u16> {
-        let has = match choice {
-            Choice::Rule(rule) => rule.0 < self.rules(),
-            Choice::Default => self.has_default(),
-        };
-        has.then(|| self.block(choice).length())
+        match choice {
+            Choice::Rule(rule) => (rule.0 < self.rules()).then(|| self.block(choice).length()),
+            Choice::Default => self.has_default().then(|| self.block(choice).length()),
+            Choice::Pair => (self.mode() == Mode::Paired).then_some(PAIR as u16),
+        }
+    }
+
+    /// "The default's block is looked at where word 5 is not 0."
+    fn has_default(&self) -> bool {
+        self.mode() != Mode::Absent
     }
 
     /// The depth of a state.
@@ -180,7 +198,7 @@ impl<'w> Words<'w> {
         (target != 0).then_some(StateNo(target))
     }
 
-    /// The block of a group.
+    /// The block of a group; a pair has none.
     fn block(&self, choice: Choice) -> Block<'w> {
         Block(&self.0[BLOCKS + BLOCK * choice.number()..][..BLOCK])
     }
@@ -194,10 +212,12 @@ impl<'w> Words<'w> {
             && (0..self.states()).all(|state| self.state_is_sound(StateNo(state)))
     }
 
-    /// "The header is within its limits."
+    /// "The header is within its limits." Under the mark "E is then at least 1, in sound
+    /// words too".
     fn header_is_within_limits(&self) -> bool {
         let mut limits = HEADER_LIMITS.iter().zip(self.0);
         limits.all(|(limits, word)| limits.contains(word))
+            && usize::from(self.most_outputs()) >= self.mode().least_outputs()
     }
 
     /// "The class starts begin at 0 and rise strictly."
@@ -282,12 +302,20 @@ impl Automaton for Words<'_> {
         self.class_target(state, class_of(self.starts(), character))
     }
 
-    fn has_default(&self) -> bool {
-        self.0[5] == 1
+    fn mode(&self) -> Mode {
+        match self.0[5] {
+            ABSENT => Mode::Absent,
+            SINGLE => Mode::Single,
+            // In sound words no other number than this one.
+            _ => Mode::Paired,
+        }
     }
 
     fn write(&self, choice: Choice, store: &[u16], text: &mut Vec<u16>) {
-        self.block(choice).write(store, text);
+        match choice {
+            Choice::Rule(_) | Choice::Default => self.block(choice).write(store, text),
+            Choice::Pair => text.extend(store),
+        }
     }
 }
 

@@ -7,14 +7,14 @@ use reference::automaton::{Automaton, TableAutomaton};
 use reference::builder::{characters, encode, TableBuilder};
 use reference::compile::compiled;
 use reference::machine::{Machine, Status, Step};
-use reference::meaning::{choose, convert, Ending};
+use reference::meaning::{choose, convert, Choice, Ending};
 use reference::random::Random;
 use reference::reckoning::{reckon, Call, Reckoning};
 use reference::refusal::Refusal;
-use reference::samples::{random_input, random_table, t1, t2};
+use reference::samples::{random_input, random_marked_table, random_table, t1, t2};
 use reference::session::{feed, finish, Answer, Session};
-use reference::table::{Group, Table};
-use reference::uses::{Uses, DEFAULT};
+use reference::table::Table;
+use reference::uses::{Uses, DEFAULT, PAIRS};
 use reference::words::Words;
 
 /// A table with its automaton and its machine words.
@@ -186,34 +186,39 @@ fn assert_consumed(subject: &Subject, played: &Played, reckoned: &Reckoning) {
     assert_eq!(session.held[..following.len()], *following);
 }
 
-/// The groups of a table, with the places of their counts.
-fn groups(table: &Table) -> impl Iterator<Item = (usize, &Group)> {
-    let default = table.default.iter().map(|group| (DEFAULT, group));
-    table.rules.iter().enumerate().chain(default)
+/// The places of the counts of a table's choices, with the characters that each takes.
+fn lengths(table: &Table) -> impl Iterator<Item = (usize, usize)> + '_ {
+    let rules = table.rules.iter().map(|rule| rule.length()).enumerate();
+    let default = table.default.iter().map(|_| (DEFAULT, 1));
+    let pairs = table.marked.then_some((PAIRS, 2));
+    rules.chain(default).chain(pairs)
 }
 
 /// "The sum over rules of count times K, plus the default's count, is the
-/// consumed total", and nothing else was used.
+/// consumed total", to which a pair adds 2, and nothing else was used.
 fn assert_uses(table: &Table, session: &Session) {
     let mut others = session.uses;
     let mut consumed = 0;
-    for (place, group) in groups(table) {
-        consumed += others.0[place] * group.length() as u64;
+    for (place, length) in lengths(table) {
+        consumed += others.0[place] * length as u64;
         others.0[place] = 0;
     }
     assert_eq!(consumed, session.received - u64::from(session.count));
     assert_eq!(others, Uses::NONE);
 }
 
-/// How often Definition 7 chooses each group, up to a place of an input.
+/// How often Definition 7 makes each choice, up to a place of an input.
 fn chosen(table: &Table, input: &[u16], end: usize) -> Uses {
     let (mut uses, mut place) = (Uses::NONE, 0);
     while place < end {
-        let chosen = choose(table, &input[place..]).expect("a choice before the end");
-        let mut groups = groups(table).filter(|(_, group)| std::ptr::eq(*group, chosen));
-        let (number, group) = groups.next().expect("a group of the table");
+        let (number, taken) = match choose(table, &input[place..]) {
+            Some(Choice::Rule(rule)) => (rule.index(), table.rules[rule.index()].length()),
+            Some(Choice::Default) => (DEFAULT, 1),
+            Some(Choice::Pair) => (PAIRS, 2),
+            None => panic!("no choice before the end"),
+        };
         uses.0[number] += 1;
-        place += group.length();
+        place += taken;
     }
     uses
 }
@@ -276,9 +281,19 @@ fn tally_list(tally: &mut Tally, subject: &Subject, played: &Played, reckoned: &
     tally.count("stopped by a finish", stopped && reckoned.ended);
     tally.count("stopped after text", stopped && session.produced > 0);
     let used = |uses: &[u64]| uses.iter().filter(|&&uses| uses > 0).count();
-    let (rules, default) = session.uses.0.split_at(DEFAULT);
+    let (rules, default) = (
+        &session.uses.0[..DEFAULT],
+        &session.uses.0[DEFAULT..=DEFAULT],
+    );
     tally.count("several rules used", used(rules) > 1);
     tally.count("default and rule used", used(rules) * used(default) > 0);
+    let pairs = session.uses.0[PAIRS] > 0;
+    tally.count("pairs and rule used", pairs && used(rules) > 0);
+    tally.count("pairs and default used", pairs && used(default) > 0);
+    tally.count(
+        "a first unit waits",
+        session.count > 0 && session.state == 0,
+    );
     for answer in &played.answers {
         tally.count("accepted", answer.is_ok());
         tally.count("accepted and written", answer.is_ok_and(|a| a.count > 0));
@@ -287,13 +302,14 @@ fn tally_list(tally: &mut Tally, subject: &Subject, played: &Played, reckoned: &
     }
     let mut machine = Machine::start(&subject.automaton, &reckoned.input, reckoned.ended);
     loop {
-        let (state, held) = (machine.state(), machine.store().len());
+        let state = machine.state();
         let Some(step) = machine.step() else { break };
         let accept = subject.automaton.accept(state);
         let at_end = subject.automaton.accept_at_end(state);
+        let depth = subject.automaton.states.get(state).depth;
         tally.count("steps", true);
         tally.count("roll-backs", step == Step::RollBack);
-        tally.count("deep roll-backs", step == Step::RollBack && held > 1);
+        tally.count("deep roll-backs", step == Step::RollBack && depth > 1);
         tally.count("emits", step == Step::Emit);
         let go_differs = step == Step::Emit && accept.is_some() && accept != at_end;
         tally.count("emits of a go that is not the end", go_differs);
@@ -302,22 +318,43 @@ fn tally_list(tally: &mut Tally, subject: &Subject, played: &Played, reckoned: &
     }
 }
 
-#[test]
-fn random_lists_of_calls_give_what_is_reckoned() {
-    let mut random = Random::new(2026);
+/// Plays random lists of calls of so many tables and asserts demand 3 of each.
+fn play_lists(seed: u64, tables: usize, table: impl Fn(&mut Random) -> Table) -> Tally {
+    let mut random = Random::new(seed);
     let mut tally = Tally::default();
-    let mut tables = 0;
-    while tables < 6000 {
-        let Some(subject) = Subject::of(random_table(&mut random)) else {
+    let mut played_tables = 0;
+    while played_tables < tables {
+        let Some(subject) = Subject::of(table(&mut random)) else {
             continue;
         };
-        tables += 1;
+        played_tables += 1;
         for _ in 0..6 {
             let played = play(&mut random, &subject);
             assert_demand_3(&mut random, &subject, &played, &mut tally);
         }
     }
-    tally.assert_above(&[
+    tally
+}
+
+/// Of the lists of marked tables, half have a table whose rules leave pairs to the
+/// default, and a third of them such an input; the guards are far below.
+#[test]
+fn random_lists_of_calls_under_marked_defaults_give_what_is_reckoned() {
+    play_lists(2028, 2000, random_marked_table).assert_above(&[
+        ("lists", 11_000),
+        ("open and holding", 2000),
+        ("a first unit waits", 300),
+        ("closed", 2000),
+        ("pairs and rule used", 2000),
+        ("pairs and default used", 2000),
+        ("refused by 15", 4000),
+        ("deep roll-backs", 2000),
+    ]);
+}
+
+#[test]
+fn random_lists_of_calls_give_what_is_reckoned() {
+    play_lists(2026, 6000, random_table).assert_above(&[
         ("lists", 30_000),
         ("open and holding", 5000),
         ("closed", 5000),
@@ -361,8 +398,12 @@ fn cuts(input: &[u16]) -> Vec<Vec<Vec<u16>>> {
 fn every_cut_of_short_inputs_gives_what_is_reckoned() {
     let mut random = Random::new(2027);
     let mut tally = Tally::default();
-    for _ in 0..150 {
-        let Some(subject) = Subject::of(random_table(&mut random)) else {
+    for number in 0..300 {
+        let table = match number % 2 {
+            0 => random_table(&mut random),
+            _ => random_marked_table(&mut random),
+        };
+        let Some(subject) = Subject::of(table) else {
             continue;
         };
         let most_outputs = subject.table().most_outputs() as u64;
@@ -379,7 +420,12 @@ fn every_cut_of_short_inputs_gives_what_is_reckoned() {
             assert_ne!(played.session.status, Status::Open);
         }
     }
-    tally.assert_above(&[("closed", 3000), ("stopped by a feed", 300)]);
+    tally.assert_above(&[
+        ("closed", 3000),
+        ("stopped by a feed", 300),
+        ("pairs and rule used", 300),
+        ("pairs and default used", 300),
+    ]);
 }
 
 /// A feed of a text with an output length.

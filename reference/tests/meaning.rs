@@ -4,11 +4,11 @@ use reference::builder::{characters, encode, hexadecimal, TableBuilder};
 use reference::direct::{self, Conversion};
 use reference::meaning::{convert, Ending};
 use reference::random::Random;
-use reference::samples::{lookahead, random_input, random_table};
+use reference::samples::{lookahead, random_input, random_marked_table, random_table};
 use reference::table::{Group, Output, Table};
 
-/// Definition 7 read a second time: lengths rising, then rule numbers, then the
-/// default.
+/// Definition 7 read a second time: lengths rising, then rule numbers, then under the
+/// mark a pair, which is a number from 65536 on as Rust decodes it, then the default.
 fn read_again(table: &Table, input: &[u16]) -> (Vec<u16>, usize, Ending) {
     let mut text = Vec::new();
     let mut place = 0;
@@ -24,6 +24,11 @@ fn read_again(table: &Table, input: &[u16]) -> (Vec<u16>, usize, Ending) {
                 }
             }
         }
+        if table.marked && is_pair(&input[place..]) {
+            text.extend_from_slice(&input[place..place + 2]);
+            place += 2;
+            continue;
+        }
         match &table.default {
             Some(default) => write(default, &input[place..place + 1], &mut text),
             None => return (text, place, Ending::Stopped),
@@ -31,6 +36,12 @@ fn read_again(table: &Table, input: &[u16]) -> (Vec<u16>, usize, Ending) {
         place += 1;
     }
     (text, place, Ending::Closed)
+}
+
+/// Whether the first character that a text encodes is of two units.
+fn is_pair(text: &[u16]) -> bool {
+    let first = char::decode_utf16(text.iter().copied()).next();
+    first.is_some_and(|decoded| decoded.is_ok_and(|decoded| decoded.len_utf16() == 2))
 }
 
 /// Whether the word has the rule's length and lies in its ranges.
@@ -63,15 +74,23 @@ fn write(group: &Group, word: &[u16], text: &mut Vec<u16>) {
 #[test]
 fn definition_7_agrees_with_a_second_reading_and_direct_conversion_with_both() {
     let mut random = Random::new(81);
-    let (mut closed, mut stopped_late, mut with_digits) = (0, 0, 0);
-    for _ in 0..4000 {
-        let table = random_table(&mut random);
+    let (mut closed, mut stopped_late, mut with_digits, mut with_pairs) = (0, 0, 0, 0);
+    for number in 0..8000 {
+        let table = match number % 2 {
+            0 => random_table(&mut random),
+            _ => random_marked_table(&mut random),
+        };
         let bytes = encode(&table);
         with_digits += usize::from(table.has_digits());
         for _ in 0..3 {
             let length = random.below(30);
             let input = random_input(&mut random, &table, length);
             let (text, place, ending) = read_again(&table, &input);
+            let unmarked = Table {
+                marked: false,
+                ..table.clone()
+            };
+            with_pairs += usize::from(read_again(&unmarked, &input).0 != text);
             let meaning = convert(&table, &input);
             assert_eq!(meaning.text, text);
             assert_eq!((meaning.place, meaning.ending), (place, ending));
@@ -94,6 +113,8 @@ fn definition_7_agrees_with_a_second_reading_and_direct_conversion_with_both() {
     assert!(closed > 2000, "{closed}");
     assert!(stopped_late > 500, "{stopped_late}");
     assert!(with_digits > 1000, "{with_digits}");
+    // The mark makes a difference, which a default that copies would not show.
+    assert!(with_pairs > 2000, "{with_pairs}");
 }
 
 /// The text that a table without faults gives.

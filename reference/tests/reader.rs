@@ -37,6 +37,7 @@ fn read_checked(bytes: &[u8], tally: &mut Tally) {
 fn keeps_the_rules(table: &Table) -> bool {
     (1..=32).contains(&table.rules.len())
         && table.rules.iter().all(rule_keeps_the_rules)
+        && (table.default.is_some() || !table.marked)
         && table.default.iter().all(|default| {
             default.positions == [[Range::ALL]]
                 && !default.anchored
@@ -118,6 +119,30 @@ fn records_of_kind_6_are_digits_or_refused_by_2() {
 }
 
 #[test]
+fn records_of_kind_5_are_marked_by_byte_1_or_refused_by_2() {
+    // [5, 0 or 1, and zeros]: nothing else.
+    for byte in 0..=u8::MAX {
+        let record = [5, byte, 0, 0, 0, 0, 0, 0];
+        let expected = match byte {
+            0 => Ok(Record::Default { marked: false }),
+            1 => Ok(Record::Default { marked: true }),
+            _ => Err(Refusal::Field),
+        };
+        assert_eq!(Record::decode(&record), expected);
+        if let Ok(default) = expected {
+            assert_eq!(default.encode(), record);
+        }
+    }
+    for place in 2..8 {
+        for byte in 1..=u8::MAX {
+            let mut record = [5, 1, 0, 0, 0, 0, 0, 0];
+            record[place] = byte;
+            assert_eq!(Record::decode(&record), Err(Refusal::Field));
+        }
+    }
+}
+
+#[test]
 fn random_bytes_are_answered() {
     let mut random = Random::new(72);
     let mut tally = Tally::new();
@@ -155,7 +180,9 @@ fn random_record(random: &mut Random) -> Record {
             coefficient: random.between(1, 300) as i16,
         }),
         8 => Record::Digit(random_digit(random, 3)),
-        _ => Record::Default,
+        _ => Record::Default {
+            marked: random.one_in(2),
+        },
     }
 }
 

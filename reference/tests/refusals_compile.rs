@@ -98,6 +98,9 @@ fn refusal_2_fields_outside_their_own_range() {
             _ => assert_eq!(answer, Err(Refusal::Field), "{shift}"),
         }
     }
+    for mark in 2..=u8::MAX {
+        assert_eq!(refused(&after_rule([5, mark, 0, 0, 0, 0, 0, 0])), 2);
+    }
     assert_eq!(refused(&after_rule([4, 0, 0, 0, 0, 0, 0, 0])), 2);
 }
 
@@ -108,7 +111,7 @@ fn refusal_2_bytes_that_must_be_zero() {
         (2, &[2, 3]),
         (3, &[1, 2, 3]),
         (4, &[2, 3, 6, 7]),
-        (5, &[1, 2, 3, 4, 5, 6, 7]),
+        (5, &[2, 3, 4, 5, 6, 7]),
         (6, &[3, 4, 5, 6, 7]),
     ];
     for (kind, places) in zeros {

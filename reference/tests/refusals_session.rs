@@ -11,11 +11,11 @@ use reference::lengths::MAX_RECEIVED;
 use reference::machine::Status;
 use reference::random::Random;
 use reference::refusal::Refusal;
-use reference::samples::{lookahead, random_input, random_table, t1, t2};
+use reference::samples::{lookahead, random_input, random_marked_table, random_table, t1, t2};
 use reference::session::{feed, finish, preview, Answer, Preview, Session};
 use reference::states::StateNo;
-use reference::table::Table;
-use reference::uses::{Uses, DEFAULT, GROUPS};
+use reference::table::{Mode, Table};
+use reference::uses::{Uses, COUNTS, DEFAULT, PAIRS};
 use reference::words::WORDS;
 
 const A: u16 = 97;
@@ -216,27 +216,34 @@ fn broken(automaton: &TableAutomaton, session: &Session) -> Vec<Clause> {
     broken.map(|(clause, _)| clause).collect()
 }
 
-/// "The sum over rules of count times K, plus the default's count."
+/// "The sum over rules of count times K, plus the default's count", and twice that of
+/// pairs.
 fn taken(table: &Table, uses: &Uses) -> i128 {
     let rules = table.rules.iter().zip(uses.0);
     let by_rules: i128 = rules
         .map(|(rule, uses)| rule.length() as i128 * i128::from(uses))
         .sum();
     let by_default = table.default.as_ref().map_or(0, |_| uses.0[DEFAULT]);
-    by_rules + i128::from(by_default)
+    let by_pairs = if table.marked { uses.0[PAIRS] } else { 0 };
+    by_rules + i128::from(by_default) + 2 * i128::from(by_pairs)
 }
 
-/// Whether the counts of rules or a default that the table lacks are 0.
+/// Whether the counts of rules or a default that the table lacks are 0, and without the
+/// mark that of pairs.
 fn lacks_uses(table: &Table, uses: &Uses) -> bool {
     uses.0[table.rules.len()..DEFAULT]
         .iter()
         .all(|&uses| uses == 0)
         && (table.default.is_some() || uses.0[DEFAULT] == 0)
+        && (table.marked || uses.0[PAIRS] == 0)
 }
 
 /// Whether characters lead from state 0 to a state by targets, none of which has
-/// a go that equals its end.
+/// a go that equals its end, or are one first unit that waits at state 0.
 fn leads(automaton: &TableAutomaton, characters: &[u16], state: u16) -> bool {
+    if let ([unit @ 0xD800..=0xDBFF], 0, true) = (characters, state, automaton.table.marked) {
+        return automaton.target(StateNo::START, *unit).is_none();
+    }
     let mut reached = StateNo::START;
     for &character in characters {
         match automaton.target(reached, character) {
@@ -506,17 +513,28 @@ fn sound_ended_sessions_are_at_state_0_with_nothing_held() {
 }
 
 /// A table of so many rules, the one of a number being `a` and then any
-/// characters, of length 1 to 8 in turn; with a default or without.
-fn of_all_lengths(count: usize, default: bool) -> Vec<u8> {
+/// characters, of length 1 to 8 in turn; without a default, with one, or with a marked
+/// one.
+fn of_all_lengths(count: usize, mode: Mode) -> Vec<u8> {
     let rule = |table: TableBuilder, number: usize| {
         let length = number % 8 + 1;
         let table = table.rule(length).spelled(0, "a");
         (1..length).fold(table, |table, position| table.range(position, 0, u16::MAX))
     };
     let table = (0..count).fold(TableBuilder::new(), rule);
-    match default {
-        true => table.copying_default().bytes(),
-        false => table.bytes(),
+    match mode {
+        Mode::Absent => table.bytes(),
+        Mode::Single => table.copying_default().bytes(),
+        Mode::Paired => table.marked_default().copy().bytes(),
+    }
+}
+
+/// How many characters one use takes, by the place of its count in these tables.
+fn weight(place: usize) -> u64 {
+    match place {
+        DEFAULT => 1,
+        PAIRS => 2,
+        rule => rule as u64 % 8 + 1,
     }
 }
 
@@ -530,15 +548,12 @@ fn consumed_840(uses: &[(usize, u64)]) -> Session {
     }
 }
 
-/// Each of the 33 counts weighs as much as its group's K, the default's 1.
+/// Each of the 34 counts weighs as much as its group's K, the default's 1, a pair's 2.
 #[test]
 fn sound_uses_add_up_to_the_characters_consumed() {
-    let table = of_all_lengths(32, true);
-    for place in 0..GROUPS {
-        let length = match place {
-            DEFAULT => 1,
-            rule => rule as u64 % 8 + 1,
-        };
+    let table = of_all_lengths(32, Mode::Paired);
+    for place in 0..COUNTS {
+        let length = weight(place);
         let all = 840 / length;
         let sound = consumed_840(&[(place, all)]);
         for uses in [0, 1, all - 1, all + 1, u64::MAX] {
@@ -558,18 +573,17 @@ fn sound_uses_add_up_to_the_characters_consumed() {
 }
 
 /// Uses that go over to another rule of the same K are not told apart; over to
-/// one of another K, or to the default, they are.
+/// one of another K they are, and so with the default and pairs.
 #[test]
 fn sound_uses_may_move_between_rules_of_one_length() {
-    let table = of_all_lengths(32, true);
+    let table = of_all_lengths(32, Mode::Paired);
     let words = compiled(&table).unwrap();
-    for (from, to) in pairs(&[0, 7, 12, 31], &(0..GROUPS).collect::<Vec<_>>()) {
-        let sound = consumed_840(&[(from, 840 / (from as u64 % 8 + 1))]);
+    for (from, to) in pairs(&[0, 1, 7, 12, 31, PAIRS], &(0..COUNTS).collect::<Vec<_>>()) {
+        let sound = consumed_840(&[(from, 840 / weight(from))]);
         let mut moved = sound;
         moved.uses.0[from] -= 1;
         moved.uses.0[to] += 1;
-        let lengths = [from, to].map(|place| if place == DEFAULT { 1 } else { place % 8 + 1 });
-        match lengths[0] == lengths[1] {
+        match weight(from) == weight(to) {
             true => assert!(is_sound(&words, moved), "{from} {to}"),
             false => assert_broken(Clause::Sum, &table, sound, moved),
         }
@@ -579,10 +593,13 @@ fn sound_uses_may_move_between_rules_of_one_length() {
 /// Each count that the machine lacks, with any number in it.
 #[test]
 fn sound_sessions_have_no_uses_of_what_the_machine_lacks() {
-    for (rules, default) in pairs(&[1, 2, 31, 32], &[true, false]) {
-        let table = of_all_lengths(rules, default);
+    let modes = [Mode::Absent, Mode::Single, Mode::Paired];
+    for (rules, mode) in pairs(&[1, 2, 31, 32], &modes) {
+        let table = of_all_lengths(rules, mode);
         let sound = consumed_840(&[(0, 840)]);
-        let lacking = (rules..DEFAULT).chain((!default).then_some(DEFAULT));
+        let default = (mode == Mode::Absent).then_some(DEFAULT);
+        let paired = (mode != Mode::Paired).then_some(PAIRS);
+        let lacking = (rules..DEFAULT).chain(default).chain(paired);
         for (place, uses) in pairs(&lacking.collect::<Vec<_>>(), &[1, 840, 1 << 61, u64::MAX]) {
             let changed = consumed_840(&[(0, 840), (place, uses)]);
             assert_broken(Clause::Lacking, &table, sound, changed);
@@ -593,8 +610,8 @@ fn sound_sessions_have_no_uses_of_what_the_machine_lacks() {
 /// Nor have they where the sum fits with them, one for each character.
 #[test]
 fn sound_sessions_have_no_uses_of_a_lacking_default_for_those_of_a_rule() {
-    let (with, without) = (of_all_lengths(31, true), of_all_lengths(31, false));
-    let [with, without] = [with, without].map(|table| compiled(&table).unwrap());
+    let modes = [Mode::Single, Mode::Absent];
+    let [with, without] = modes.map(|mode| compiled(&of_all_lengths(31, mode)).unwrap());
     for (rules, default) in [(0, 840), (1, 839), (839, 1)] {
         let session = consumed_840(&[(0, rules), (DEFAULT, default)]);
         assert!(is_sound(&with, session));
@@ -604,13 +621,27 @@ fn sound_sessions_have_no_uses_of_a_lacking_default_for_those_of_a_rule() {
     }
 }
 
+/// The same of pairs without the mark, two for each.
+#[test]
+fn sound_sessions_have_no_uses_of_pairs_without_the_mark() {
+    let modes = [Mode::Absent, Mode::Single, Mode::Paired];
+    let [absent, single, paired] = modes.map(|mode| compiled(&of_all_lengths(31, mode)).unwrap());
+    for (rules, pairs) in [(0, 420), (2, 419), (838, 1)] {
+        let session = consumed_840(&[(0, rules), (PAIRS, pairs)]);
+        assert!(is_sound(&paired, session));
+        assert!(!is_sound(&single, session));
+        assert!(!is_sound(&absent, session));
+    }
+}
+
 /// Sums that are right modulo 2^64 alone: 2^61 uses of K = 8 and 2^62 of K = 4 add
-/// 2^64 each, and so do 2^64 - 8 uses of K = 1 with one of K = 8.
+/// 2^64 each, and so do 2^64 - 8 uses of K = 1 with one of K = 8, and 2^63 pairs.
 #[test]
 fn sound_uses_do_not_wrap_around() {
-    let table = of_all_lengths(32, true);
+    let table = of_all_lengths(32, Mode::Paired);
     let sound = consumed_840(&[(0, 840)]);
-    let wrapping: [&[(usize, u64)]; 5] = [
+    let wrapping: [&[(usize, u64)]; 6] = [
+        &[(0, 840), (PAIRS, 1 << 63)],
         &[(0, 840), (7, 1 << 61)],
         &[(0, 840), (3, 1 << 62)],
         &[(0, 840), (7, 7 << 61)],
@@ -618,10 +649,9 @@ fn sound_uses_do_not_wrap_around() {
         &[(0, 840), (1, 1 << 63), (9, 1 << 63), (31, 1 << 61)],
     ];
     for uses in wrapping {
-        let terms = uses.iter().map(|&(place, uses)| match place {
-            DEFAULT => uses,
-            rule => uses.wrapping_mul(rule as u64 % 8 + 1),
-        });
+        let terms = uses
+            .iter()
+            .map(|&(place, uses)| uses.wrapping_mul(weight(place)));
         assert_eq!(terms.fold(0, u64::wrapping_add), 840);
         assert_broken(Clause::Sum, &table, sound, consumed_840(uses));
     }
@@ -681,8 +711,8 @@ fn damaged(random: &mut Random, session: &Session) -> Session {
         5 => damaged.produced = near(damaged.produced),
         6 => damaged.steps = near(damaged.steps),
         _ => {
-            let any = random.below(GROUPS);
-            let place = *random.pick(&[0, 1, any, DEFAULT]);
+            let any = random.below(COUNTS);
+            let place = *random.pick(&[0, 1, any, DEFAULT, PAIRS]);
             damaged.uses.0[place] = near(damaged.uses.0[place]);
         }
     }
@@ -697,8 +727,11 @@ fn damaged(random: &mut Random, session: &Session) -> Session {
 fn damaged_sessions_are_sound_or_refused_by_12() {
     let mut random = Random::new(45);
     let mut seen: BTreeMap<Vec<Clause>, usize> = BTreeMap::new();
-    for _ in 0..3000 {
-        let table = random_table(&mut random);
+    for number in 0..4000 {
+        let table = match number % 4 {
+            0 => random_marked_table(&mut random),
+            _ => random_table(&mut random),
+        };
         let Ok(words) = compiled(&encode(&table)) else {
             continue;
         };

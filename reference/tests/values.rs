@@ -202,6 +202,7 @@ fn rules_are_refused_by_7_exactly_when_a_fitting_word_leaves() {
         let table = Table {
             rules: rules.collect(),
             default: None,
+            marked: false,
         };
         refused += usize::from(assert_decided(&table));
     }
@@ -216,6 +217,7 @@ fn defaults_are_refused_by_7_exactly_when_a_character_leaves() {
         let table = Table {
             rules: vec![plain_rule()],
             default: Some(with_output(&mut random, Group::default_group())),
+            marked: random.one_in(2),
         };
         refused += usize::from(assert_decided(&table));
     }
@@ -243,6 +245,7 @@ fn digits_alone_are_never_refused_by_7() {
         let table = Table {
             rules: vec![rule],
             default: Some(default),
+            marked: false,
         };
         assert_eq!(Table::read(&encode(&table)), Ok(table));
     }
@@ -269,6 +272,7 @@ fn the_greatest_sums_do_not_overflow() {
             let table = Table {
                 rules: vec![rule],
                 default: None,
+                marked: false,
             };
             assert_eq!(Table::read(&encode(&table)), Err(Refusal::Value));
         }

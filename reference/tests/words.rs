@@ -1,10 +1,11 @@
 //! The machine words: the layout by hand, compiled words are sound and agree
 //! with the table, and each clause of "Sound words" is looked at.
 
-use reference::automaton::{Automaton, Choice, TableAutomaton};
+use reference::automaton::{Automaton, TableAutomaton};
 use reference::builder::{encode, TableBuilder};
 use reference::compile::compiled;
 use reference::machine::Status;
+use reference::meaning::Choice;
 use reference::random::Random;
 use reference::refusal::Refusal;
 use reference::samples::{
@@ -343,7 +344,7 @@ fn the_automaton_of_the_words_agrees_with_that_of_the_table() {
         let lent = compiled(&bytes).unwrap();
         let words = Words::sound(&lent).unwrap();
         assert_eq!(words.starts(), automaton.classes.starts());
-        assert_eq!(words.has_default(), automaton.has_default());
+        assert_eq!(words.mode(), automaton.mode());
         let starts = words.starts();
         let mut characters: Vec<u16> = starts.iter().map(|start| start.wrapping_sub(1)).collect();
         characters.extend(starts);
@@ -439,9 +440,36 @@ fn sound_rule_count_is_1_to_32() {
 }
 
 #[test]
-fn sound_default_is_0_or_1() {
-    assert_breaks(&[], (DEFAULT, 2));
-    assert_breaks(&[(DEFAULT, 0)], (DEFAULT, 65535));
+fn sound_default_is_0_to_2() {
+    for default in 0..=2 {
+        assert!(are_sound(&changed(by_hand(), &[(DEFAULT, default)])));
+        assert_breaks(&[(DEFAULT, default)], (DEFAULT, 3));
+        assert_breaks(&[(DEFAULT, default)], (DEFAULT, 65535));
+    }
+}
+
+#[test]
+fn sound_most_outputs_is_at_least_1_under_the_mark() {
+    // The words of the table by hand, no group of which writes anything.
+    let none = [0, 1, 2, 32].map(|block| (outputs(block), 0));
+    let none = changed(by_hand(), &none);
+    for most in 0..=8 {
+        let unmarked = changed(none.clone(), &[(MOST_OUTPUTS, most)]);
+        assert!(are_sound(&unmarked));
+        let marked = changed(unmarked, &[(DEFAULT, 2)]);
+        assert_eq!(are_sound(&marked), most > 0);
+    }
+}
+
+#[test]
+fn sound_default_is_looked_at_where_it_is_there() {
+    for breaking in [(length(32), 2), (anchored(32), 1), (sort(32, 0), 2)] {
+        let words = changed(by_hand(), &[breaking]);
+        for default in 0..=2 {
+            let sound = are_sound(&changed(words.clone(), &[(DEFAULT, default)]));
+            assert_eq!(sound, default == 0, "{breaking:?}");
+        }
+    }
 }
 
 #[test]
@@ -696,7 +724,7 @@ fn used(words: &[u16]) -> Vec<bool> {
     for state in 0..count(STATE_COUNT) {
         used[target(state, 0)..][..count(CLASS_COUNT)].fill(true);
     }
-    let default = (count(DEFAULT) == 1).then_some(32);
+    let default = (count(DEFAULT) != 0).then_some(32);
     for block in (0..count(RULE_COUNT)).chain(default) {
         used[length(block)..][..3].fill(true);
         for output in 0..count(outputs(block)) {
