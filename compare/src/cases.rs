@@ -6,6 +6,7 @@ use reference::meaning::choose;
 use reference::random::Random;
 use reference::samples::{
     digits_and_sums, four_digits, lookahead, random_input, random_table, t1, t2, t3, two_digits,
+    units,
 };
 use reference::table::{
     Digit, Group, Range, Record, Table, Term, MAX_LENGTH, MAX_OUTPUTS, MAX_RANGES, MAX_RULES,
@@ -131,6 +132,7 @@ pub fn first_ranges(table: &Table, count: usize) -> Table {
     Table {
         rules: rules.take_while(|rule| rule.length() > 0).collect(),
         default: None,
+        marked: false,
     }
 }
 
@@ -156,9 +158,11 @@ fn near_limits(random: &mut Random) -> Table {
             }
         })
         .collect();
+    let default = random.one_in(2).then(Group::default_group);
     Table {
         rules,
-        default: random.one_in(2).then(Group::default_group),
+        marked: default.is_some() && random.one_in(2),
+        default,
     }
 }
 
@@ -184,9 +188,9 @@ fn damaged(random: &mut Random, base: &Table) -> Vec<u8> {
     table
 }
 
-/// The example tables: those of document 01, one with every sort of state, and
-/// those with digits.
-pub fn examples() -> [Vec<u8>; 7] {
+/// The example tables: those of document 01, one with every sort of state, those with
+/// digits, and one with a marked default.
+pub fn examples() -> [Vec<u8>; 8] {
     [
         t1(),
         t2(),
@@ -195,6 +199,7 @@ pub fn examples() -> [Vec<u8>; 7] {
         two_digits(),
         four_digits(),
         digits_and_sums(),
+        units(),
     ]
 }
 
@@ -222,11 +227,11 @@ pub fn room(random: &mut Random, needed: usize) -> usize {
 /// Whether Definition 7 chooses a group of a sort on an input.
 pub fn chooses(table: &Table, input: &[u16], sort: impl Fn(&Group) -> bool) -> bool {
     let mut place = 0;
-    while let Some(group) = choose(table, &input[place..]).filter(|_| place < input.len()) {
-        if sort(group) {
+    while let Some(choice) = choose(table, &input[place..]).filter(|_| place < input.len()) {
+        if table.group(choice).is_some_and(&sort) {
             return true;
         }
-        place += group.length();
+        place += table.taken(choice);
     }
     false
 }
@@ -309,8 +314,7 @@ fn change_field(random: &mut Random, table: &mut Vec<u8>) {
     }
 }
 
-/// The record with another field; a rule of length 1 for the default, which has
-/// none.
+/// The record with another field; for the default also a rule of length 1.
 fn changed(random: &mut Random, record: Record) -> Record {
     let first = random.one_in(3);
     match record {
@@ -339,10 +343,11 @@ fn changed(random: &mut Random, record: Record) -> Record {
             ]),
         },
         Record::Term(term) => Record::Term(changed_term(random, term)),
-        Record::Default => Record::Rule {
+        Record::Default { .. } if first => Record::Rule {
             length: 1,
             anchored: false,
         },
+        Record::Default { marked } => Record::Default { marked: !marked },
         Record::Digit(digit) => Record::Digit(changed_digit(random, digit)),
     }
 }
@@ -425,7 +430,7 @@ fn crowd(random: &mut Random, table: &mut Vec<u8>) {
             outputs(random, records[place], MAX_OUTPUTS + more)
         }
         Record::Rule { .. } => small_rules(MAX_RULES + more),
-        Record::Term(_) | Record::Default => return,
+        Record::Term(_) | Record::Default { .. } => return,
     };
     records.splice(place..=place, added);
     *table = encode_records(&records);

@@ -202,7 +202,7 @@ pub fn damaged_session(
     damaged
 }
 
-/// Lets the uses of the last group, the default if there is one, follow the
+/// Lets the uses of the last group, pairs or the default if there are any, follow the
 /// characters received, which are brought to a multiple of its K more or less; but
 /// for numbers that no uses come to.
 fn follow(words: &[u16], session: &Session, damaged: &mut Session) {

@@ -3,7 +3,7 @@
 
 pub use cobbletwill::raw::{
     check, compile, convert, feed, finish, from_text, is_sound, preview, witness, Input, DEAD,
-    INPUT_SIZE, OK, OPEN, STOPPED, TABLE_SIZE, USES_DEFAULT, USES_SIZE,
+    INPUT_SIZE, OK, OPEN, STOPPED, TABLE_SIZE, USES_DEFAULT, USES_PAIRS, USES_SIZE,
 };
 pub use cobbletwill::{Session, Tally};
 use reference::direct::Conversion;

@@ -1,13 +1,14 @@
 //! The rollback machine written for speed in safe Rust, to time the library
 //! beside. It works over the machine words of a table, out of which it prepares
-//! a class for each of the 65,536 characters, whether it begins no pattern, and
-//! for each state and class what to do there. It tests words once, when it is
+//! a class for each of the 65,536 characters, whether it begins a pattern or a pair,
+//! and for each state and class what to do there. It tests words once, when it is
 //! made, and trusts its sessions, whose counts of uses it changes in place.
 
+use reference::pairs::{begins_with_pair, is_first_unit};
 use reference::refusal::Refusal;
 use reference::words::Words;
 
-use crate::face::{Session, USES_DEFAULT, USES_SIZE};
+use crate::face::{Session, USES_DEFAULT, USES_PAIRS, USES_SIZE};
 
 /// Characters of the piece that are looked at beside those held: more than the 8
 /// that a round may read and the one after them.
@@ -25,6 +26,17 @@ enum Action {
     Settle(u8),
     /// Write a rule, which is the state's go, and leave the character unread.
     Accept(u8),
+}
+
+/// What a character may begin.
+#[derive(Clone, Copy, PartialEq, Eq)]
+enum Sort {
+    /// A pattern.
+    Pattern,
+    /// No pattern, but under the mark a pair.
+    Pair,
+    /// Neither: it is the default's, alone.
+    Plain,
 }
 
 /// The hexadecimal digits.
@@ -57,11 +69,12 @@ enum DefaultOutput {
 pub struct Fast {
     most_outputs: usize,
     classes: Box<[u8; 1 << 16]>,
-    plain: Box<[bool; 1 << 16]>,
+    sorts: Box<[Sort; 1 << 16]>,
     actions: Box<[Action; 256 * 64]>,
     ends: Vec<Option<u8>>,
     rules: Vec<Vec<Output>>,
     default: Option<DefaultOutput>,
+    marked: bool,
 }
 
 /// Where a run stands: the store is the text from `from` on and below `at`.
@@ -89,22 +102,30 @@ impl Fast {
             }
         }
         let mut classes = Box::new([0; 1 << 16]);
-        let mut plain = Box::new([false; 1 << 16]);
         for (class, &start) in (0..).zip(starts) {
             classes[usize::from(start)..].fill(class);
-            let leads_nowhere = matches!(actions[usize::from(class)], Action::Back);
-            plain[usize::from(start)..].fill(leads_nowhere);
+        }
+        let marked = words[5] == 2;
+        let mut sorts = Box::new([Sort::Plain; 1 << 16]);
+        for (character, sort) in (0..=u16::MAX).zip(&mut sorts[..]) {
+            let class = classes[usize::from(character)];
+            if !matches!(actions[usize::from(class)], Action::Back) {
+                *sort = Sort::Pattern;
+            } else if marked && is_first_unit(character) {
+                *sort = Sort::Pair;
+            }
         }
         Ok(Fast {
             most_outputs: usize::from(words[3]),
             classes,
-            plain,
+            sorts,
             actions,
             ends: (0..states)
                 .map(|state| named(words[71 + 3 * state]))
                 .collect(),
             rules: (0..rules).map(|rule| outputs(words, rule)).collect(),
-            default: (words[5] == 1).then(|| default(outputs(words, 32))),
+            default: (words[5] != 0).then(|| default(outputs(words, 32))),
+            marked,
         })
     }
 
@@ -119,14 +140,14 @@ impl Fast {
         let text = joined(&mut head, &session.held[..held], piece);
         let mut place = start(session);
         let uses = &mut session.uses;
-        self.run(text, held, &mut place, uses, output);
+        self.run(text, held, false, &mut place, uses, output);
         // A round from a held character sees no further than the head; so where
         // one is left, the piece has ended.
         let (text, gone) = if place.from < held || place.status != 0 {
             (text, place.from)
         } else {
             (place.from, place.at) = (place.from - held, place.at - held);
-            self.run(piece, piece.len(), &mut place, uses, output);
+            self.run(piece, piece.len(), false, &mut place, uses, output);
             (piece, held + place.from)
         };
         leave(session, piece.len(), gone, text, &place)
@@ -144,7 +165,7 @@ impl Fast {
         let mut place = start(session);
         let uses = &mut session.uses;
         while place.status == 0 {
-            self.run(text, held, &mut place, uses, output);
+            self.run(text, held, true, &mut place, uses, output);
             if place.status == 0 {
                 self.end(text, &mut place, uses, output);
             }
@@ -163,12 +184,13 @@ impl Fast {
         held
     }
 
-    /// Runs until the text is read, the store begins at a place or beyond, or the
-    /// machine stops.
+    /// Runs until the text is read, the store begins at a place or beyond, a first unit
+    /// waits or the machine stops.
     fn run(
         &self,
         text: &[u16],
         until: usize,
+        ended: bool,
         place: &mut Place,
         uses: &mut [u64; USES_SIZE],
         output: &mut [u16],
@@ -184,6 +206,10 @@ impl Fast {
                     self.emit(rule, text, &mut now, uses, output);
                 }
                 Some(Action::Accept(rule)) => self.emit(rule, text, &mut now, uses, output),
+                Some(Action::Back) if !ended && self.waits(text, &now) => {
+                    now.at = now.from + 1;
+                    break;
+                }
                 Some(Action::Back) => self.back(text, &mut now, uses, output),
                 Some(Action::Read(_)) | None => break,
             }
@@ -213,7 +239,7 @@ impl Fast {
         };
         let mut count = 0;
         for (&character, place) in text.iter().zip(&mut output[now.count..]) {
-            if !self.plain[usize::from(character)] {
+            if self.sorts[usize::from(character)] != Sort::Plain {
                 break;
             }
             *place = coefficient.wrapping_mul(character).wrapping_add(constant);
@@ -280,11 +306,21 @@ impl Fast {
         now.state = 0;
     }
 
-    /// Gives the store back and writes the default's output, or stops.
+    /// Whether a first unit has nothing behind it, before the input's end: nothing was
+    /// read then, since what led nowhere is behind what was.
+    #[inline(always)]
+    fn waits(&self, text: &[u16], now: &Place) -> bool {
+        self.marked && now.from + 1 == text.len() && is_first_unit(text[now.from])
+    }
+
+    /// Gives the store back and writes pairs or the default's output, or stops.
     #[inline(always)]
     fn back(&self, text: &[u16], now: &mut Place, uses: &mut [u64; USES_SIZE], output: &mut [u16]) {
         let reads = (now.at - now.from) as u64;
-        if let Some(default) = &self.default {
+        if self.marked && begins_with_pair(&text[now.from..]) {
+            now.steps = now.steps.wrapping_add(reads);
+            self.copy_pairs(text, now, uses, output);
+        } else if let Some(default) = &self.default {
             let store = &text[now.from..=now.from];
             let room = &mut output[now.count..];
             now.count += match default {
@@ -307,16 +343,48 @@ impl Fast {
         now.at = now.from;
         now.state = 0;
     }
+
+    /// Copies the pair at the place, and those behind it whose first units begin no
+    /// pattern.
+    #[inline(always)]
+    fn copy_pairs(
+        &self,
+        text: &[u16],
+        now: &mut Place,
+        uses: &mut [u64; USES_SIZE],
+        output: &mut [u16],
+    ) {
+        let pairs = text[now.from..].chunks_exact(2);
+        let mut count = 0;
+        for (pair, place) in pairs.zip(output[now.count..].chunks_exact_mut(2)) {
+            let begins_no_pattern = self.sorts[usize::from(pair[0])] == Sort::Pair;
+            if count > 0 && !(begins_no_pattern && begins_with_pair(pair)) {
+                break;
+            }
+            place.copy_from_slice(pair);
+            count += 1;
+        }
+        now.from += 2 * count;
+        now.count += 2 * count;
+        now.steps = now.steps.wrapping_add(4 * count as u64);
+        uses[USES_PAIRS] += count as u64;
+    }
 }
 
-/// Where a run of a session starts, the held characters standing first.
+/// Where a run of a session starts, the held characters standing first. The one at state
+/// 0 is a first unit that waits, and is to be looked at again.
 fn start(session: &Session) -> Place {
+    let read = if session.state == 0 {
+        0
+    } else {
+        session.held_count
+    };
     Place {
         state: 64 * session.state,
         from: 0,
-        at: usize::from(session.held_count),
+        at: usize::from(read),
         count: 0,
-        // The held characters were read before.
+        // The held characters were read before, or the one given back.
         steps: 0u64.wrapping_sub(u64::from(session.held_count)),
         status: 0,
     }

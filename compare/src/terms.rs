@@ -151,7 +151,7 @@ fn sums(records: &[Record]) -> Vec<Place> {
             Record::Rule {
                 length: of_rule, ..
             } => length = *of_rule,
-            Record::Default => length = 1,
+            Record::Default { .. } => length = 1,
             Record::Output { .. } => {
                 let behind = records[at + 1..].iter();
                 let terms = behind.take_while(|record| matches!(record, Record::Term(_)));
@@ -159,7 +159,10 @@ fn sums(records: &[Record]) -> Vec<Place> {
                     at,
                     terms: terms.count(),
                     length,
-                    is_first: matches!(records[at - 1], Record::Range { .. } | Record::Default),
+                    is_first: matches!(
+                        records[at - 1],
+                        Record::Range { .. } | Record::Default { .. }
+                    ),
                 });
             }
             _ => (),

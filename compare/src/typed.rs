@@ -25,7 +25,7 @@ pub struct Text {
 pub fn texts(seed: u64) -> impl Iterator<Item = Text> {
     let mut random = Random::new(seed);
     std::iter::repeat_with(move || {
-        let mut table = without_digits(random_table(&mut random));
+        let mut table = typable(random_table(&mut random));
         if !random.one_in(8) {
             table.rules.truncate(2);
         }
@@ -41,8 +41,10 @@ pub fn texts(seed: u64) -> impl Iterator<Item = Text> {
     })
 }
 
-/// The table without its digits, so that its records are of the kinds 1 to 5.
-pub fn without_digits(mut table: Table) -> Table {
+/// The table without what no typed text gives: its digits, so that its records are of
+/// the kinds 1 to 5, and the default's mark.
+pub fn typable(mut table: Table) -> Table {
+    table.marked = false;
     let groups = table.rules.iter_mut().chain(&mut table.default);
     for group in groups {
         let outputs = &mut group.outputs;
@@ -117,7 +119,7 @@ enum Typed {
     Any,
 }
 
-/// The lines of a table without digits.
+/// The lines of a table without digits and mark.
 fn lines(table: &Table) -> Vec<Line> {
     let rules = table.rules.iter().map(|rule| {
         let pattern = Pattern {

@@ -6,11 +6,11 @@ use reference::random::Random;
 use reference::table::{Table, MAX_LENGTH, MAX_RULES};
 
 use crate::cases::rules_apart;
-use crate::face::{Session, USES_DEFAULT};
+use crate::face::{Session, USES_DEFAULT, USES_PAIRS};
 
 /// The tables that a seed gives, without end: every second has 32 rules, the
-/// others 1 to 32, of lengths 1 to 8, and every second has a default. Each group
-/// writes the first character that it took.
+/// others 1 to 32, of lengths 1 to 8; two of three have a default, every second of
+/// them a marked one. Each group writes the first character that it took.
 pub fn tables(seed: u64) -> impl Iterator<Item = Table> {
     let mut random = Random::new(seed);
     std::iter::repeat_with(move || {
@@ -19,26 +19,28 @@ pub fn tables(seed: u64) -> impl Iterator<Item = Table> {
             _ => random.below(MAX_RULES) + 1,
         };
         let lengths: Vec<usize> = (0..rules).map(|_| random.below(MAX_LENGTH) + 1).collect();
-        let copied = |table: TableBuilder| table.output(0).term(0, 1);
-        let table = rules_apart(lengths.into_iter().zip(0..), copied);
-        let table = match random.below(2) {
+        let table = rules_apart(lengths.into_iter().zip(0..), TableBuilder::copy);
+        let table = match random.below(3) {
             0 => table.copying_default(),
+            1 => table.marked_default().copy(),
             _ => table,
         };
         Table::read(&table.bytes()).expect("the table is accepted")
     })
 }
 
-/// The groups that sound words have: the place of each one's count, and its K.
+/// The groups that sound words have: the place of each one's count, and its K. Under
+/// the mark, pairs count as one of K = 2.
 pub fn groups(words: &[u16]) -> Vec<(usize, u64)> {
     let rules = 0..usize::from(words[4]);
     let rules = rules.map(|rule| (rule, u64::from(words[17222 + 83 * rule])));
-    rules
-        .chain((words[5] == 1).then_some((USES_DEFAULT, 1)))
-        .collect()
+    let default = (words[5] != 0).then_some((USES_DEFAULT, 1));
+    let pairs = (words[5] == 2).then_some((USES_PAIRS, 2));
+    rules.chain(default).chain(pairs).collect()
 }
 
-/// "The sum over rules of count times K, plus the default's count", exactly.
+/// "The sum over rules of count times K, plus the default's count", to which "a pair adds
+/// 2", exactly.
 pub fn taken(words: &[u16], session: &Session) -> u128 {
     let groups = groups(words).into_iter();
     groups
@@ -47,7 +49,7 @@ pub fn taken(words: &[u16], session: &Session) -> u128 {
 }
 
 /// A sound session that has received more, for which it used every group once or
-/// more; it is sound too. The uses of 33 groups stay within the most characters.
+/// more; it is sound too. The uses of 34 groups stay within the most characters.
 pub fn used_more(random: &mut Random, words: &[u16], session: &Session) -> Session {
     let mut used = *session;
     for (place, length) in groups(words) {
@@ -70,7 +72,7 @@ pub enum Damage {
     MovedAlike,
     /// Uses that go over to a group of another K.
     MovedUnlike,
-    /// Uses of a rule or a default that the machine lacks.
+    /// Uses of a rule or a default that the machine lacks, or of pairs.
     Lacking,
     /// Uses that go over to a rule or a default that the machine lacks, one for each
     /// of their characters.

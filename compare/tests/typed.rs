@@ -8,7 +8,7 @@ use compare::both::from_text;
 use compare::cases::tables;
 use compare::face::{OK, TABLE_SIZE};
 use compare::terms::by_position;
-use compare::typed::{damaged, longest_text, texts, without_digits, MARKS};
+use compare::typed::{damaged, longest_text, texts, typable, MARKS};
 use reference::builder::{characters, encode};
 use reference::random::Random;
 use reference::table::Table;
@@ -191,7 +191,7 @@ fn accepted_tables() -> impl Iterator<Item = Table> {
 #[test]
 fn tables_written_as_text_are_read_back() {
     let mut texts = Vec::new();
-    for table in accepted_tables().map(without_digits).take(TABLES) {
+    for table in accepted_tables().map(typable).take(TABLES) {
         let table = encode(&table);
         let text = typed::text(&table).expect("accepted");
         assert_eq!(from_text(&text, table.len()), (OK, by_position(&table)));

@@ -122,6 +122,24 @@ pub fn digits_and_sums() -> Vec<u8> {
         .bytes()
 }
 
+/// Units of pairs: `ab` writes 1, the first unit 55297 before `b` writes 2; the marked
+/// default writes 65535 less the character. Of the first units, 55297 has a target of
+/// state 0.
+pub fn units() -> Vec<u8> {
+    TableBuilder::new()
+        .rule(2)
+        .spelled(0, "ab")
+        .text("1")
+        .rule(2)
+        .range(0, 55297, 55297)
+        .spelled(1, "b")
+        .text("2")
+        .marked_default()
+        .output(65535)
+        .term(0, -1)
+        .bytes()
+}
+
 /// The table with one more rule: `a` writes nothing.
 pub fn rule_a(table: TableBuilder) -> TableBuilder {
     table.rule(1).spelled(0, "a")
