@@ -13,6 +13,7 @@
 //! - [`lists`]: lists of calls by both, beside the reckoning
 //! - [`damage`]: damaged machine words and sessions
 //! - [`orders`]: words whose states are numbered in another order
+//! - [`pairs`]: tables with marked defaults over units of pairs
 //! - [`uses`]: sessions with uses of many rules, and damage to their counts
 //! - [`fast`]: the rollback machine written for speed
 //! - `flex`: T1's rules as a scanner that flex generates (feature `flex`)
@@ -36,6 +37,7 @@ pub mod fast;
 pub mod flex;
 pub mod lists;
 pub mod orders;
+pub mod pairs;
 pub mod rivals;
 pub mod terms;
 pub mod typed;

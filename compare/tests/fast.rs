@@ -10,7 +10,7 @@ use reference::compile::compiled;
 use reference::random::Random;
 use reference::reckoning::Call;
 use reference::refusal::Refusal;
-use reference::samples::random_input;
+use reference::samples::{random_input, random_marked_table};
 use reference::table::Table;
 use reference::words::WORDS;
 
@@ -42,24 +42,42 @@ fn compare(random: &mut Random, words: &[u16], mut input: &[u16]) -> u32 {
     session.status
 }
 
-#[test]
-fn random_tables() {
-    let mut random = Random::new(SEED + 1);
+/// Compares tables, those that compile, each over an input; answers how many closed and
+/// how many stopped.
+fn compare_tables(random: &mut Random, tables: impl Iterator<Item = Table>) -> (usize, usize) {
     let (mut closed, mut stopped) = (0, 0);
-    for table in sound_tables(SEED).take(TABLES) {
+    for table in tables {
         let Ok(words) = compiled(&encode(&table)) else {
             continue;
         };
         let length = random.below(200);
-        let input = random_input(&mut random, &table, length);
-        match compare(&mut random, &words, &input) {
+        let input = random_input(random, &table, length);
+        match compare(random, &words, &input) {
             1 => closed += 1,
             _ => stopped += 1,
         }
     }
+    (closed, stopped)
+}
+
+#[test]
+fn random_tables() {
+    let mut random = Random::new(SEED + 1);
+    let (closed, stopped) = compare_tables(&mut random, sound_tables(SEED).take(TABLES));
     // A third of the tables has no default and stops on most inputs.
     assert!(closed >= TABLES / 3, "{closed}");
     assert!(stopped >= TABLES / 10, "{stopped}");
+}
+
+/// Nearly all of them compile, and none stops.
+#[test]
+fn marked_tables() {
+    let mut random = Random::new(SEED + 3);
+    let mut of_tables = Random::new(SEED + 4);
+    let tables = std::iter::repeat_with(|| random_marked_table(&mut of_tables));
+    let (closed, stopped) = compare_tables(&mut random, tables.take(TABLES));
+    assert!(closed >= TABLES / 2, "{closed}");
+    assert_eq!(stopped, 0);
 }
 
 #[test]

@@ -1,10 +1,10 @@
 //! Counts of uses against the independent version: lists of calls from sound
-//! sessions that have used every rule, and damage to each of the 33 counts.
+//! sessions that have used every rule, and damage to each of the 34 counts.
 
 use std::collections::BTreeMap;
 
 use compare::calls::{compare, random_call, roomy_feed, Left, ROOMY_FINISH};
-use compare::face::{compile, Session, OK, OPEN, STOPPED, USES_DEFAULT, USES_SIZE};
+use compare::face::{compile, Session, OK, OPEN, STOPPED, USES_DEFAULT, USES_PAIRS, USES_SIZE};
 use compare::lists::{assert_used, Called, Compiled};
 use compare::uses::{tables, taken, used_more, Damage};
 use reference::builder::{characters, TableBuilder};
@@ -29,7 +29,8 @@ fn session(random: &mut Random, machine: &Compiled) -> Session {
 /// list's 4 calls in the mean, sessions that have ended and short buffers leave
 /// one accepted feed or more, of 9 characters: two words, each of one rule in 32.
 /// Every second machine has all rules. So the last of them is used LISTS / 32
-/// times; the guard is a third of that or less.
+/// times, and pairs, which every third machine and a third of its words have, more
+/// often; the guard is a third of that or less.
 #[test]
 fn lists_of_calls_from_sound_sessions() {
     let mut random = Random::new(SEED + 1);
@@ -56,7 +57,7 @@ fn lists_of_calls_from_sound_sessions() {
     );
 }
 
-/// Every count of the 33 with every way to damage it.
+/// Every count of the 34 with every way to damage it.
 fn damages() -> impl Iterator<Item = (Damage, usize)> {
     (0..USES_SIZE).flat_map(|place| Damage::ALL.map(|damage| (damage, place)))
 }
@@ -88,10 +89,10 @@ fn damaged_counts() {
     }
 }
 
-/// Every machine has a group or lacks it, for each of the 33 counts. Half of the
-/// machines have all 32 rules, of the others one in 32 has each number of them, and
-/// half have a default. So a group is there at least every second time, and rule p
-/// is lacking p times in 64. Of 32 rules there is nearly always one of the same K
+/// Every machine has a group or lacks it, for each of the 34 counts. Half of the
+/// machines have all 32 rules, of the others one in 32 has each number of them; a third
+/// has no default, another a marked one, which has pairs too. So a group is there at
+/// least every third time, and rule p is lacking p times in 64. Of 32 rules there is nearly always one of the same K
 /// as another, or as the default, and half have an even K. The guards are a third
 /// of that or less.
 fn assert_each_way(made: &BTreeMap<(Damage, usize), usize>) {
@@ -99,7 +100,7 @@ fn assert_each_way(made: &BTreeMap<(Damage, usize), usize>) {
     for (damage, place) in damages() {
         let least = match (damage, place) {
             (Damage::More | Damage::Less, _) => MACHINES - times(Damage::Lacking, place),
-            (Damage::Lacking | Damage::MovedToLacking, USES_DEFAULT) => MACHINES / 6,
+            (Damage::Lacking | Damage::MovedToLacking, USES_DEFAULT | USES_PAIRS) => MACHINES / 9,
             (Damage::Lacking | Damage::MovedToLacking, rule) => rule * MACHINES / 192,
             (Damage::Wrapping, USES_DEFAULT) => 0,
             _ => MACHINES / 12,
