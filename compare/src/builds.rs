@@ -129,6 +129,8 @@ pub static BEFORE: Build = Build {
 // are those of a slice, sessions and inputs have the header's layout, and what is written
 // is borrowed for the call alone. Of a session that is lent in two parts a function
 // touches but the part before the counts, and the counts by their own pointer.
+// A build from before request [8] has one count less, and so leaves the last, that of
+// pairs, as it is.
 impl Build {
     /// Direct conversion.
     #[inline]

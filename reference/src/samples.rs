@@ -15,6 +15,16 @@ pub fn t1() -> Vec<u8> {
 
 /// T1 with another constant for -528.
 pub fn t1_with(constant: i32) -> Vec<u8> {
+    t1_rules(constant).copying_default().bytes()
+}
+
+/// T1 with a marked default.
+pub fn t1_marked() -> Vec<u8> {
+    t1_rules(-528).marked_default().copy().bytes()
+}
+
+/// The rules of T1, with a constant.
+fn t1_rules(constant: i32) -> TableBuilder {
     let (zero, nine) = (u16::from(b'0'), u16::from(b'9'));
     TableBuilder::new()
         .rule(5)
@@ -31,8 +41,6 @@ pub fn t1_with(constant: i32) -> Vec<u8> {
         .anchored(2)
         .spelled(0, "&#")
         .text("&#")
-        .copying_default()
-        .bytes()
 }
 
 /// T2: anchored `a` writes X, `a` writes Y, no default.

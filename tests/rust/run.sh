@@ -30,7 +30,7 @@ while read -r package least; do
     packages=$((packages + 1))
 done << 'END'
 reference 184
-compare 91
+compare 106
 rust 51
 tools 61
 END

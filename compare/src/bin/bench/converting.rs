@@ -6,7 +6,7 @@ use std::time::Duration;
 use compare::face::conversion;
 use reference::direct::{self, Conversion};
 
-use crate::inputs::{inputs, Input, FILL, LENGTH};
+use crate::inputs::{inputs, Input, DESCRIPTION, FILL, LENGTH};
 use crate::tables::Table;
 use crate::timing::{best, nanoseconds, worked};
 use crate::versions::Version;
@@ -19,14 +19,15 @@ pub fn print() {
     println!("## Direct conversion");
     println!();
     println!(
-        "In nanoseconds a character, {LENGTH} characters under T1, and bytes as two digits, best of {RUNS} runs. All write into one \
+        "In nanoseconds a character, {LENGTH} characters {DESCRIPTION}, best of {RUNS} runs. All write into one \
          buffer of E × {LENGTH} characters, which is filled before each run, outside the time, and not cleared within it. The library \
          writes its text there at once; the independent version gathers it in a list that grows, and copies that."
     );
     println!();
     let table = Table::new(&["input"], &["independent"], &[], 2);
     for input in inputs() {
-        table.print_row(&[input.name], &nanoseconds(&times(&input), LENGTH), &[]);
+        let times = nanoseconds(&times(&input), LENGTH);
+        input.print_row(&table, &[input.name], &times);
     }
 }
 
@@ -35,7 +36,9 @@ fn times(input: &Input) -> Vec<Duration> {
     let mut output = vec![FILL; input.most_outputs() * LENGTH];
     let answer = convert(Version::Independent, input, &mut output);
     let text = output.clone();
-    best(RUNS, &Version::ALL, |version| {
+    let builds = input.builds().into_iter().map(Version::Library);
+    let versions: Vec<Version> = builds.chain([Version::Independent]).collect();
+    best(RUNS, &versions, |version| {
         output.fill(FILL);
         let (other, time) = worked(|| convert(version, black_box(input), &mut output));
         assert_eq!(other, answer, "{}", version.name());

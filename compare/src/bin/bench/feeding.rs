@@ -10,10 +10,9 @@ use compare::fast::Fast;
 use compare::flex::{scan, Tables};
 use reference::compile::compiled;
 
-use crate::inputs::{inputs, Input, FILL, LENGTH};
+use crate::inputs::{inputs, Input, DESCRIPTION, FILL, LENGTH};
 use crate::tables::Table;
 use crate::timing::{best, nanoseconds, worked};
-use crate::versions::BUILDS;
 
 /// The lengths of pieces, each with the runs of which the best counts.
 const PIECES: [(usize, usize); 2] = [(1 << 16, 100), (16, 25)];
@@ -37,7 +36,7 @@ struct Fed {
     time: Duration,
 }
 
-/// An input, also in bytes, the machine of its table, and a buffer for all of its
+/// An input, for scanners also in bytes, the machine of its table, and a buffer for all of its
 /// output.
 struct Feeding {
     input: Input,
@@ -52,7 +51,7 @@ pub fn print() {
     println!("## Feed and finish");
     println!();
     println!(
-        "In nanoseconds a character, {LENGTH} characters under T1, and bytes as two digits. Pieces of 65,536 characters, best of {} \
+        "In nanoseconds a character, {LENGTH} characters {DESCRIPTION}. Pieces of 65,536 characters, best of {} \
          runs, and of 16, best of {}. All write into one buffer of E × ({LENGTH} + 8) characters, which is filled before each run, \
          outside the time.",
         PIECES[0].1, PIECES[1].1
@@ -63,7 +62,8 @@ pub fn print() {
         for input in inputs() {
             let mut feeding = Feeding::of(input);
             let times = nanoseconds(&feeding.times(piece, runs), LENGTH);
-            table.print_row(&[feeding.input.name, &piece.to_string()], &times, &[]);
+            let subject = [feeding.input.name, &piece.to_string()];
+            feeding.input.print_row(&table, &subject, &times);
         }
     }
 }
@@ -73,8 +73,9 @@ impl Feeding {
     fn of(input: Input) -> Feeding {
         let words = compiled(&input.table).expect("the tables compile");
         let byte = |&character: &u16| u8::try_from(character).expect("characters of one byte");
+        let scanned = if input.scanned { &input.text[..] } else { &[] };
         Feeding {
-            bytes: input.text.iter().map(byte).collect(),
+            bytes: scanned.iter().map(byte).collect(),
             fast: Fast::new(&words).expect("compiled words are sound"),
             words,
             output: vec![FILL; input.most_outputs() * (LENGTH + 8)],
@@ -87,8 +88,8 @@ impl Feeding {
     fn times(&mut self, piece: usize, runs: usize) -> Vec<Duration> {
         let expected = self.run(By::Rust, piece);
         let text = self.output[..expected.written].to_vec();
-        let [before, now] = BUILDS.map(By::Library);
-        let mut contenders = vec![before, now, By::Rust];
+        let builds = self.input.builds().into_iter();
+        let mut contenders: Vec<By> = builds.map(By::Library).chain([By::Rust]).collect();
         if self.input.scanned {
             contenders.extend([Tables::Usual, Tables::Fastest].map(By::Flex));
         }

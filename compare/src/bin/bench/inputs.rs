@@ -1,9 +1,16 @@
-//! The inputs, characters of one byte each, with the tables for them.
+//! The inputs, with the tables for them. The characters are of one byte each, but for
+//! those of two units under a marked default.
 
+use compare::builds::Build;
+use compare::face::OK;
 use reference::builder::characters;
 use reference::random::Random;
-use reference::samples::{t1, two_digits};
-use reference::table::Table;
+use reference::samples::{t1, t1_marked, two_digits};
+use reference::table;
+use reference::words::WORDS;
+
+use crate::tables::Table;
+use crate::versions::BUILDS;
 
 /// Characters of an input.
 pub const LENGTH: usize = 1 << 20;
@@ -34,17 +41,45 @@ impl Input {
         }
     }
 
+    /// An input under T1 with a marked default.
+    fn of_marked_t1(name: &'static str, text: Vec<u16>) -> Input {
+        Input {
+            name,
+            table: t1_marked(),
+            text,
+            scanned: false,
+        }
+    }
+
     /// E of the table.
     pub fn most_outputs(&self) -> usize {
-        let table = Table::read(&self.table).expect("the tables are accepted");
+        let table = table::Table::read(&self.table).expect("the tables are accepted");
         table.most_outputs()
+    }
+
+    /// The builds that know the table, that of before first.
+    pub fn builds(&self) -> Vec<&'static Build> {
+        let compiles = |build: &&Build| build.compile(&self.table, &mut vec![0; WORDS]) == OK;
+        BUILDS.into_iter().filter(compiles).collect()
+    }
+
+    /// Prints the times of these builds and of rivals.
+    pub fn print_row(&self, table: &Table, subject: &[&str], times: &[f64]) {
+        if self.builds().len() == BUILDS.len() {
+            table.print_row(subject, times, &[]);
+        } else {
+            table.print_new_row(subject, times);
+        }
     }
 }
 
+/// What the inputs are, for the words before a table of times.
+pub const DESCRIPTION: &str = "under T1, marked or not, and bytes as two digits";
+
 /// The inputs.
-pub fn inputs() -> [Input; 5] {
+pub fn inputs() -> [Input; 8] {
     [
-        Input::of_t1("plain text", repeated("The water stands at 214 cm. ")),
+        Input::of_t1("plain text", repeated(PLAIN)),
         Input::of_t1("`&#38;` repeated", repeated("&#38;")),
         Input::of_t1("`&#4` repeated", repeated("&#4")),
         Input::of_t1("a mix", mixed()),
@@ -54,7 +89,35 @@ pub fn inputs() -> [Input; 5] {
             text: bytes(),
             scanned: false,
         },
+        Input::of_marked_t1("plain text, marked", repeated(PLAIN)),
+        Input::of_marked_t1("pairs, marked", pairs()),
+        Input::of_marked_t1(
+            "a mix with pairs, marked",
+            mix_of(&[&PARTS[..], &WAVES].concat()),
+        ),
     ]
+}
+
+/// Text in which no pattern begins.
+const PLAIN: &str = "The water stands at 214 cm. ";
+
+/// Words, matches and beginnings of matches.
+const PARTS: [&str; 8] = [
+    "The ", "water ", "214 cm. ", "&#38;", "&#00;", "&#4", "&#", "&",
+];
+
+/// Characters of two units, alone and in a row.
+const WAVES: [&str; 3] = ["🌊", "🌊🌍", "🌡🌧🌊🌬"];
+
+/// Characters of two units of every value from a fixed seed.
+fn pairs() -> Vec<u16> {
+    let mut random = Random::new(3);
+    let any = || char::from_u32(random.between(0x10000, 0x10FFFF) as u32);
+    let text: String = std::iter::repeat_with(any)
+        .flatten()
+        .take(LENGTH / 2)
+        .collect();
+    characters(&text)
 }
 
 /// Bytes of every value from a fixed seed.
@@ -70,13 +133,15 @@ fn repeated(text: &str) -> Vec<u16> {
 
 /// Words, matches and beginnings of matches in an order from a fixed seed.
 pub fn mixed() -> Vec<u16> {
-    let parts = [
-        "The ", "water ", "214 cm. ", "&#38;", "&#00;", "&#4", "&#", "&",
-    ];
+    mix_of(&PARTS)
+}
+
+/// Parts in an order from a fixed seed.
+fn mix_of(parts: &[&str]) -> Vec<u16> {
     let mut random = Random::new(1);
     let mut input = Vec::new();
     while input.len() < LENGTH {
-        input.extend(characters(random.pick::<&str>(&parts)));
+        input.extend(characters(random.pick::<&str>(parts)));
     }
     input.truncate(LENGTH);
     input

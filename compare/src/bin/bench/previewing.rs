@@ -4,11 +4,11 @@
 use std::hint::black_box;
 use std::time::Duration;
 
-use compare::builds::{Build, BEFORE, NOW};
+use compare::builds::{Build, NOW};
 use compare::face::{Session, OPEN};
 use reference::compile::compiled;
 
-use crate::inputs::{inputs, Input, FILL, LENGTH};
+use crate::inputs::{inputs, Input, DESCRIPTION, FILL, LENGTH};
 use crate::tables::Table;
 use crate::timing::{best, nanoseconds, worked};
 
@@ -29,8 +29,7 @@ pub fn print() {
     println!("## Previews");
     println!();
     println!(
-        "Previews beside the feeds of the same pieces, in nanoseconds a character, {LENGTH} characters under T1, and bytes as two \
-         digits. Pieces of 65,536 characters, best of {} runs, and of 16, best of {}. \"Feed\" is that of now.",
+        "Previews beside the feeds of the same pieces, in nanoseconds a character, {LENGTH} characters {DESCRIPTION}. Pieces of 65,536 characters, best of {} runs, and of 16, best of {}. \"Feed\" is that of now.",
         PIECES[0].1, PIECES[1].1
     );
     println!();
@@ -38,7 +37,7 @@ pub fn print() {
     for (piece, runs) in PIECES {
         for input in inputs() {
             let times = nanoseconds(&times(&input, piece, runs), LENGTH);
-            table.print_row(&[input.name, &piece.to_string()], &times, &[]);
+            input.print_row(&table, &[input.name, &piece.to_string()], &times);
         }
     }
 }
@@ -48,11 +47,8 @@ fn times(input: &Input, piece: usize, runs: usize) -> Vec<Duration> {
     let words = compiled(&input.table).expect("the tables compile");
     let mut output = vec![FILL; input.most_outputs() * (piece + 8)];
     let expected = feeds(&NOW, &words, &input.text, piece, &mut output);
-    let calls = [
-        Call::Preview(&BEFORE),
-        Call::Preview(&NOW),
-        Call::Feed(&NOW),
-    ];
+    let previews_by = input.builds().into_iter().map(Call::Preview);
+    let calls: Vec<Call> = previews_by.chain([Call::Feed(&NOW)]).collect();
     best(runs, &calls, |call| {
         let (left, time) = worked(|| match call {
             Call::Preview(build) => previews(build, &words, &input.text, piece),

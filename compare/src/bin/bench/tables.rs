@@ -29,17 +29,35 @@ impl Table {
     /// Prints a row. The times are those of before, of now and of the rivals; a rival
     /// behind the last of them gets a dash.
     pub fn print_row(&self, subject: &[&str], times: &[f64], further: &[f64]) {
-        let (before, now) = (times[0], times[1]);
+        self.print(subject, Some(times[0]), &times[1..], further);
+    }
+
+    /// Prints a row of what the build before can't do: dashes, and the times of now and
+    /// of the rivals.
+    pub fn print_new_row(&self, subject: &[&str], times: &[f64]) {
+        self.print(subject, None, times, &[]);
+    }
+
+    /// Prints a row, by the time of before, if there is any, and those of now and of the
+    /// rivals.
+    fn print(&self, subject: &[&str], before: Option<f64>, times: &[f64], further: &[f64]) {
+        let now = times[0];
+        let [before, ratio_to_before] = self.beside(now, before);
         let mut cells = owned(subject);
-        cells.extend([self.time(before), self.time(now), ratio(now, before)]);
-        for rival in 0..self.rivals {
-            cells.extend(match times.get(2 + rival) {
-                Some(&time) => [self.time(time), ratio(now, time)],
-                None => ["-", "-"].map(str::to_string),
-            });
+        cells.extend([before, self.time(now), ratio_to_before]);
+        for rival in 1..=self.rivals {
+            cells.extend(self.beside(now, times.get(rival).copied()));
         }
         cells.extend(further.iter().map(|number| format!("{number:.2}")));
         print_cells(&cells);
+    }
+
+    /// Another time and the ratio of now to it, or two dashes for none.
+    fn beside(&self, now: f64, other: Option<f64>) -> [String; 2] {
+        match other {
+            Some(time) => [self.time(time), ratio(now, time)],
+            None => ["-", "-"].map(str::to_string),
+        }
     }
 
     /// A time as it is printed.

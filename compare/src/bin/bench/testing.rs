@@ -112,7 +112,7 @@ fn for_each_part(words: &[u16], mut visit: impl FnMut(&[u16])) {
     for state in 0..states {
         visit(&words[838 + 64 * state..][..classes]);
     }
-    let default = (words[5] == 1).then_some(32);
+    let default = (words[5] != 0).then_some(32);
     for block in (0..rules).chain(default) {
         let block = &words[17222 + 83 * block..][..83];
         let [length, outputs] = [block[0], block[2]].map(usize::from);
