@@ -17,7 +17,6 @@ use reference::meaning::Choice;
 use reference::pairs::{begins_with_pair, is_first_unit};
 use reference::random::Random;
 use reference::samples::{random_input, units};
-use reference::table::Table;
 use reference::words::WORDS;
 
 /// The seed of the random tables.
@@ -332,15 +331,8 @@ fn the_same_tables_without_the_mark() {
     let mut random = Random::new(SEED + 17);
     let mut open = 0;
     for mut table in marked_tables(SEED).take(BASES) {
+        let input = random_input(&mut random, &table, 40);
         table.marked = false;
-        let input = random_input(
-            &mut random,
-            &Table {
-                marked: true,
-                ..table.clone()
-            },
-            40,
-        );
         let Some(machine) = Compiled::of(table) else {
             continue;
         };

@@ -38,6 +38,14 @@ fn read_again(table: &Table, input: &[u16]) -> (Vec<u16>, usize, Ending) {
     (text, place, Ending::Closed)
 }
 
+/// The table without the mark.
+fn unmarked(table: &Table) -> Table {
+    Table {
+        marked: false,
+        ..table.clone()
+    }
+}
+
 /// Whether the first character that a text encodes is of two units.
 fn is_pair(text: &[u16]) -> bool {
     let first = char::decode_utf16(text.iter().copied()).next();
@@ -86,11 +94,7 @@ fn definition_7_agrees_with_a_second_reading_and_direct_conversion_with_both() {
             let length = random.below(30);
             let input = random_input(&mut random, &table, length);
             let (text, place, ending) = read_again(&table, &input);
-            let unmarked = Table {
-                marked: false,
-                ..table.clone()
-            };
-            with_pairs += usize::from(read_again(&unmarked, &input).0 != text);
+            with_pairs += usize::from(read_again(&unmarked(&table), &input).0 != text);
             let meaning = convert(&table, &input);
             assert_eq!(meaning.text, text);
             assert_eq!((meaning.place, meaning.ending), (place, ending));

@@ -389,47 +389,51 @@ fn the_pairs_of_definition_7_are_those_of_utf_16() {
     assert_eq!(choose(&marked, &[A, B]), Some(Choice::Rule(RuleNo(0))));
 }
 
-/// "E is then at least 1": in the table, header word 3 and the lengths of refusal 15.
+/// `a` writes nothing, and neither does the default, marked or not.
+fn silent() -> [Vec<u8>; 2] {
+    let rule = || TableBuilder::new().rule(1).spelled(0, "a");
+    [rule().marked_default(), rule().default_group()].map(|table| table.bytes())
+}
+
+/// "E is then at least 1", in the table and in header word 3; word 5 tells the mode.
 #[test]
 fn e_is_at_least_1_under_the_mark() {
-    let rule = || TableBuilder::new().rule(1).spelled(0, "a");
-    let marked = rule().marked_default().bytes();
-    let single = rule().default_group().bytes();
-    for (bytes, mode, most) in [(&marked, Mode::Paired, 1), (&single, Mode::Single, 0)] {
+    let expected = [(Mode::Paired, 1, 2), (Mode::Single, 0, 1)];
+    for (bytes, (mode, most, word)) in silent().iter().zip(expected) {
         let table = Table::read(bytes).unwrap();
         assert_eq!(table.mode(), mode);
         assert_eq!(table.default, Some(Group::default_group()));
         assert_eq!(table.most_outputs(), most);
         let words = compiled(bytes).unwrap();
-        assert_eq!(usize::from(words[3]), most);
+        assert_eq!((words[3], words[5]), (most as u16, word));
     }
-    assert_eq!(
-        [compiled(&marked).unwrap()[5], compiled(&single).unwrap()[5]],
-        [2, 1]
-    );
-    let pair = [HIGH, LOW];
-    let short = Err(Refusal::ShortOutput);
+}
+
+/// So 15 asks for a place a unit, though no group writes anything but a pair.
+#[test]
+fn refusal_15_asks_for_both_units() {
+    let [marked, single] = silent();
     let mut output = [0; 2];
-    let place = |answer: Result<direct::Conversion, Refusal>| answer.map(|end| end.place);
-    assert_eq!(
-        place(direct::convert(&marked, &pair, &mut output[..1])),
-        short.map(|()| 0)
-    );
-    assert_eq!(place(direct::convert(&marked, &pair, &mut output)), Ok(2));
-    assert_eq!(output, pair);
-    assert_eq!(place(direct::convert(&single, &pair, &mut [])), Ok(2));
+    let mut convert = |table: &[u8], room: usize| {
+        let converted = direct::convert(table, &[HIGH, LOW], &mut output[..room]);
+        converted.map(|conversion| (conversion.place, conversion.count))
+    };
+    assert_eq!(convert(&marked, 1), Err(Refusal::ShortOutput));
+    assert_eq!(convert(&single, 0), Ok((2, 0)));
+    assert_eq!(convert(&marked, 2), Ok((2, 2)));
+    assert_eq!(output, [HIGH, LOW]);
 
     let words = compiled(&marked).unwrap();
     let mut session = Session::FRESH;
     let count = |answer: Result<Answer, Refusal>| answer.map(|answer| answer.count);
     let none = feed(&words, &mut session, &[HIGH], &mut []);
-    assert_eq!(count(none), short.map(|()| 0));
+    assert_eq!(count(none), Err(Refusal::ShortOutput));
     assert_eq!(count(feed(&words, &mut session, &[HIGH], &mut [0])), Ok(0));
-    let one = feed(&words, &mut session, &[LOW], &mut output[..1]);
-    assert_eq!(count(one), short.map(|()| 0));
-    // A finish asks for the held unit, though the default writes nothing.
+    let one = feed(&words, &mut session, &[LOW], &mut [0]);
+    assert_eq!(count(one), Err(Refusal::ShortOutput));
+    // A finish asks for the held unit.
     let none = finish(&words, &mut session, &mut []);
-    assert_eq!(count(none), short.map(|()| 0));
+    assert_eq!(count(none), Err(Refusal::ShortOutput));
     assert_eq!(count(finish(&words, &mut session, &mut [0])), Ok(0));
 }
 
@@ -445,58 +449,59 @@ fn waiting(held: &[u16]) -> Session {
     }
 }
 
+/// Whether a session is sound under a table's words.
+fn is_sound(table: &[u8], session: Session) -> bool {
+    let words = compiled(table).unwrap();
+    let words = Words::sound(&words).unwrap();
+    session.sound_held(&words).is_ok()
+}
+
 /// "A sound session allows it where the mark is set, the unit is a first unit and state
 /// 0 has no target for it."
 #[test]
 fn sound_sessions_with_a_waiting_unit() {
-    let sound = |table: &[u8], session: Session| {
-        let words = compiled(table).unwrap();
-        let words = Words::sound(&words).unwrap();
-        session.sound_held(&words).is_ok()
-    };
     let marked = table();
     for unit in [HIGH, HIGH + 1, LAST_HIGH] {
-        assert!(sound(&marked, waiting(&[unit])));
+        assert!(is_sound(&marked, waiting(&[unit])));
     }
     for other in [0, A, B, HIGH - 1, LOW, LAST_LOW, LAST_LOW + 1, u16::MAX] {
-        assert!(!sound(&marked, waiting(&[other])), "{other:x}");
+        assert!(!is_sound(&marked, waiting(&[other])), "{other:x}");
     }
-    assert!(!sound(&marked, waiting(&[HIGH, LOW])));
-    assert!(!sound(&marked, waiting(&[HIGH, HIGH])));
-    // At most one step for it: steps are "at most (L + 3) times consumed plus held".
-    let steps = |steps| Session {
-        steps,
-        ..waiting(&[HIGH])
-    };
-    assert!(sound(&marked, steps(1)));
-    assert!(!sound(&marked, steps(2)));
-    // At another state, and in a session that has ended.
-    let state = Session {
+    assert!(!is_sound(&marked, waiting(&[HIGH, LOW])));
+    assert!(!is_sound(&marked, waiting(&[HIGH, HIGH])));
+    // With a target for it, which is state 1, it is held there and nowhere else.
+    let target = with_rule(|table| table.rule(2).range(0, HIGH, HIGH).spelled(1, "b"));
+    assert!(!is_sound(&target, waiting(&[HIGH])));
+    assert!(is_sound(&target, waiting(&[HIGH + 1])));
+    let at_target = Session {
         state: 1,
         ..waiting(&[HIGH])
     };
-    assert!(!sound(&marked, state));
+    assert!(is_sound(&target, at_target));
+    assert!(!is_sound(&marked, at_target));
+    // Without the mark.
+    let rule = TableBuilder::new().rule(2).spelled(0, "ab").text("!");
+    assert!(!is_sound(&rule.bytes(), waiting(&[HIGH])));
+    let single = rule.default_group().text("!");
+    assert!(!is_sound(&single.bytes(), waiting(&[HIGH])));
+}
+
+/// Steps are "at most (L + 3) times consumed plus held": one for the unit, its back. No
+/// unit waits in a session that has ended.
+#[test]
+fn sound_sessions_with_a_waiting_unit_are_open_and_count_its_back() {
+    for (steps, sound) in [(0, true), (1, true), (2, false)] {
+        let session = Session {
+            steps,
+            ..waiting(&[HIGH])
+        };
+        assert_eq!(is_sound(&table(), session), sound, "{steps}");
+    }
     for status in [Status::Closed, Status::Stopped] {
         let ended = Session {
             status,
             ..waiting(&[HIGH])
         };
-        assert!(!sound(&marked, ended));
+        assert!(!is_sound(&table(), ended));
     }
-    // With a target for it, which is state 1, it is held there and nowhere else.
-    let target = with_rule(|table| table.rule(2).range(0, HIGH, HIGH).spelled(1, "b"));
-    assert!(!sound(&target, waiting(&[HIGH])));
-    assert!(sound(&target, waiting(&[HIGH + 1])));
-    let at_target = Session {
-        state: 1,
-        ..waiting(&[HIGH])
-    };
-    assert!(sound(&target, at_target));
-    // Without the mark.
-    let single = TableBuilder::new().rule(2).spelled(0, "ab").text("!");
-    assert!(!sound(&single.bytes(), waiting(&[HIGH])));
-    assert!(!sound(
-        &single.default_group().text("!").bytes(),
-        waiting(&[HIGH])
-    ));
 }
