@@ -36,8 +36,8 @@ struct Fed {
     time: Duration,
 }
 
-/// An input, for scanners also in bytes, the machine of its table, and a buffer for all of its
-/// output.
+/// An input, for scanners also in bytes, the machine of its table, and a buffer for all
+/// of its output.
 struct Feeding {
     input: Input,
     bytes: Vec<u8>,
