@@ -18,20 +18,19 @@ use words::read::class_count;
 use words::read::class_of;
 use words::read::class_start;
 use words::read::default_mode;
-use words::read::default_word;
 use words::read::entry_value;
 use words::read::group_outputs;
 use words::read::settled;
 use words::read::target;
 use words::read::write_rule;
-ghost use mathlib.Core.Bool.{cond, _&&_, _||_};
+ghost use mathlib.Core.Bool.{cond};
 ghost use mathlib.Core.List.{_++_};
 ghost use mathlib.Core.Logic.{_≢_};
 ghost use mathlib.Core.Path.{_≡_};
 ghost use Prim.Native.Nat.{_+_, _-_, _≤_, _<_};
-ghost use lib.Dec.{T, eqb, ltb};
+ghost use lib.Dec.{T, eqb};
 ghost use lib.ListN.{length, getD, take, drop, replicate};
-ghost use Rattle.meaning.specs.Table.{Paired};
+ghost use Rattle.meaning.specs.Table.{Single, Paired};
 ghost use Rattle.meaning.specs.Block.{at, blockOutput};
 ghost use Rattle.meaning.specs.Direct.{over};
 ghost use Rattle.automaton.specs.Layout.{wordCount, classesFrom};
@@ -40,8 +39,9 @@ ghost use Rattle.reckoning.specs.Machine.{fall};
 ghost use Rattle.session.specs.Keeping.{meantStatus};
 ghost use Rattle.automaton.specs.Classes.{classOf};
 ghost use Rattle.words.specs.bridge.Readings.{wordOf};
+ghost use Rattle.rules.specs.bridge.Modes.{theMode};
 ghost use Rattle.session.specs.bridge.Counting.{Counted};
-ghost use Rattle.session.specs.bridge.Running.{put, firstOf, Classed, ClassEnds, Painted, SomewherePlaced, ReadsOn, lent, PassesByDefaults, Moves, MovesAt, Takes, LeavesUnit, lessSteps, fallOf, Emit, Back, Between, Halted, Waits, Stands, acceptNow, Fits, Placed, Advances, Beyond, Runnable, RunsTo};
+ghost use Rattle.session.specs.bridge.Running.{put, begunAt, firstOf, Classed, ClassEnds, Painted, SomewherePlaced, ReadsOn, lent, Passes, PassesByDefaults, Moves, MovesAt, Takes, LeavesUnit, lessSteps, fallOf, Emit, Back, Between, Halted, Waits, Stands, acceptNow, Fits, Placed, Advances, Beyond, Runnable, RunsTo};
 
 // A run: the store is the text from `from` on and below `at`; whether it is done, and how.
 pub struct Ran {
@@ -98,6 +98,22 @@ fn between(place: usize, count: usize, steps: u64) -> Ran
         at: place,
         count,
         steps,
+    }
+}
+
+// The run has begun a word: it read the character at `place`, which leads to the state.
+fn begun(state: StateNo, place: usize, count: usize, steps: u64) -> Ran
+    requires { ⌜ (place < 18446744073709551615) × (steps < 18446744073709551615) ⌝ }
+    ensures { λ r. ⌜ r ≡ begunAt state place count steps ⌝ }
+{
+    Ran {
+        done: false,
+        status: Status::Open,
+        state,
+        from: place,
+        at: place + 1,
+        count,
+        steps: steps + 1,
     }
 }
 
@@ -275,7 +291,8 @@ fn emit_default(
     write_default(words, text, place, output, count)
 }
 
-// Between two words the default is emitted for each character that has no target, in the part of the text where the run is.
+// Between two words the default is emitted for each character that has no target, in the part of the text where the run is. A character that has
+// one is read, so that its target is looked up once.
 fn emit_defaults<'a>(
     words: &[u16],
     classes: &[u16],
@@ -284,7 +301,7 @@ fn emit_defaults<'a>(
     run: Ran,
     output: &mut [u16],
 ) -> Ran
-    requires { ⌜ T (sound (now words)) × Classed (now words) (now classes) × (at (now words) 5 ≡ 1) ⌝ }
+    requires { ⌜ T (sound (now words)) × Classed (now words) (now classes) × (modeAt (now words) ≡ Single) ⌝ }
     requires { ⌜ Placed (now words) (now given ++ now piece) (length (now output)) run × (run .from ≡ run .at) ⌝ }
     ensures { λ r. ⌜ PassesByDefaults (now (words .entry)) (now (given .entry) ++ now (piece .entry)) run (now (output .entry)) r (now (output .exit)) ⌝ }
     ensures { λ r. ⌜ Beyond run (now (output .entry)) r (now (output .exit)) ⌝ }
@@ -296,9 +313,42 @@ fn emit_defaults<'a>(
     let mut read: usize = 0;
     while read < part.len() {
         let class = class_between(words, classes, part[read]);
-        let Next::Nowhere = target(words, StateNo(0), class) else {
+        if let Next::To(state) = target(words, StateNo(0), class) {
+            return begun(state, from + read, count, steps + 3 * read as u64);
+        }
+        count = emit_default(words, part, read, output, count);
+        read += 1;
+    }
+    between(from + read, count, steps + 3 * read as u64)
+}
+
+// The same under the mark, up to a first unit, which may be one of a pair.
+fn emit_singles<'a>(
+    words: &[u16],
+    classes: &[u16],
+    given: &'a [u16],
+    piece: &'a [u16],
+    run: Ran,
+    output: &mut [u16],
+) -> Ran
+    requires { ⌜ T (sound (now words)) × Classed (now words) (now classes) × (modeAt (now words) ≡ Paired) ⌝ }
+    requires { ⌜ Placed (now words) (now given ++ now piece) (length (now output)) run × (run .from ≡ run .at) ⌝ }
+    ensures { λ r. ⌜ PassesByDefaults (now (words .entry)) (now (given .entry) ++ now (piece .entry)) run (now (output .entry)) r (now (output .exit)) ⌝ }
+    ensures { λ r. ⌜ Beyond run (now (output .entry)) r (now (output .exit)) ⌝ }
+{
+    let part = unread(given, piece, run.at);
+    let from = run.at;
+    let steps = run.steps;
+    let mut count = run.count;
+    let mut read: usize = 0;
+    while read < part.len() {
+        if is_first(part[read]) {
             return between(from + read, count, steps + 3 * read as u64);
-        };
+        }
+        let class = class_between(words, classes, part[read]);
+        if let Next::To(state) = target(words, StateNo(0), class) {
+            return begun(state, from + read, count, steps + 3 * read as u64);
+        }
         count = emit_default(words, part, read, output, count);
         read += 1;
     }
@@ -477,11 +527,11 @@ fn fall_marked<'a>(given: &'a [u16], piece: &'a [u16], ended: bool, place: usize
 }
 
 // What a roll-back leads to, of the text from `place` on.
-fn fall_at<'a>(words: &[u16], given: &'a [u16], piece: &'a [u16], ended: bool, place: usize) -> Fall
-    requires { ⌜ (wordCount ≤ length (now words)) × (place < length (now given) + length (now piece)) ⌝ }
-    ensures { λ r. ⌜ fallOf r ≡ fall (modeAt (now (words .entry))) ended (drop place (now (given .entry) ++ now (piece .entry))) ⌝ }
+fn fall_at<'a>(mode: Mode, given: &'a [u16], piece: &'a [u16], ended: bool, place: usize) -> Fall
+    requires { ⌜ place < length (now given) + length (now piece) ⌝ }
+    ensures { λ r. ⌜ fallOf r ≡ fall (theMode mode) ended (drop place (now (given .entry) ++ now (piece .entry))) ⌝ }
 {
-    match default_mode(words) {
+    match mode {
         Mode::Absent => Fall::Nowhere,
         Mode::Single => Fall::One,
         Mode::Paired => fall_marked(given, piece, ended, place),
@@ -530,7 +580,8 @@ fn take_one<'a>(
     between(run.from + 1, written, run.steps + 3)
 }
 
-// "The pair costs two takes and one emit after the back."
+// "The pair costs two takes and one emit after the back." It is counted first: else the compiler joins the end of this with that of `take_one`,
+// which each roll-back of an unmarked table would feel.
 fn take_pair<'a>(
     words: &[u16],
     given: &'a [u16],
@@ -544,14 +595,15 @@ fn take_pair<'a>(
     ensures { λ r. ⌜ Takes (now (words .entry)) (now (given .entry) ++ now (piece .entry)) run
         (lent (now (output .entry)) (now (uses .entry))) 33 2 r (lent (now (output .exit)) (now (uses .exit))) ⌝ }
 {
-    let written = write_pair(given, piece, run.from, output, run.count);
     count_uses(uses, PAIR_RULE, 1);
+    let written = write_pair(given, piece, run.from, output, run.count);
     between(run.from + 2, written, run.steps + 4)
 }
 
 // *Back*, "then with a default *take* one and *emit* the default, without one *stop*"; under the mark a pair is taken whole, or a first unit waits.
 fn roll_back<'a>(
     words: &[u16],
+    mode: Mode,
     given: &'a [u16],
     piece: &'a [u16],
     ended: bool,
@@ -560,12 +612,12 @@ fn roll_back<'a>(
     output: &mut [u16],
 ) -> Ran
     requires { ⌜ T (sound (now words)) × Placed (now words) (now given ++ now piece) (length (now output)) run × Counted (now uses) (run .from) ⌝ }
-    requires { ⌜ run .from < length (now given ++ now piece) ⌝ }
+    requires { ⌜ (run .from < length (now given ++ now piece)) × (theMode mode ≡ modeAt (now words)) ⌝ }
     ensures { λ r. ⌜ MovesAt (now (words .entry)) (now (given .entry) ++ now (piece .entry)) ended (length (now (output .entry)))
         run (lent (now (output .entry)) (now (uses .entry))) Back r (lent (now (output .exit)) (now (uses .exit))) ⌝ }
     ensures { λ r. ⌜ Beyond run (now (output .entry)) r (now (output .exit)) ⌝ }
 {
-    match fall_at(words, given, piece, ended, run.from) {
+    match fall_at(mode, given, piece, ended, run.from) {
         Fall::Nowhere => halted(Status::Stopped, run, 2),
         Fall::One => take_one(words, given, piece, run, uses, output),
         Fall::Pair => take_pair(words, given, piece, run, uses, output),
@@ -573,22 +625,11 @@ fn roll_back<'a>(
     }
 }
 
-// The machine rolls back: before a character without a target, or at the input's end with a store. One call of it, since the compiler inlines that.
-fn gives_back(stuck: bool, ended: bool, from: usize, at: usize) -> bool
-    ensures { λ r. ⌜ r ≡ (stuck || (ended && ltb from at)) ⌝ }
-{
-    if stuck {
-        return true;
-    }
-    if ended {
-        return from < at;
-    }
-    false
-}
-
 // Where the machine has read on and emits no rule: it rolls back before a character without a target, waits, or at the input's end rolls back or closes.
+// The roll-back is called in one place, since the compiler inlines that.
 fn fall_back<'a>(
     words: &[u16],
+    mode: Mode,
     given: &'a [u16],
     piece: &'a [u16],
     stuck: bool,
@@ -598,23 +639,27 @@ fn fall_back<'a>(
     output: &mut [u16],
 ) -> Ran
     requires { ⌜ T (sound (now words)) × Placed (now words) (now given ++ now piece) (length (now output)) run × Counted (now uses) (run .from) ⌝ }
-    requires { ⌜ Stands (now words) (now given ++ now piece) stuck (run .state .0) (run .at) × (acceptNow (now words) (run .state .0) stuck ended ≡ 0) ⌝ }
+    requires { ⌜ Stands (now words) (now given ++ now piece) stuck (run .state .0) (run .at) × (acceptNow (now words) (run .state .0) stuck ended ≡ 0)
+        × (theMode mode ≡ modeAt (now words)) ⌝ }
     ensures { λ r. ⌜ Advances (now (words .entry)) (now (given .entry) ++ now (piece .entry)) ended (length (now (output .entry)))
         run (lent (now (output .entry)) (now (uses .entry))) (r .done) r (lent (now (output .exit)) (now (uses .exit))) ⌝ }
     ensures { λ r. ⌜ Beyond run (now (output .entry)) r (now (output .exit)) ⌝ }
 {
-    if gives_back(stuck, ended, run.from, run.at) {
-        return roll_back(words, given, piece, ended, run, uses, output);
+    if !stuck {
+        if !ended {
+            return waiting(run);
+        }
+        if run.from == run.at {
+            return halted(Status::Closed, run, 1);
+        }
     }
-    if !ended {
-        return waiting(run);
-    }
-    halted(Status::Closed, run, 1)
+    roll_back(words, mode, given, piece, ended, run, uses, output)
 }
 
 // One turn of the machine: it reads on, then emits a rule, rolls back, waits or closes.
 fn turn<'a>(
     words: &[u16],
+    mode: Mode,
     classes: &[u16],
     given: &'a [u16],
     piece: &'a [u16],
@@ -623,7 +668,7 @@ fn turn<'a>(
     uses: &mut [u64; 34],
     output: &mut [u16],
 ) -> Ran
-    requires { ⌜ T (sound (now words)) × Classed (now words) (now classes) ⌝ }
+    requires { ⌜ T (sound (now words)) × Classed (now words) (now classes) × (theMode mode ≡ modeAt (now words)) ⌝ }
     requires { ⌜ Placed (now words) (now given ++ now piece) (length (now output)) run × Counted (now uses) (run .from) ⌝ }
     ensures { λ r. ⌜ Advances (now (words .entry)) (now (given .entry) ++ now (piece .entry)) ended (length (now (output .entry)))
         run (lent (now (output .entry)) (now (uses .entry))) (r .done) r (lent (now (output .exit)) (now (uses .exit))) ⌝ }
@@ -644,23 +689,54 @@ fn turn<'a>(
         return read;
     }
     let Accept::Rule(rule) = accept_now(words, state, ahead.stuck, ended) else {
-        return fall_back(words, given, piece, ahead.stuck, ended, read, uses, output);
+        return fall_back(
+            words,
+            mode,
+            given,
+            piece,
+            ahead.stuck,
+            ended,
+            read,
+            uses,
+            output,
+        );
     };
     emit_rule(words, given, piece, rule, read, uses, output)
 }
 
-// The default takes one unit each time: it is there, and carries no mark.
-fn takes_one(words: &[u16]) -> bool
-    requires { ⌜ wordCount ≤ length (now words) ⌝ }
-    ensures { λ r. ⌜ r ≡ eqb (at (now (words .entry)) 5) 1 ⌝ }
+// Between two words the default is emitted first for characters that begin no word, and counted for them all at once.
+fn pass_defaults<'a>(
+    words: &[u16],
+    mode: Mode,
+    classes: &[u16],
+    given: &'a [u16],
+    piece: &'a [u16],
+    run: Ran,
+    uses: &mut [u64; 34],
+    output: &mut [u16],
+) -> Ran
+    requires { ⌜ T (sound (now words)) × Classed (now words) (now classes) × (theMode mode ≡ modeAt (now words)) ⌝ }
+    requires { ⌜ Placed (now words) (now given ++ now piece) (length (now output)) run × Counted (now uses) (run .from) ⌝ }
+    ensures { λ r. ⌜ Passes (now (words .entry)) (now (given .entry) ++ now (piece .entry)) (length (now (output .entry)))
+        run (lent (now (output .entry)) (now (uses .entry))) r (lent (now (output .exit)) (now (uses .exit))) ⌝ }
+    ensures { λ r. ⌜ Counted (now (uses .exit)) (r .from) × Beyond run (now (output .entry)) r (now (output .exit)) ⌝ }
 {
-    default_word(words) == 1
+    if run.from < run.at {
+        return run;
+    }
+    let next = match mode {
+        Mode::Absent => return run,
+        Mode::Single => emit_defaults(words, classes, given, piece, run, output),
+        Mode::Paired => emit_singles(words, classes, given, piece, run, output),
+    };
+    count_uses(uses, DEFAULT_RULE, (next.from - run.from) as u64);
+    next
 }
 
-// Where the run is between two words and there is a default without a mark, it is emitted first for the characters that begin no word; then comes
-// a turn.
+// What the default does between two words comes first, then a turn.
 fn advance<'a>(
     words: &[u16],
+    mode: Mode,
     classes: &[u16],
     given: &'a [u16],
     piece: &'a [u16],
@@ -669,18 +745,24 @@ fn advance<'a>(
     uses: &mut [u64; 34],
     output: &mut [u16],
 ) -> Ran
-    requires { ⌜ T (sound (now words)) × Classed (now words) (now classes) ⌝ }
+    requires { ⌜ T (sound (now words)) × Classed (now words) (now classes) × (theMode mode ≡ modeAt (now words)) ⌝ }
     requires { ⌜ Placed (now words) (now given ++ now piece) (length (now output)) run × Counted (now uses) (run .from) ⌝ }
     ensures { λ r. ⌜ Advances (now (words .entry)) (now (given .entry) ++ now (piece .entry)) ended (length (now (output .entry)))
         run (lent (now (output .entry)) (now (uses .entry))) (r .done) r (lent (now (output .exit)) (now (uses .exit))) ⌝ }
     ensures { λ r. ⌜ Beyond run (now (output .entry)) r (now (output .exit)) ⌝ }
 {
-    if run.from == run.at && takes_one(words) {
-        let next = emit_defaults(words, classes, given, piece, run, output);
-        count_uses(uses, DEFAULT_RULE, (next.from - run.from) as u64);
-        return turn(words, classes, given, piece, ended, next, uses, output);
-    }
-    turn(words, classes, given, piece, ended, run, uses, output)
+    let next = pass_defaults(words, mode, classes, given, piece, run, uses, output);
+    turn(
+        words,
+        mode,
+        classes,
+        given,
+        piece,
+        ended,
+        next,
+        uses,
+        output,
+    )
 }
 
 // Where a run begins to read: behind the given characters, or before a unit that was left at state 0.
@@ -712,7 +794,7 @@ fn counted_once(run: Ran, made: u64) -> Ran
 }
 
 // The machine's run from a store of the given characters and the state that they lead to, over the piece, until it waits, closes or stops, with
-// these classes of the first characters.
+// these classes of the first characters. The default's mode is looked up once.
 fn run_from<'a>(
     words: &[u16],
     classes: &[u16],
@@ -728,6 +810,7 @@ fn run_from<'a>(
     ensures { λ r. ⌜ RunsTo (now (words .entry)) (now (given .entry)) (now (piece .entry)) (state .0) ended
         (lent (now (output .entry)) (now (uses .entry))) r (lent (now (output .exit)) (now (uses .exit))) ⌝ }
 {
+    let mode = default_mode(words);
     let start = beginning(state, given.len());
     let mut ran = Ran {
         done: false, // a run begins
@@ -739,7 +822,7 @@ fn run_from<'a>(
         steps: 0,
     };
     while !ran.done {
-        ran = advance(words, classes, given, piece, ended, ran, uses, output);
+        ran = advance(words, mode, classes, given, piece, ended, ran, uses, output);
     }
     counted_once(ran, (given.len() - start) as u64)
 }

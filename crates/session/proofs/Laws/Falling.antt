@@ -6,23 +6,21 @@ use mathlib.Core.Logic.{_≢_}
 use mathlib.Core.Path.{_≡_, refl, sym, ap, subst, _∙_}
 use Prim.Native.Nat.{ℕ, suc, _+_, _≤_, _<_}
 use native.Mathlib.Omega.{arith}
-use borrow.Author.Tests.{ne-eqb}
 use lib.Dec.{T, eqb}
 use lib.ListN.{length, getD, take, drop, drop-of-length-le, length-drop}
 use lib.Seq.{drop-cons}
-use Rattle.meaning.specs.Table.{Mode, Absent, Single, Paired, isFirst, isSecond, least, pairNumber}
+use Rattle.meaning.specs.Table.{Mode, Absent, Single, Paired, isFirst, isSecond, least, defaultNumber, pairNumber}
 use Rattle.meaning.specs.Block.{at}
 use Rattle.automaton.specs.Sound.{expansionWord, wordMode, modeAt, sound}
 use Rattle.automaton.specs.Automaton.{Automaton}
 use Rattle.automaton.proofs.Laws.Words.{sound-header}
-use Rattle.reckoning.specs.Machine.{Fall, nowhere, taking, keeping, fallOne, fallTwo, fall}
+use Rattle.reckoning.specs.Machine.{nowhere, taking, fallOne, fallTwo, fall}
 use Rattle.reckoning.specs.Session.{isPaired, isLeft}
 
 module _ (u : List ℕ) (p : ℕ) (ended : Bool) where
   pub two-fall : p + 2 ≤ length u → fall Paired ended (drop p u) ≡ fallTwo (isFirst (getD u p 0) && isSecond (getD u (p + 1) 0))
   two-fall h =
       let e : suc p ≡ p + 1 = omega arith in
-      let rest = drop (suc (p + 1)) u in
       ap (fall Paired ended)
       (drop-cons u p 0 (omega arith) ∙ ap (λ k. getD u p 0 ∷ drop k u) e ∙ ap (λ l. getD u p 0 ∷ l) (drop-cons u (p + 1) 0 (omega arith)))
 
@@ -30,6 +28,13 @@ module _ (u : List ℕ) (p : ℕ) (ended : Bool) where
   one-fall h k =
       let l : length u ≤ suc p = omega arith in
       ap (fall Paired ended) (drop-cons u p 0 h ∙ ap (λ l. getD u p 0 ∷ l) (drop-of-length-le u l))
+
+-- a unit that is no first unit is taken alone
+pub alone-fall : (ended : Bool) (u : List ℕ) → isFirst (getD u 0 0) ≡ false → fall Paired ended u ≡ taking defaultNumber 1
+alone-fall ended [] e = refl
+alone-fall true (x ∷ []) e = refl
+alone-fall false (x ∷ []) e = ap fallOne e
+alone-fall ended (x ∷ (y ∷ u)) e = ap (λ b. fallTwo (b && isSecond y)) e
 
 -- a pair is taken only under the mark, and is there
 pair-marked : (m : Mode) (ended : Bool) (u : List ℕ) → fall m ended u ≡ taking pairNumber 2 → (m ≡ Paired) × (2 ≤ length u)

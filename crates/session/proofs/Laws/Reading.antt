@@ -12,21 +12,22 @@ use lib.Seq.{take-all, drop-nil, drop-cons, length-take-le, getD-take, getD-drop
 use Rattle.lists.specs.Lists.{pad}
 use Rattle.lists.proofs.Laws.Parts.{length-pad}
 use Rattle.lists.proofs.Laws.Tests.{holds, below, split, of-cond, of-between}
-use Rattle.meaning.specs.Table.{Single, defaultNumber}
+use Rattle.meaning.specs.Table.{defaultNumber}
 use Rattle.meaning.specs.Block.{at, blockOutput}
-use Rattle.automaton.specs.Sound.{longestWord, expansionWord, stateCount, depthWord, acceptWord, targetWord, classCount, blockAt, wordMode, soundState, sound}
+use Rattle.automaton.specs.Sound.{longestWord, expansionWord, stateCount, depthWord, acceptWord, targetWord, classCount, blockAt, modeAt, soundState, sound}
 use Rattle.automaton.specs.Classes.{classOf}
 use Rattle.automaton.specs.Automaton.{fromWords}
 use Rattle.words.specs.declared.numbers.StateNo.{StateNo}
 use Rattle.automaton.proofs.Laws.Words.{sound-state, sound-class, sound-good, length-blockOutput}
-use Rattle.reckoning.specs.Machine.{fall}
+use Rattle.reckoning.specs.Machine.{taking, fall}
 use Rattle.reckoning.specs.Uses.{useCounts}
 use Rattle.session.specs.bridge.Counting.{bumped}
-use Rattle.session.specs.bridge.Running.{Painted, put, firstOf, Placed, Lent, lent, Proceeds, Beyond, Passes, PassesByDefaults, Between, ReadsOn, readTo, Read, Back}
+use Rattle.session.specs.bridge.Running.{Painted, put, firstOf, Placed, Lent, lent, Proceeds, Beyond, Passes, PassesByDefaults, Between, ReadsOn, readTo, begunAt, Read, Back}
 use Rattle.session.specs.declared.kept.Status.the-variants as Code
 use Rattle.session.specs.declared.run.Ran.{Ran}
 use Rattle.session.specs.declared.run.Ahead.{Ahead}
 use Rattle.session.proofs.Laws.Counting.{bumped-none, bumped-again}
+use Rattle.session.proofs.Laws.Falling.{default-there}
 use Rattle.session.proofs.Laws.Running.{first-at, character-backs, character-reads, decides-character, turn-room, turn-small, write-block, mode-words, advances-read, advances-one, beyond-on}
 use Rattle.automaton.specs.Layout.{classesFrom}
 
@@ -101,7 +102,7 @@ module _ (given piece part : List ℕ) (n : ℕ) (e : part ≡ partOf given piec
 
 -- A run that leads on, and then on again.
 
-passes-same : (w u : List ℕ) (room : ℕ) (old new : Ran) (has : Lent) → Placed w u room old → new .state .0 ≡ old .state .0 → new .from ≡ old .from →
+pub passes-same : (w u : List ℕ) (room : ℕ) (old new : Ran) (has : Lent) → Placed w u room old → new .state .0 ≡ old .state .0 → new .from ≡ old .from →
     new .at ≡ old .at → new .count ≡ old .count → new .steps ≡ old .steps → Passes w u room old has new has
 passes-same w u room old new has P e₁ e₂ e₃ e₄ e₅ =
     let i₁ = P .order in
@@ -241,12 +242,13 @@ module _ (w u : List ℕ) (n count made : ℕ) (before : List ℕ) where
         (omega arith, refl),
       )
 
-  pub defaulted-next : T (sound w) → at w 5 ≡ 1 → (m written more : ℕ) (between : List ℕ) → length between ≡ length before →
+  pub defaulted-next : T (sound w) → (m written more : ℕ) → ((ended : Bool) → fall (modeAt w) ended (drop m u) ≡ taking defaultNumber 1) →
+      (between : List ℕ) → length between ≡ length before →
       Defaulted w u n count made before m written more between → m < length u → targetWord w 0 (classIn w (getD u m 0)) ≡ 0 → (m′ written′ more′ : ℕ) (after : List ℕ) →
       m′ ≡ m + 1 → written′ ≡ written + at (blockAt w 32) 2 → more′ ≡ more + 3 →
       after ≡ put between written (blockOutput (blockAt w 32) (take 1 (drop m u))) →
       Defaulted w u n count made before m′ written′ more′ after
-  defaulted-next W one m written more between size f some none m′ written′ more′ after p₁ p₂ p₃ wrote now e₁ e₂ e₃ e₄ P =
+  defaulted-next W m written more falls between size f some none m′ written′ more′ after p₁ p₂ p₃ wrote now e₁ e₂ e₃ e₄ P =
       let x = getD u m 0 in
       let q = now .state .0 in
       let old = betweenAt now m written more in
@@ -257,8 +259,7 @@ module _ (w u : List ℕ) (n count made : ℕ) (before : List ℕ) where
       subst (λ room. Placed w u room old) (sym size) (defaulted-placed w u (length before) now old before between (m - n) (l .1)) in
       let back = character-backs w W q (P .state) x (sym (ap (acceptWord w) z ∙ first-accept w W)) (ap (λ s. targetWord w s (classIn w x)) z ∙ none) in
       let word = take 1 (drop m u) in
-      let single : fromWords w .default ≡ Single = sym (mode-words w) ∙ ap wordMode one in
-      let there : at w 5 ≢ 0 = λ e. omega arith in
+      let there : at w 5 ≢ 0 = default-there w (drop m u) false defaultNumber 1 (falls false) in
       let text = write-block w defaultNumber word (omega arith) in
       let long : at (blockAt w 32) 2 ≡ length (fromWords w .write defaultNumber word) = sym (length-blockOutput (blockAt w 32) word) ∙ ap length text in
       let next : m′ - n ≡ m - n + 1 = omega (arith, l .0) in
@@ -273,7 +274,7 @@ module _ (w u : List ℕ) (n count made : ℕ) (before : List ℕ) where
         between = record { going = refl; state = z; from = p₁; at = p₁; count = p₂ ∙ ap (λ k. written + k) long; steps = p₃ };
         wrote = wrote ∙ ap (put between written) text;
         counted = counted uses e;
-      }) (ap (λ d. fall d ended (drop m u)) single) there in
+      }) (ap (λ d. fall d ended (drop m u)) (sym (mode-words w)) ∙ falls ended) there in
       let beyond = on (pad useCounts []) (length-pad useCounts []) false .1 in (
         omega (arith, l .0),
         λ uses e.
@@ -290,6 +291,34 @@ module _ (w u : List ℕ) (n count made : ℕ) (before : List ℕ) where
       let new = betweenAt now m written more in
       let placed = defaulted-placed w u (length before) now new before after (m - n) (f now e₁ e₂ e₃ e₄ P .1) in
       (turn-room w u (length before) new placed some k few, turn-small w u (length before) new W placed)
+
+  -- and then a character with a target is read
+  pub defaulted-begins : T (sound w) → (now : Ran) → now .from ≡ n → now .at ≡ n → now .count ≡ count → now .steps ≡ made → Placed w u (length before) now →
+      (m written more : ℕ) (after : List ℕ) → length after ≡ length before → Defaulted w u n count made before m written more after → m < length u → (t : StateNo) →
+      t .0 ≡ targetWord w 0 (classIn w (getD u m 0)) → t .0 ≢ 0 → (new : Ran) → new ≡ begunAt t m written more →
+      PassesByDefaults w u now before new after × Beyond now before new after
+  defaulted-begins W now e₁ e₂ e₃ e₄ P m written more after size f some t e h new same =
+      let x = getD u m 0 in
+      let q = now .state .0 in
+      let old = betweenAt now m written more in
+      let begun = begunAt t m written more in
+      let l = f now e₁ e₂ e₃ e₄ P in
+      let z : q ≡ 0 = first-state w W q (P .state) (P .depth ∙ omega arith) in
+      let leads : t .0 ≡ targetWord w q (classIn w x) = e ∙ ap (λ s. targetWord w s (classIn w x)) (sym z) in
+      let reads = character-reads w W q (P .state) x t (sym (ap (acceptWord w) z ∙ first-accept w W)) leads h in
+      let placed : Placed w u (length after) old =
+      subst (λ room. Placed w u room old) (sym size) (defaulted-placed w u (length before) now old before after (m - n) (l .1)) in
+      let on : (uses : List ℕ) (ended : Bool) → Proceeds w u ended (length before) old (lent after uses) begun (lent after uses) =
+      λ uses ended.
+      subst (λ room. Proceeds w u ended room old (lent after uses) begun (lent after uses)) size
+      (advances-read w u ended W old (lent after uses) placed begun t (decides-character w u ended q m m (Read t) x some refl (reads .0)) (reads .1) some refl refl refl refl refl) in
+      let passes : (uses : List ℕ) → length uses ≡ useCounts →
+      Passes w u (length before) now (lent before uses) begun (lent after (bumped uses defaultNumber (m - now .from))) =
+      λ uses k.
+      subst (λ i. Passes w u (length before) now (lent before uses) begun (lent after (bumped uses defaultNumber (m - i)))) (sym e₁)
+      (passes-on w u (length before) now old begun (lent before uses) (lent after (bumped uses defaultNumber (m - n))) (lent after (bumped uses defaultNumber (m - n))) (l .1 uses k)
+      (on (bumped uses defaultNumber (m - n)))) in
+      subst (λ r. PassesByDefaults w u now before r after × Beyond now before r after) (sym same) ((omega (arith, l .0), passes), l .2)
 
   pub defaulted-end : T (sound w) → (now : Ran) → now .from ≡ n → now .at ≡ n → now .count ≡ count → now .steps ≡ made → Placed w u (length before) now →
       (m written more : ℕ) (after : List ℕ) → Defaulted w u n count made before m written more after → (new : Ran) → Between m written more new →

@@ -194,6 +194,19 @@ readTo now a =
       steps = now .steps + (a .at - now .at);
     }
 
+-- the run that has read a word's first character, which led from state 0 to the state
+abbrev pub begunAt : StateNo → ℕ → ℕ → ℕ → Ran
+begunAt q place written made =
+    record {
+      done = false;
+      status = Code.Open;
+      state = q;
+      from = place;
+      at = place + 1;
+      count = written;
+      steps = made + 1;
+    }
+
 -- the run led on, whether or not the input has ended
 abbrev pub Passes : List ℕ → List ℕ → ℕ → Ran → Lent → Ran → Lent → Type 0
 Passes w u room old before new after =

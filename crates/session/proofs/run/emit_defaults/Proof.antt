@@ -1,17 +1,20 @@
 -- `run::emit_defaults` meets its contract. The invariant: any run with an empty store at the part's start emits defaults for the characters read.
 -- The measure is the characters of the part left. Assumes nothing.
+use mathlib.Core.Bool.{false}
 use mathlib.Core.Path.{_≡_, refl, sym, ap, subst, _∙_}
 use mathlib.Core.List.{List, _++_}
 use Prim.Native.Nat.{ℕ, _+_, _-_, _*_, _≤_, _<_}
 use native.Mathlib.Omega.{arith}
 use borrow.Author.Needs.{needs}
-use lib.ListN.{length, getD, length-append}
+use lib.ListN.{length, getD, drop, length-append}
 use Rattle.meaning.specs.Block.{at, blockOutput}
 use Rattle.automaton.specs.Sound.{targetWord, blockAt}
 use Rattle.words.specs.bridge.Readings.{Leads}
 use Rattle.session.specs.bridge.Running.{put}
 use Rattle.automaton.proofs.Laws.Words.{sound-header, sound-class, sound-default}
-use Rattle.session.proofs.Laws.Reading.{partOf, part-inside, part-at, part-one, classIn, Defaulted, defaulted-none, defaulted-next, defaulted-room, defaulted-end}
+use Rattle.reckoning.specs.Machine.{fall}
+use Rattle.session.proofs.Laws.Falling.{default-there}
+use Rattle.session.proofs.Laws.Reading.{partOf, part-inside, part-at, part-one, classIn, Defaulted, defaulted-none, defaulted-next, defaulted-room, defaulted-begins, defaulted-end}
 use Rattle.session.proofs.run.emit_defaults.Statement.{statement}
 use Rattle.session.proofs.run.emit_defaults.Tie as tie
 
@@ -25,6 +28,10 @@ abbrev μ-loop : tie.MeasureT-loop
 
 abbrev text : tie.Start Inv-loop μ-loop → List ℕ
 text s = s .args .given .now ++ s .args .piece .now
+
+-- where the loop began
+abbrev entry : tie.At-loop Inv-loop μ-loop → tie.Start Inv-loop μ-loop
+entry l = l .before .before .before .before .before .before .before
 
 within : (s : tie.Start Inv-loop μ-loop) (part : List ℕ) → part ≡ partOf (s .args .given .now) (s .args .piece .now) (s .args .run .at) → (read : ℕ) → read ≤ length part →
     s .args .run .at + read ≤ length (text s)
@@ -61,38 +68,11 @@ target-requires c κs =
     let e : c .class-between .result .0 ≡ classIn w x = c .class-between .ensures in
     (h .long, omega arith, omega (arith, h .few-classes, sound-class w (s .pre .0 .0) x, e))
 
+enum-known-state : tie.Need-enum-known-state Inv-loop μ-loop
+enum-known-state c = search needs
+
 enum-told : tie.Need-enum-told Inv-loop μ-loop
 enum-told c = search needs
-
-enum-told-2 : tie.Need-enum-told-2 Inv-loop μ-loop
-enum-told-2 c = search needs
-
-add-between : tie.Need-add-between Inv-loop μ-loop
-add-between c =
-    let s = c .before .before .before .before .before .before .before .before .before .before .before .before .before in
-    let p = c .before .before .before .before .before .before .before .unread in
-    let l = c .before .before .before .before .before .before .loop in
-    omega (arith, within s (p .result .now) (p .ensures) (l .read) (l .inv .0), s .pre .1 .0 .short)
-
-mul-between : tie.Need-mul-between Inv-loop μ-loop
-mul-between c =
-    let s = c .before .before .before .before .before .before .before .before .before .before .before .before .before in
-    let p = c .before .before .before .before .before .before .before .unread in
-    let l = c .before .before .before .before .before .before .loop in
-    omega (arith, within s (p .result .now) (p .ensures) (l .read) (l .inv .0), s .pre .1 .0 .short)
-
-add-between-2 : tie.Need-add-between-2 Inv-loop μ-loop
-add-between-2 c =
-    let s = c .before .before .before .before .before .before .before .before .before .before .before .before .before in
-    let p = c .before .before .before .before .before .before .before .unread in
-    let l = c .before .before .before .before .before .before .loop in
-    omega (arith, within s (p .result .now) (p .ensures) (l .read) (l .inv .0), s .pre .1 .0 .short, s .pre .1 .0 .few, s .pre .1 .1)
-
-between-requires : tie.Need-between-requires Inv-loop μ-loop
-between-requires c κs = search needs
-
-same-length : tie.Need-same-length Inv-loop μ-loop
-same-length c = c .before .before .before .before .before .before .before .loop .inv .1
 
 -- where the next character leads from state 0
 abbrev start : tie.After-target Inv-loop μ-loop → tie.Start Inv-loop μ-loop
@@ -117,13 +97,44 @@ leads c =
       subst (λ k. Leads (c .target .result) (targetWord w 0 k)) (c .before .class-between .ensures ∙ ap (classIn w) x) (c .target .ensures),
     )
 
+-- the steps and the place after as many defaults
+small : (l : tie.At-loop Inv-loop μ-loop) →
+    let a = entry l .args in (a .run .at + l .loop .read < 2199023255552) × (a .run .steps + 3 * l .loop .read < 35184372088832)
+small l =
+    let s = entry l in
+    let p = l .before .unread in
+    let i = within s (p .result .now) (p .ensures) (l .loop .read) (l .loop .inv .0) in
+    let P = s .pre .1 .0 in
+    (omega (arith, i, P .short), omega (arith, i, P .short, P .few, s .pre .1 .1))
+
+add-begun : tie.Need-add-begun Inv-loop μ-loop
+add-begun c = omega (arith, small (c .before .before .before .before .before .before .before) .0)
+
+mul-begun : tie.Need-mul-begun Inv-loop μ-loop
+mul-begun c = omega (arith, small (c .before .before .before .before .before .before .before) .1)
+
+add-begun-2 : tie.Need-add-begun-2 Inv-loop μ-loop
+add-begun-2 c = omega (arith, small (c .before .before .before .before .before .before .before) .1)
+
+begun-requires : tie.Need-begun-requires Inv-loop μ-loop
+begun-requires c κs = let k = small (c .before .before .before .before .before .before .before) in (omega (arith, k .0), omega (arith, k .1))
+
+same-length : tie.Need-same-length Inv-loop μ-loop
+same-length c = c .before .before .before .before .before .before .before .before .loop .inv .1
+
 returns : tie.Need-returns Inv-loop μ-loop
 returns c =
-    let s = c .before .before .before .before .before .before .before .before .before .before .before .before .before .before in
+    let here = c .before .before .before .before .before .before .before .before in
+    let l = here .loop in
+    let s = entry here in
     let a = s .args in
-    let l = c .before .before .before .before .before .before .before .loop in
-    defaulted-end (a .words .now) (text s) (a .run .at) (a .run .count) (a .run .steps) (a .output .now) (s .pre .0 .0) (a .run) (s .pre .1 .1) refl refl refl (s .pre .1 .0)
-    (a .run .at + l .read) (l .count) (a .run .steps + 3 * l .read) (l .output) (l .inv .2) (c .between .result) (c .between .ensures)
+    let q = c .before .before in
+    let t = q .before .before in
+    let k = leads t in
+    let on = subst (λ n. Leads n (word t)) (q .state .given .1) (k .1) in
+    defaulted-begins (a .words .now) (text s) (a .run .at) (a .run .count) (a .run .steps) (a .output .now) (s .pre .0 .0) (a .run) (s .pre .1 .1) refl refl refl (s .pre .1 .0)
+    (a .run .at + l .read) (l .count) (a .run .steps + 3 * l .read) (l .output) (l .inv .1) (l .inv .2) (k .0) (q .state .given .0 .0) (on .0) (λ z. on .1 (sym (on .0) ∙ z))
+    (c .begun .result) (c .begun .ensures)
 
 emit-default-requires : tie.Need-emit-default-requires Inv-loop μ-loop
 emit-default-requires c κs =
@@ -132,9 +143,9 @@ emit-default-requires c κs =
     let w = a .words .now in
     let l = c .before .before .before .before .before .before .before .loop in
     let h = sound-header w (s .pre .0 .0) in
-    let one = s .pre .0 .2 in
-    let d = sound-default w (s .pre .0 .0) (λ e. omega arith) in
     let k = leads (c .before .before .before) in
+    let m = a .run .at + l .read in
+    let d = sound-default w (s .pre .0 .0) (default-there w (drop m (text s)) false _ _ (ap (λ d. fall d false (drop m (text s))) (s .pre .0 .2))) in
     let room =
     defaulted-room w (text s) (a .run .at) (a .run .count) (a .run .steps) (a .output .now) (a .run) (s .pre .1 .1) refl refl refl (s .pre .1 .0)
     (a .run .at + l .read) (l .count) (a .run .steps + 3 * l .read) (l .output) (l .inv .2) (k .0) (s .pre .0 .0) (at (blockAt w 32) 2) (d .outputs) in
@@ -171,46 +182,35 @@ loop-again c =
     let one = part-one (a .given .now) (a .piece .now) (p .result .now) (a .run .at) (p .ensures) (l .read) t (s .pre .1 .0 .inside) in (
       omega (arith, t),
       search needs,
-      defaulted-next w (text s) (a .run .at) (a .run .count) (a .run .steps) (a .output .now) (s .pre .0 .0) (s .pre .0 .2)
-          (a .run .at + l .read) (l .count) (a .run .steps + 3 * l .read) (l .output) size (l .inv .2) (k .0) none
+      defaulted-next w (text s) (a .run .at) (a .run .count) (a .run .steps) (a .output .now) (s .pre .0 .0)
+          (a .run .at + l .read) (l .count) (a .run .steps + 3 * l .read) (λ ended. ap (λ d. fall d ended (drop (a .run .at + l .read) (text s))) (s .pre .0 .2)) (l .output) size (l .inv .2) (k .0) none
           (a .run .at + (l .read + 1)) (c .before .before .emit-default .result) (a .run .steps + 3 * (l .read + 1)) _ (omega arith) (known .0) (omega arith)
           (known .1 ∙ ap (λ x. put (l .output) (l .count) (blockOutput b x)) one),
     )
 
-add-between-3 : tie.Need-add-between-3 Inv-loop μ-loop
-add-between-3 c =
-    let s = c .before .before .before .before .before .before .before .before in
-    let p = c .before .before .unread in
-    let l = c .before .loop in
-    omega (arith, within s (p .result .now) (p .ensures) (l .read) (l .inv .0), s .pre .1 .0 .short)
+add-between : tie.Need-add-between Inv-loop μ-loop
+add-between c = omega (arith, small (c .before) .0)
 
-mul-between-2 : tie.Need-mul-between-2 Inv-loop μ-loop
-mul-between-2 c =
-    let s = c .before .before .before .before .before .before .before .before in
-    let p = c .before .before .unread in
-    let l = c .before .loop in
-    omega (arith, within s (p .result .now) (p .ensures) (l .read) (l .inv .0), s .pre .1 .0 .short)
+mul-between : tie.Need-mul-between Inv-loop μ-loop
+mul-between c = omega (arith, small (c .before) .1)
 
-add-between-4 : tie.Need-add-between-4 Inv-loop μ-loop
-add-between-4 c =
-    let s = c .before .before .before .before .before .before .before .before in
-    let p = c .before .before .unread in
-    let l = c .before .loop in
-    omega (arith, within s (p .result .now) (p .ensures) (l .read) (l .inv .0), s .pre .1 .0 .short, s .pre .1 .0 .few, s .pre .1 .1)
+add-between-2 : tie.Need-add-between-2 Inv-loop μ-loop
+add-between-2 c = omega (arith, small (c .before) .1)
 
-between-requires-2 : tie.Need-between-requires-2 Inv-loop μ-loop
-between-requires-2 c κs = search needs
+between-requires : tie.Need-between-requires Inv-loop μ-loop
+between-requires c κs = search needs
 
 same-length-2 : tie.Need-same-length-2 Inv-loop μ-loop
 same-length-2 c = c .before .before .loop .inv .1
 
 returns-2 : tie.Need-returns-2 Inv-loop μ-loop
 returns-2 c =
-    let s = c .before .before .before .before .before .before .before .before .before in
+    let here = c .before .before in
+    let l = here .loop in
+    let s = entry here in
     let a = s .args in
-    let l = c .before .before .loop in
     defaulted-end (a .words .now) (text s) (a .run .at) (a .run .count) (a .run .steps) (a .output .now) (s .pre .0 .0) (a .run) (s .pre .1 .1) refl refl refl (s .pre .1 .0)
-    (a .run .at + l .read) (l .count) (a .run .steps + 3 * l .read) (l .output) (l .inv .2) (c .between2 .result) (c .between2 .ensures)
+    (a .run .at + l .read) (l .count) (a .run .steps + 3 * l .read) (l .output) (l .inv .2) (c .between .result) (c .between .ensures)
 
 pub emit-defaults-spec : {M : Type 1} → statement M
 emit-defaults-spec =
@@ -224,21 +224,21 @@ emit-defaults-spec =
     shared-slice-read-class-between
     class-between-requires
     target-requires
-    enum-told
-    enum-told-2
-    add-between
-    mul-between
-    add-between-2
-    between-requires
+    enum-known-state
+    add-begun
+    mul-begun
+    add-begun-2
+    begun-requires
     same-length
     returns
+    enum-told
     emit-default-requires
     add-read
     loop-less
     loop-again
-    add-between-3
-    mul-between-2
-    add-between-4
-    between-requires-2
+    add-between
+    mul-between
+    add-between-2
+    between-requires
     same-length-2
     returns-2)

@@ -5,11 +5,10 @@ use mathlib.Core.Path.{_≡_, sym, ap, _∙_}
 use Prim.Native.Nat.{ℕ}
 use native.Mathlib.Omega.{arith}
 use borrow.Author.Needs.{needs}
-use lib.ListN.{length, drop, length-append}
+use lib.ListN.{drop, length-append}
 use Rattle.automaton.specs.Sound.{modeAt}
 use Rattle.automaton.specs.Automaton.{fromWords}
-use Rattle.automaton.proofs.Laws.Words.{sound-header}
-use Rattle.reckoning.specs.Machine.{Fall, fall}
+use Rattle.reckoning.specs.Machine.{fall}
 use Rattle.session.specs.bridge.Running.{lent, fallOf}
 use Rattle.session.specs.declared.run.Fall.{Fall as Falls}
 use Rattle.session.proofs.Laws.Running.{mode-words}
@@ -27,12 +26,14 @@ start d = d .before .before .before .before .before
 fall-at-requires : tie.Need-fall-at-requires
 fall-at-requires c κs =
     let s = c .before .before .before .before in
-    (sound-header (s .args .words .now) (s .pre .0 .0) .long, omega (arith, s .pre .1, length-append (s .args .given .now) (s .args .piece .now)))
+    omega (arith, s .pre .1 .0, length-append (s .args .given .now) (s .args .piece .now))
 
 -- the fall, by the words and by their automaton
 told : (d : tie.After-fall-at) (f : Falls) → d .fall-at .result ≡ f →
     let a = start d .args in fall (modeAt (a .words .now)) (a .ended) (drop (a .run .from) (text (start d))) ≡ fallOf f
-told d f e = sym (d .fall-at .ensures) ∙ ap fallOf e
+told d f e =
+    let s = start d in
+    ap (λ m. fall m (s .args .ended) (drop (s .args .run .from) (text s))) (sym (s .pre .1 .1)) ∙ sym (d .fall-at .ensures) ∙ ap fallOf e
 
 falls : (d : tie.After-fall-at) (f : Falls) → d .fall-at .result ≡ f →
     let a = start d .args in fall (fromWords (a .words .now) .default) (a .ended) (drop (a .run .from) (text (start d))) ≡ fallOf f
@@ -55,7 +56,7 @@ take-one-requires c κs =
     let t = c .before .before in
     let d = t .before .before in
     let s = start d in
-    (s .pre .0, (s .pre .1, default-there (s .args .words .now) (drop (s .args .run .from) (text s)) (s .args .ended) _ _ (told d _ (t .enum-told2 .given .1))))
+    (s .pre .0, (s .pre .1 .0, default-there (s .args .words .now) (drop (s .args .run .from) (text s)) (s .args .ended) _ _ (told d _ (t .enum-told2 .given .1))))
 
 enum-told-3 : tie.Need-enum-told-3
 enum-told-3 c = search needs
@@ -65,7 +66,7 @@ take-pair-requires c κs =
     let t = c .before .before in
     let d = t .before .before in
     let s = start d in
-    (s .pre .0, pair-room (s .args .words .now) (text s) (s .args .run .from) (s .args .ended) (s .pre .0 .0) (s .pre .1) (told d _ (t .enum-told3 .given .1)))
+    (s .pre .0, pair-room (s .args .words .now) (text s) (s .args .run .from) (s .args .ended) (s .pre .0 .0) (s .pre .1 .0) (told d _ (t .enum-told3 .given .1)))
 
 enum-told-4 : tie.Need-enum-told-4
 enum-told-4 c = search needs
@@ -81,7 +82,7 @@ returns c =
     let d = t .before .before in
     let s = start d in
     let a = s .args in
-    stop-moves (a .words .now) (text s) (s .pre .0 .0) (a .run) (lent (a .output .now) (a .uses .now)) (s .pre .0 .1) (s .pre .0 .2) (c .halted .result) (a .ended) (s .pre .1)
+    stop-moves (a .words .now) (text s) (s .pre .0 .0) (a .run) (lent (a .output .now) (a .uses .now)) (s .pre .0 .1) (s .pre .0 .2) (c .halted .result) (a .ended) (s .pre .1 .0)
     (falls d _ (t .enum-told .given .1)) (c .halted .ensures)
 
 same-length : tie.Need-same-length
@@ -94,7 +95,7 @@ returns-2 c =
     let d = t .before .before in
     let s = start d in
     let a = s .args in
-    one-moves (a .words .now) (text s) (s .pre .0 .0) (a .run) (lent (a .output .now) (a .uses .now)) (s .pre .0 .1) (s .pre .0 .2) (k .take-one .result) (a .ended) (s .pre .1)
+    one-moves (a .words .now) (text s) (s .pre .0 .0) (a .run) (lent (a .output .now) (a .uses .now)) (s .pre .0 .1) (s .pre .0 .2) (k .take-one .result) (a .ended) (s .pre .1 .0)
     _ (k .take-one .ensures) (falls d _ (t .enum-told2 .given .1))
     (default-there (a .words .now) (drop (a .run .from) (text s)) (a .ended) _ _ (told d _ (t .enum-told2 .given .1)))
 
@@ -108,8 +109,8 @@ returns-3 c =
     let d = t .before .before in
     let s = start d in
     let a = s .args in
-    let room = pair-room (a .words .now) (text s) (a .run .from) (a .ended) (s .pre .0 .0) (s .pre .1) (told d _ (t .enum-told3 .given .1)) in
-    pair-moves (a .words .now) (text s) (s .pre .0 .0) (a .run) (lent (a .output .now) (a .uses .now)) (s .pre .0 .1) (s .pre .0 .2) (k .take-pair .result) (a .ended) (s .pre .1)
+    let room = pair-room (a .words .now) (text s) (a .run .from) (a .ended) (s .pre .0 .0) (s .pre .1 .0) (told d _ (t .enum-told3 .given .1)) in
+    pair-moves (a .words .now) (text s) (s .pre .0 .0) (a .run) (lent (a .output .now) (a .uses .now)) (s .pre .0 .1) (s .pre .0 .2) (k .take-pair .result) (a .ended) (s .pre .1 .0)
     _ (k .take-pair .ensures) (falls d _ (t .enum-told3 .given .1)) (room .0) (room .1)
 
 returns-4 : tie.Need-returns-4
@@ -118,7 +119,7 @@ returns-4 c =
     let d = t .before .before in
     let s = start d in
     let a = s .args in
-    leave-moves (a .words .now) (text s) (s .pre .0 .0) (a .run) (lent (a .output .now) (a .uses .now)) (s .pre .0 .1) (s .pre .0 .2) (c .leaving .result) (a .ended) (s .pre .1)
+    leave-moves (a .words .now) (text s) (s .pre .0 .0) (a .run) (lent (a .output .now) (a .uses .now)) (s .pre .0 .1) (s .pre .0 .2) (c .leaving .result) (a .ended) (s .pre .1 .0)
     (falls d _ (t .enum-told4 .given .1)) (c .leaving .ensures)
 
 pub roll-back-spec : {M : Type 1} → statement M

@@ -10,6 +10,7 @@ use lib.Dec.{eqb}
 use lib.ListN.{length, drop}
 use Rattle.meaning.specs.Meaning.{textOf}
 use Rattle.automaton.specs.Automaton.{fromWords}
+use Rattle.automaton.proofs.Laws.Words.{sound-header}
 use Rattle.reckoning.specs.Machine.{Ended, start, run}
 use Rattle.session.specs.bridge.Running.{put, Lent, lent, EndsAs, lessSteps}
 use Rattle.session.proofs.Laws.Running.{of-not-true, of-not-false, Stage, toGo, stage-on, ends-put, beyond-on}
@@ -18,20 +19,23 @@ use Rattle.session.proofs.run.run_from.Statement.{statement}
 use Rattle.session.proofs.run.run_from.Tie as tie
 
 abbrev Inv-loop : tie.InvT-loop
-Inv-loop words classes given piece ended uses₀ output₀ start ran₀ uses output ran =
+Inv-loop words classes given piece ended uses₀ output₀ mode start ran₀ uses output ran =
     Stage words (given ++ piece) ended (length output₀) (first words given piece ended (ran₀ .state .0)) uses₀ (ran .done) ran (lent output uses)
     × (length output ≡ length output₀)
     × (drop (ran .count) output ≡ drop (ran .count) output₀)
 
 abbrev μ-loop : tie.MeasureT-loop
-μ-loop words classes given piece ended uses₀ output₀ start ran₀ uses output ran = toGo (given ++ piece) (ran .done) ran
+μ-loop words classes given piece ended uses₀ output₀ mode start ran₀ uses output ran = toGo (given ++ piece) (ran .done) ran
+
+default-mode-requires : tie.Need-default-mode-requires Inv-loop μ-loop
+default-mode-requires c κs = let s = c .before .before .before .before .before in sound-header (s .args .words .now) (s .pre .1 .0 .0) .long
 
 beginning-requires : tie.Need-beginning-requires Inv-loop μ-loop
 beginning-requires c κs = search needs
 
 loop-holds : tie.Need-loop-holds Inv-loop μ-loop
 loop-holds c =
-    let s = c .before .before .before .before .before .before in
+    let s = c .before .before .before .before .before .before .before in
     let a = s .args in
     let asks = s .pre .1 in (
       begins-at (a .words .now) (a .given .now) (a .piece .now) (a .ended) (asks .0 .0) (a .state .0) (asks .0 .1) (lent (a .output .now) (a .uses .now)) (asks .1 .0 .1)
@@ -42,7 +46,7 @@ loop-holds c =
 
 -- a turn that is due, and the run that it is a part of
 abbrev begin : tie.Then1 Inv-loop μ-loop → tie.Start Inv-loop μ-loop
-begin t = t .before .before .before .before .before .before .before .before .before
+begin t = t .before .before .before .before .before .before .before .before .before .before
 
 abbrev text : tie.Then1 Inv-loop μ-loop → List ℕ
 text t = begin t .args .given .now ++ begin t .args .piece .now
@@ -68,10 +72,10 @@ advance-requires : tie.Need-advance-requires Inv-loop μ-loop
 advance-requires c κs =
     let t = c .before .before in
     let s = begin t in
-    ((s .pre .1 .0 .0, s .pre .0), (here t .0, here t .1))
+    ((s .pre .1 .0 .0, s .pre .0, t .before .before .before .before .default-mode .ensures), (here t .0, here t .1))
 
 abbrev after-advance : tie.After-advance Inv-loop μ-loop → Lent
-after-advance d = let last = d .advance .last .1 .1 .1 .1 .1 .1 in lent (last .1 .0) (last .0)
+after-advance d = let last = d .advance .last .1 .1 .1 .1 .1 .1 .1 in lent (last .1 .0) (last .0)
 
 went-on : (d : tie.After-advance Inv-loop μ-loop) →
     let t = d .before .before .before in
@@ -107,7 +111,7 @@ loop-again c =
 
 -- the run as it ended, and without what was counted before
 abbrev entry : tie.Else1 Inv-loop μ-loop → tie.Start Inv-loop μ-loop
-entry c = c .before .before .before .before .before .before .before .before .before
+entry c = c .before .before .before .before .before .before .before .before .before .before
 
 finished : (c : tie.Else1 Inv-loop μ-loop) →
     let l = c .before .before .loop in
@@ -158,6 +162,7 @@ run-from-spec =
     (tie.spec
     Inv-loop
     μ-loop
+    default-mode-requires
     beginning-requires
     loop-holds
     advance-requires

@@ -6,7 +6,7 @@ use Prim.Native.Nat.{ℕ, _+_, _*_, _≤_}
 use native.Mathlib.Nat.{mul-le-mul-left}
 use native.Mathlib.Omega.{arith}
 use borrow.Author.Needs.{needs}
-use lib.ListN.{length, take, drop, length-append, length-drop}
+use lib.ListN.{length, take, drop, length-drop}
 use lib.Seq.{length-take-le}
 use Rattle.meaning.specs.Table.{pairNumber}
 use Rattle.automaton.specs.Sound.{expansionWord}
@@ -29,17 +29,17 @@ room s any =
     let x : E * (s .args .run .from + 2) ≡ E * s .args .run .from + 2 * E = omega arith in
     omega (arith, P .written, P .enough any, s .pre .1 .1)
 
-write-pair-requires : tie.Need-write-pair-requires
-write-pair-requires c κs =
-    let s = c .before .before .before .before .before in
-    let a = s .args in
-    (s .pre .1 .0, (room s, turn-small (a .words .now) (text s) (length (a .output .now)) (a .run) (s .pre .0 .0) (s .pre .0 .1)))
-
 count-uses-requires : tie.Need-count-uses-requires
 count-uses-requires c κs =
-    let s = c .before .before .before .before .before .before .before .before .before in
+    let s = c .before .before .before .before .before in
     let C = s .pre .0 .2 in
     (C .whole, omega arith, counted-room (s .args .uses .now) _ 1 (s .args .run .from) C (omega (arith, s .pre .1 .0, s .pre .0 .1 .short)))
+
+write-pair-requires : tie.Need-write-pair-requires
+write-pair-requires c κs =
+    let s = c .before .before .before .before .before .before .before in
+    let a = s .args in
+    (s .pre .1 .0, (room s, turn-small (a .words .now) (text s) (length (a .output .now)) (a .run) (s .pre .0 .0) (s .pre .0 .1)))
 
 add-between : tie.Need-add-between
 add-between c =
@@ -59,10 +59,10 @@ same-length c = search needs
 
 returns : tie.Need-returns
 returns c =
-    let counted = c .before .before .before in
-    let d = counted .before .before .before .before in
+    let d = c .before .before .before .before .before in
     let wrote = d .write-pair .ensures in
-    let s = d .before .before .before .before .before .before in
+    let counted = d .before .before in
+    let s = counted .before .before .before .before .before .before in
     let a = s .args in
     let w = a .words .now in
     let word = take 2 (drop (a .run .from) (text s)) in
@@ -78,8 +78,8 @@ pub take-pair-spec : {M : Type 1} → statement M
 take-pair-spec =
     tie.close
     (tie.spec
-    write-pair-requires
     count-uses-requires
+    write-pair-requires
     add-between
     add-between-2
     between-requires

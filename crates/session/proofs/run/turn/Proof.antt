@@ -63,11 +63,11 @@ there j =
 read-on-requires : tie.Need-read-on-requires
 read-on-requires c κs = search needs
 
-sub-t14 : tie.Need-sub-t14
-sub-t14 c = search needs
+sub-t15 : tie.Need-sub-t15
+sub-t15 c = search needs
 
-add-t16 : tie.Need-add-t16
-add-t16 c = let P = here (c .before .before .before .before) in omega (arith, P .few, P .order, P .inside, P .short)
+add-t17 : tie.Need-add-t17
+add-t17 c = let P = here (c .before .before .before .before) in omega (arith, P .few, P .order, P .inside, P .short)
 
 add-if2 : tie.Need-add-if2
 add-if2 c =
@@ -106,7 +106,7 @@ fall-back-requires c κs =
     let n = e .before .before in
     let j = n .before in
     let s = begin (reached j) in
-    ((s .pre .0 .0, here (reached j), s .pre .1 .1), (there j, sym (n .accept-now .ensures) ∙ ap wordOf (e .enum-told .given .1)))
+    ((s .pre .0 .0, here (reached j), s .pre .1 .1), (there j, sym (n .accept-now .ensures) ∙ ap wordOf (e .enum-told .given .1), s .pre .0 .2))
 
 same-length : tie.Need-same-length
 same-length c = search needs
@@ -164,8 +164,8 @@ turn-spec =
     tie.close
     (tie.spec
     read-on-requires
-    sub-t14
-    add-t16
+    sub-t15
+    add-t17
     add-if2
     returns
     accept-now-requires
