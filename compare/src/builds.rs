@@ -2,43 +2,66 @@
 //! them beside each other: the functions of `include/cobbletwill.h`, safe to call, each
 //! by a pointer. `build.rs` links both, under names that begin with the build's.
 
+use std::sync::atomic::{AtomicUsize, Ordering};
+
 use crate::face::{Input, Session, USES_SIZE};
 
-/// Declares the functions of both builds, and gathers those of each.
+/// How many copies of a build there are, each at another place.
+pub const COPIES: usize = 4;
+
+/// The copy that is called, of every build.
+static COPY: AtomicUsize = AtomicUsize::new(0);
+
+/// From now on this copy is called, of every build.
+pub fn call_copy(copy: usize) {
+    COPY.store(copy % COPIES, Ordering::Relaxed);
+}
+
+/// Declares the functions of all copies of both builds, and gathers those of each.
 macro_rules! functions {
-    ($(fn $name:ident($($argument:ident: $type:ty),* $(,)?);)*) => {
-        /// The functions of a build, as C has them.
+    ($functions:tt) => {
+        gathered!($functions);
+
+        /// Of the library as it is now.
+const NOW_COPIES: [Functions; COPIES] = copies!($functions "now0" "now1" "now2" "now3");
+
+        /// Of the build before.
+        const BEFORE_COPIES: [Functions; COPIES] =
+    copies!($functions "before0" "before1" "before2" "before3");
+    };
+}
+
+/// The struct of the functions.
+macro_rules! gathered {
+    ({$(fn $name:ident($($argument:ident: $type:ty),* $(,)?);)*}) => {
+        /// The functions of a copy of a build, as C has them.
         struct Functions {
             $($name: unsafe extern "C" fn($($argument: $type),*) -> u32,)*
-        }
-
-        impl Functions {
-            /// Of the library as it is now.
-            const NOW: Functions = {
-                extern "C" {
-                    $(
-                        #[link_name = concat!("now_cobbletwill_", stringify!($name))]
-                        fn $name($($argument: $type),*) -> u32;
-                    )*
-                }
-                Functions { $($name),* }
-            };
-
-            /// Of the build before.
-            const BEFORE: Functions = {
-                extern "C" {
-                    $(
-                        #[link_name = concat!("before_cobbletwill_", stringify!($name))]
-                        fn $name($($argument: $type),*) -> u32;
-                    )*
-                }
-                Functions { $($name),* }
-            };
         }
     };
 }
 
-functions! {
+/// The functions of copies whose names begin so.
+macro_rules! copies {
+    ($functions:tt $($prefix:literal)*) => {
+        [$(copy!($prefix $functions)),*]
+    };
+}
+
+/// The functions of a copy.
+macro_rules! copy {
+    ($prefix:literal {$(fn $name:ident($($argument:ident: $type:ty),* $(,)?);)*}) => {{
+        extern "C" {
+            $(
+                #[link_name = concat!($prefix, "_cobbletwill_", stringify!($name))]
+                fn $name($($argument: $type),*) -> u32;
+            )*
+        }
+        Functions { $($name),* }
+    }};
+}
+
+functions! {{
     fn convert(
         table: *const u8,
         table_length: usize,
@@ -104,25 +127,25 @@ functions! {
         later_uses: *mut [u64; USES_SIZE],
         written: *mut u64,
     );
-}
+}}
 
 /// A build of the library. Its methods answer as the functions of [`crate::face`].
 pub struct Build {
     /// What it is called.
     pub name: &'static str,
-    functions: Functions,
+    copies: [Functions; COPIES],
 }
 
 /// The library as it is now.
 pub static NOW: Build = Build {
     name: "now",
-    functions: Functions::NOW,
+    copies: NOW_COPIES,
 };
 
 /// The library as it was before.
 pub static BEFORE: Build = Build {
     name: "before",
-    functions: Functions::BEFORE,
+    copies: BEFORE_COPIES,
 };
 
 // SAFETY, for each call: the functions are those of the header. Each pointer and length
@@ -132,6 +155,12 @@ pub static BEFORE: Build = Build {
 // A build from before request [8] has one count less, and so leaves the last, that of
 // pairs, as it is.
 impl Build {
+    /// The functions of the copy that is called.
+    #[inline]
+    fn functions(&self) -> &Functions {
+        &self.copies[COPY.load(Ordering::Relaxed)]
+    }
+
     /// Direct conversion.
     #[inline]
     pub fn convert(
@@ -144,7 +173,7 @@ impl Build {
     ) -> u32 {
         // SAFETY: as above.
         unsafe {
-            (self.functions.convert)(
+            (self.functions().convert)(
                 table.as_ptr(),
                 table.len(),
                 input.as_ptr(),
@@ -162,7 +191,7 @@ impl Build {
     pub fn from_text(&self, text: &[u16], table: &mut [u8], length: &mut u64) -> u32 {
         // SAFETY: as above.
         unsafe {
-            (self.functions.from_text)(
+            (self.functions().from_text)(
                 text.as_ptr(),
                 text.len(),
                 table.as_mut_ptr(),
@@ -177,7 +206,7 @@ impl Build {
     pub fn compile(&self, table: &[u8], words: &mut [u16]) -> u32 {
         // SAFETY: as above.
         unsafe {
-            (self.functions.compile)(table.as_ptr(), table.len(), words.as_mut_ptr(), words.len())
+            (self.functions().compile)(table.as_ptr(), table.len(), words.as_mut_ptr(), words.len())
         }
     }
 
@@ -186,7 +215,7 @@ impl Build {
     pub fn witness(&self, table: &[u8], words: &mut [u16], rule: u32, input: &mut Input) -> u32 {
         // SAFETY: as above.
         unsafe {
-            (self.functions.witness)(
+            (self.functions().witness)(
                 table.as_ptr(),
                 table.len(),
                 words.as_mut_ptr(),
@@ -201,7 +230,7 @@ impl Build {
     #[inline]
     pub fn is_sound(&self, words: &[u16]) -> u32 {
         // SAFETY: as above.
-        unsafe { (self.functions.is_sound)(words.as_ptr(), words.len()) }
+        unsafe { (self.functions().is_sound)(words.as_ptr(), words.len()) }
     }
 
     /// A feed.
@@ -217,7 +246,7 @@ impl Build {
         let session: *mut Session = session;
         // SAFETY: as above.
         unsafe {
-            (self.functions.feed_parts)(
+            (self.functions().feed_parts)(
                 words.as_ptr(),
                 words.len(),
                 session,
@@ -243,7 +272,7 @@ impl Build {
         let session: *mut Session = session;
         // SAFETY: as above.
         unsafe {
-            (self.functions.finish_parts)(
+            (self.functions().finish_parts)(
                 words.as_ptr(),
                 words.len(),
                 session,
@@ -268,7 +297,7 @@ impl Build {
         let later: *mut Session = later;
         // SAFETY: as above.
         unsafe {
-            (self.functions.preview_parts)(
+            (self.functions().preview_parts)(
                 words.as_ptr(),
                 words.len(),
                 session,

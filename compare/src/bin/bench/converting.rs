@@ -12,7 +12,7 @@ use crate::timing::{best, nanoseconds, worked};
 use crate::versions::Version;
 
 /// Runs of each conversion, of which the best counts.
-const RUNS: usize = 25;
+const RUNS: usize = 32;
 
 /// Prints the times.
 pub fn print() {

@@ -3,6 +3,8 @@
 use std::hint::black_box;
 use std::time::Duration;
 
+use compare::builds::call_copy;
+
 /// The declaration of the C library's clocks on x86-64 Linux.
 mod c {
     /// The clock of the processor time that a thread has taken.
@@ -40,7 +42,8 @@ pub fn worked<T>(run: impl FnOnce() -> T) -> (T, Duration) {
 }
 
 /// The best time of each contender over so many turns. In every other turn they come in
-/// the reverse order, so that none always follows the same one.
+/// the reverse order, so that none always follows the same one; after two turns the next
+/// copy of each build is called, so that no place of its machine code tells.
 pub fn best<T: Copy>(
     turns: usize,
     contenders: &[T],
@@ -48,6 +51,7 @@ pub fn best<T: Copy>(
 ) -> Vec<Duration> {
     let mut best = vec![Duration::MAX; contenders.len()];
     for turn in 0..turns {
+        call_copy(turn / 2);
         for place in 0..contenders.len() {
             let who = match turn % 2 {
                 0 => place,
