@@ -721,16 +721,22 @@ fn pass_defaults<'a>(
         run (lent (now (output .entry)) (now (uses .entry))) r (lent (now (output .exit)) (now (uses .exit))) ⌝ }
     ensures { λ r. ⌜ Counted (now (uses .exit)) (r .from) × Beyond run (now (output .entry)) r (now (output .exit)) ⌝ }
 {
-    if run.from < run.at {
+    if run.from != run.at {
         return run;
     }
-    let next = match mode {
-        Mode::Absent => return run,
-        Mode::Single => emit_defaults(words, classes, given, piece, run, output),
-        Mode::Paired => emit_singles(words, classes, given, piece, run, output),
-    };
-    count_uses(uses, DEFAULT_RULE, (next.from - run.from) as u64);
-    next
+    match mode {
+        Mode::Absent => run,
+        Mode::Single => {
+            let next = emit_defaults(words, classes, given, piece, run, output);
+            count_uses(uses, DEFAULT_RULE, (next.from - run.from) as u64);
+            next
+        }
+        Mode::Paired => {
+            let next = emit_singles(words, classes, given, piece, run, output);
+            count_uses(uses, DEFAULT_RULE, (next.from - run.from) as u64);
+            next
+        }
+    }
 }
 
 // What the default does between two words comes first, then a turn.

@@ -1,12 +1,11 @@
 -- `run::pass_defaults` meets its contract: nothing is done, or defaults are emitted and counted.
 -- Assumes nothing.
 use mathlib.Core.List.{List, _++_}
-use mathlib.Core.Logic.{⊎-elim}
 use mathlib.Core.Path.{_≡_, refl, sym, ap, subst, _∙_}
-use Prim.Native.Nat.{ℕ, _-_}
+use Prim.Native.Nat.{ℕ, _+_, _-_, _<_}
 use native.Mathlib.Omega.{arith}
 use borrow.Author.Needs.{needs}
-use lib.ListN.{length}
+use lib.ListN.{length, getD}
 use Rattle.meaning.specs.Table.{defaultNumber}
 use Rattle.rules.specs.bridge.Modes.{theMode}
 use Rattle.session.specs.bridge.Counting.{bumped, Counted}
@@ -75,47 +74,78 @@ Emitted s next output =
     (length output ≡ length (a .output .now))
     × (PassesByDefaults (a .words .now) (text s) (a .run) (a .output .now) next output × Beyond (a .run) (a .output .now) next output)
 
-emitted : (j : tie.At-match-came) → Emitted (begin (j .before)) (j .match .next) (j .match .output)
-emitted j =
-    ⊎-elim (λ w. same _ _ _ _ (w .7) (w .6) (w .4 .given, w .3 .ensures)) (λ w. same _ _ _ _ (w .7) (w .6) (w .4 .given, w .3 .ensures)) (j .match .came)
-  where
-    same : (next next′ : Ran) (output output′ : List ℕ) → next ≡ next′ → output ≡ output′ → Emitted (begin (j .before)) next′ output′ → Emitted (begin (j .before)) next output
-    same next next′ output output′ e f g = subst (λ n. Emitted (begin (j .before)) n output) (sym e) (subst (Emitted (begin (j .before)) next′) (sym f) g)
+module _ (s : tie.Start) (next : Ran) (output : List ℕ) (E : Emitted s next output) where
+  passes : let a = s .args in
+      Passes (a .words .now) (text s) (length (a .output .now)) (a .run) (lent (a .output .now) (a .uses .now)) next
+      (lent output (bumped (a .uses .now) defaultNumber (next .from - a .run .from)))
+  passes = E .1 .0 .1 (s .args .uses .now) (s .pre .1 .1 .whole)
+
+  room : getD (s .args .uses .now) defaultNumber 0 + (next .from - s .args .run .from) < 18446744073709551616
+  room =
+      let P = passes .0 in
+      counted-room (s .args .uses .now) defaultNumber (next .from - s .args .run .from) (s .args .run .from) (s .pre .1 .1) (omega (arith, E .1 .0 .0, P .order, P .inside, P .short))
+
+  counted : (uses : List ℕ) → uses ≡ bumped (s .args .uses .now) defaultNumber (next .from - s .args .run .from) →
+      let a = s .args in
+      Passes (a .words .now) (text s) (length (a .output .now)) (a .run) (lent (a .output .now) (a .uses .now)) next (lent output uses)
+      × (Counted uses (next .from) × Beyond (a .run) (a .output .now) next output)
+  counted uses e =
+      let a = s .args in
+      let h = E .1 .0 .0 in
+      let more = counted-bumped (a .uses .now) defaultNumber (next .from - a .run .from) (a .run .from) (next .from) (s .pre .1 .1) (omega arith) in (
+        subst (λ l. Passes (a .words .now) (text s) (length (a .output .now)) (a .run) (lent (a .output .now) (a .uses .now)) next (lent output l)) (sym e) passes,
+        (subst (λ l. Counted l (next .from)) (sym e) more, E .1 .1),
+      )
+
+-- by the one
+
+abbrev wrote : tie.After-output → List ℕ
+wrote o = o .before .emit-defaults .last .1 .1 .1 .1 .1 .0
+
+emitted : (o : tie.After-output) → Emitted (begin (o .before .before .before .before .before)) (o .before .emit-defaults .result) (wrote o)
+emitted o = (o .output .given, o .before .emit-defaults .ensures)
 
 sub-count-uses : tie.Need-sub-count-uses
-sub-count-uses c = emitted (c .before .before .before) .1 .0 .0
-
-passes : (j : tie.At-match-came) → let a = begin (j .before) .args in
-    Passes (a .words .now) (text (begin (j .before))) (length (a .output .now)) (a .run) (lent (a .output .now) (a .uses .now)) (j .match .next)
-    (lent (j .match .output) (bumped (a .uses .now) defaultNumber (j .match .next .from - a .run .from)))
-passes j = let s = begin (j .before) in emitted j .1 .0 .1 (s .args .uses .now) (s .pre .1 .1 .whole)
+sub-count-uses c = emitted (c .before .before .before .before) .1 .0 .0
 
 count-uses-requires : tie.Need-count-uses-requires
 count-uses-requires c κs =
-    let j = c .before .before .before in
-    let s = begin (j .before) in
-    let a = s .args in
-    let next = j .match .next in
-    let P = passes j .0 in
-    let h = emitted j .1 .0 .0 in
-    let C = s .pre .1 .1 in
-    (C .whole, omega arith, counted-room (a .uses .now) defaultNumber (next .from - a .run .from) (a .run .from) C (omega (arith, h, P .order, P .inside, P .short)))
+    let o = c .before .before .before .before in
+    let s = begin (o .before .before .before .before .before) in
+    (s .pre .1 .1 .whole, omega arith, room s (o .before .emit-defaults .result) (wrote o) (emitted o))
 
 same-length : tie.Need-same-length
-same-length c = emitted (c .before .before .before .before) .0
+same-length c = emitted (c .before .before .before .before .before) .0
 
 returns-3 : tie.Need-returns-3
 returns-3 c =
-    let j = c .before .before .before .before in
-    let s = begin (j .before) in
-    let a = s .args in
-    let next = j .match .next in
-    let h = emitted j .1 .0 .0 in
-    let e = c .count-uses .ensures in
-    let more = counted-bumped (a .uses .now) defaultNumber (next .from - a .run .from) (a .run .from) (next .from) (s .pre .1 .1) (omega arith) in (
-      subst (λ l. Passes (a .words .now) (text s) (length (a .output .now)) (a .run) (lent (a .output .now) (a .uses .now)) next (lent (j .match .output) l)) (sym e) (passes j),
-      (subst (λ l. Counted l (next .from)) (sym e) more, emitted j .1 .1),
-    )
+    let o = c .before .before .before .before .before in
+    counted (begin (o .before .before .before .before .before)) (o .before .emit-defaults .result) (wrote o) (emitted o) _ (c .count-uses .ensures)
+
+-- and by the other
+
+abbrev wrote-singles : tie.After-output2 → List ℕ
+wrote-singles o = o .before .emit-singles .last .1 .1 .1 .1 .1 .0
+
+emitted-singles : (o : tie.After-output2) → Emitted (begin (o .before .before .before .before .before)) (o .before .emit-singles .result) (wrote-singles o)
+emitted-singles o = (o .output2 .given, o .before .emit-singles .ensures)
+
+sub-count-uses-2 : tie.Need-sub-count-uses-2
+sub-count-uses-2 c = emitted-singles (c .before .before .before .before) .1 .0 .0
+
+count-uses-requires-2 : tie.Need-count-uses-requires-2
+count-uses-requires-2 c κs =
+    let o = c .before .before .before .before in
+    let s = begin (o .before .before .before .before .before) in
+    (s .pre .1 .1 .whole, omega arith, room s (o .before .emit-singles .result) (wrote-singles o) (emitted-singles o))
+
+same-length-2 : tie.Need-same-length-2
+same-length-2 c = emitted-singles (c .before .before .before .before .before) .0
+
+returns-4 : tie.Need-returns-4
+returns-4 c =
+    let o = c .before .before .before .before .before in
+    counted (begin (o .before .before .before .before .before)) (o .before .emit-singles .result) (wrote-singles o) (emitted-singles o) _ (c .count-uses2 .ensures)
 
 pub pass-defaults-spec : {M : Type 1} → statement M
 pass-defaults-spec =
@@ -123,12 +153,16 @@ pass-defaults-spec =
     (tie.spec
     returns
     enum-told
-    returns-2
     enum-told-2
     emit-defaults-requires
-    enum-told-3
-    emit-singles-requires
     sub-count-uses
     count-uses-requires
+    enum-told-3
+    emit-singles-requires
+    sub-count-uses-2
+    count-uses-requires-2
+    returns-2
     same-length
-    returns-3)
+    returns-3
+    same-length-2
+    returns-4)
