@@ -1,6 +1,5 @@
 -- Request [8] of document 02, "Pairs outside the basic plane": its record, what Definition 7 so amended chooses and writes, and E, one field a
 -- sentence.
-use mathlib.Core.Bool.{false}
 use mathlib.Core.List.{List, [], _∷_, _++_}
 use mathlib.Core.Logic.{_≢_}
 use mathlib.Core.Option.{some}
@@ -14,7 +13,7 @@ use Rattle.meaning.specs.WellFormed.{WellFormed}
 use Rattle.meaning.specs.Record.{default, decode}
 use Rattle.meaning.specs.Records.{defaultRecord}
 use Rattle.meaning.specs.Reader.{Reading, readOne}
-use Rattle.meaning.specs.Meaning.{fits, startsPair, choose, written, chosen, convert, meaningText}
+use Rattle.meaning.specs.Meaning.{fits, choose, written, chosen, convert, meaningText}
 
 -- eight bytes of kind 5 with m in byte 1
 abbrev pub defaultWith : ℕ → List ℕ
@@ -23,6 +22,10 @@ defaultWith m = 5 ∷ m ∷ 0 ∷ 0 ∷ 0 ∷ 0 ∷ 0 ∷ 0 ∷ []
 -- "no rule fits" what is next
 abbrev pub NoneFits : Table → List ℕ → Type 0
 NoneFits t rest = (r : ℕ) → r < length (t .rules) → T (fits (ruleAt t r) rest) → ⊥
+
+-- x is not the first unit of a pair: it is last, or it is no first unit, or no second unit comes next
+abbrev pub Alone : ℕ → List ℕ → Type 0
+Alone x rest = (y : ℕ) (more : List ℕ) → rest ≡ y ∷ more → T (isFirst x) → T (isSecond y) → ⊥
 
 -- the text, and the choice that it begins with, of an input whose first word is written as out
 pub record Writes (t : Table) (n : ℕ) (word out rest : List ℕ) : Type 0 where
@@ -42,7 +45,7 @@ pub record PairsMeant : Type 0 where
   pub both : (t : Table) → mode t ≡ Paired → (x y : ℕ) (rest : List ℕ) → T (isFirst x) → T (isSecond y) → NoneFits t (x ∷ y ∷ rest) →
       Writes t pairNumber (x ∷ y ∷ []) (x ∷ y ∷ []) rest
   -- where they are none, also of a first unit "at the input's end", one "is treated alone", as the default's group says
-  pub alone : (t : Table) → WellFormed t → mode t ≡ Paired → (x : ℕ) (rest : List ℕ) → startsPair (x ∷ rest) ≡ false → NoneFits t (x ∷ rest) →
+  pub alone : (t : Table) → WellFormed t → mode t ≡ Paired → (x : ℕ) (rest : List ℕ) → Alone x rest → NoneFits t (x ∷ rest) →
       Writes t defaultNumber (x ∷ []) (written (group t defaultNumber) (x ∷ [])) rest
   -- without the mark no pair is chosen
   pub unmarked : (t : Table) → WellFormed t → mode t ≢ Paired → (rest : List ℕ) → choose t rest ≢ some pairNumber

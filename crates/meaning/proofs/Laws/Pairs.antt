@@ -1,6 +1,6 @@
 -- What request [8] says of records, of Definition 7 and of E.
 -- The choice where no rule fits is computed by the mode; what follows it is the conversion of the rest.
-use mathlib.Core.Bool.{_&&_, cond}
+use mathlib.Core.Bool.{false, _&&_, cond}
 use mathlib.Core.List.{List, [], _∷_, _++_}
 use mathlib.Core.Logic.{_≢_}
 use mathlib.Core.Option.{Option, none, some}
@@ -11,13 +11,13 @@ use borrow.Author.Tests.{lt-leb}
 use lib.Dec.{T, leb, leb→le}
 use lib.ListN.{length, drop, length-append}
 use lib.Seq.{take-at, drop-at}
-use Rattle.lists.proofs.Laws.Tests.{of-T, both, and-left, and-right}
+use Rattle.lists.proofs.Laws.Tests.{of-T, test-eq, both, and-left, and-right}
 use Rattle.meaning.specs.Refusal.{refused}
-use Rattle.meaning.specs.Table.{Paired, Table, mode, present, least, firstUnits, secondUnits, isFirst, isSecond, ruleAt, group, defaultNumber, pairNumber, expansion}
+use Rattle.meaning.specs.Table.{Paired, Table, mode, present, least, firstUnits, secondUnits, isFirst, isSecond, isPair, ruleAt, group, defaultNumber, pairNumber, expansion}
 use Rattle.meaning.specs.Record.{decode}
 use Rattle.meaning.specs.Reader.{Reading, readOne}
-use Rattle.meaning.specs.Meaning.{fits, best, orDefault, choose, written, textOf, chosen, convert, meaningText}
-use Rattle.meaning.specs.Pairs.{defaultWith, NoneFits, Writes, PairsMeant}
+use Rattle.meaning.specs.Meaning.{fits, best, startsPair, orDefault, choose, written, textOf, chosen, convert, meaningText}
+use Rattle.meaning.specs.Pairs.{defaultWith, NoneFits, Alone, Writes, PairsMeant}
 use Rattle.meaning.proofs.Laws.Groups.{group-pair, default-size, least-le, written-pair}
 use Rattle.meaning.proofs.Laws.Choice.{fits-facts, facts-fit, Chosen, best-chosen, choose-is, Numbered, plain, paired, choose-number}
 use Rattle.meaning.proofs.Laws.Decoding.{refuses, decode-default}
@@ -49,6 +49,12 @@ no-both x f s =
     let most : ℕ = firstUnits .highest in
     omega (arith, leb→le x most (and-right (leb (firstUnits .lowest) x) (leb x most) f), leb→le least x (and-left (leb least x) (leb x (secondUnits .highest)) s))
 
+-- a unit that is alone starts no pair
+starts-none : (x : ℕ) (rest : List ℕ) → Alone x rest → startsPair (x ∷ rest) ≡ false
+starts-none x [] h = refl
+starts-none x (y ∷ rest) h =
+    test-eq (isPair x y) false (λ t. h y rest refl (and-left (isFirst x) (isSecond y) t) (and-right (isFirst x) (isSecond y) t)) (λ u. absurd u)
+
 -- the choice is that among the rules where one fits
 rule-first : (t : Table) (rest : List ℕ) (r : ℕ) → r < length (t .rules) → T (fits (ruleAt t r) rest) →
     (n : ℕ) × (choose t rest ≡ some n) × (n < length (t .rules))
@@ -75,7 +81,7 @@ pairs-meant =
           (ap (λ k. written k (x ∷ y ∷ [])) (group-pair t) ∙ written-pair x y);
       alone = λ t W m x rest n h.
           writes-first t defaultNumber (x ∷ []) _ rest (omega arith) (default-size t (well-formed-shaped t W) (ap present m))
-          (none-fits t (x ∷ rest) m h ∙ ap (λ b. some (cond b pairNumber defaultNumber)) n) refl;
+          (none-fits t (x ∷ rest) m h ∙ ap (λ b. some (cond b pairNumber defaultNumber)) (starts-none x rest n)) refl;
       unmarked = λ t W m rest e. no-pair t m rest (choose-number t (well-formed-shaped t W) rest pairNumber e);
       at-least = λ t m. subst (λ k. least k ≤ expansion t) m (least-le t);
     }
