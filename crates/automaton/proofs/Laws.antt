@@ -37,3 +37,4 @@ pub mod Meeting
 pub mod Noting
 pub mod Building
 pub mod Looking
+pub mod Undecided

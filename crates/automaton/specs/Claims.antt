@@ -46,6 +46,14 @@ pub record KeepsCompiling (b : List ℕ) (t : Table) : Type 0 where
   pub classes : length (starts t) ≤ 64
   pub states : length (states t) ≤ 256
 
+-- The words w are as compiling leaves them, for a table that keeps the rules for it and means t.
+pub record Compiled (t : Table) (w : List ℕ) : Type 0 where
+  pub table : List ℕ
+  pub buffer : List ℕ
+  pub keeps : KeepsCompiling table t
+  pub room : wordCount ≤ length buffer
+  pub left : w ≡ compile table buffer .words
+
 -- Demand 1: "Compiling refused by 1 to 9 leaves its 19,961 words zero; every other refusal changes nothing. Words beyond those written stay
 -- as found."
 pub record CompileAnswers (b buffer : List ℕ) : Type 0 where
@@ -70,4 +78,4 @@ pub record CompileRefuses (b buffer : List ℕ) : Type 0 where
 
 -- "Compiled words are sound": those that compiling leaves for a table that it accepts, with whatever stood behind them.
 unfoldable pub CompiledSound : Type 0
-CompiledSound = (b buffer : List ℕ) (t : Table) → KeepsCompiling b t → wordCount ≤ length buffer → T (sound (compile b buffer .words))
+CompiledSound = (t : Table) (w : List ℕ) → Compiled t w → T (sound w)

@@ -27,6 +27,7 @@ pub mod Choosing
 pub mod Sums
 pub mod Writing
 pub mod Pairs
+pub mod Completing
 pub mod Extremes
 pub mod Rows
 pub mod Loaded

@@ -1,6 +1,7 @@
--- What Definition 7 chooses at each place of an input: "Rules that can never be chosen".
+-- What Definition 7 chooses at each place of an input: "Rules that can never be chosen", "Nothing held without need".
 use mathlib.Core.Bool.{Bool, true, false, cond}
-use mathlib.Core.List.{List, [], _∷_}
+use mathlib.Core.List.{List, [], _∷_, _++_}
+use mathlib.Core.Logic.{_≢_}
 use mathlib.Core.Option.{Option, none, some}
 use mathlib.Core.Path.{_≡_}
 use Prim.Native.Nat.{ℕ, zero, suc, _-_, _≤_}
@@ -9,7 +10,8 @@ use lib.ListN.{length}
 use Rattle.meaning.specs.Table.{Characters, Table, defaultNumber, pairNumber}
 use Rattle.meaning.specs.Meaning.{Emission, convert}
 
--- what is chosen at a place: a rule, the default on one unit, the default on a pair, or the stop where no rule fits and there is no default
+-- what is chosen at a place: "A choice is a rule, the default on one unit, the default on a pair, or the stop.", where no rule fits and there is
+-- no default
 pub data Choice : Type 0 where
   theRule : ℕ → Choice
   theDefault : Choice
@@ -61,3 +63,23 @@ pub record Shows (t : Table) (r : ℕ) (v : List ℕ) : Type 0 where
 abbrev pub Verdict : Table → ℕ → Option (List ℕ) → Type 0
 Verdict t r none = Dead t r
 Verdict t r (some v) = Shows t r v
+
+-- "there are two ways for the input to go on, ending there included, under which the definition makes different choices" at place p
+pub record Undecided (t : Table) (u : List ℕ) (p : ℕ) : Type 0 where
+  pub one : List ℕ
+  pub other : List ℕ
+  pub one-characters : Characters one
+  pub other-characters : Characters other
+  pub one-choice : Choice
+  pub other-choice : Choice
+  pub one-chosen : chosenAt t (u ++ one) p ≡ some one-choice
+  pub other-chosen : chosenAt t (u ++ other) p ≡ some other-choice
+  pub differ : one-choice ≢ other-choice
+
+-- What is chosen at place p, or that nothing is, is the same however the input goes on, ending there included.
+unfoldable pub Decided : Table → List ℕ → ℕ → Type 0
+Decided t u p = (more : List ℕ) → Characters more → chosenAt t (u ++ more) p ≡ chosenAt t u p
+
+-- no place is both
+unfoldable pub NeverBoth : Type 0
+NeverBoth = (t : Table) (u : List ℕ) (p : ℕ) → Decided t u p → Undecided t u p → ⊥

@@ -3,13 +3,10 @@ use mathlib.Core.Bool.{Bool, true}
 use mathlib.Core.List.{List, _++_}
 use mathlib.Core.Logic.{_≢_, _↔_}
 use mathlib.Core.Path.{_≡_}
-use Prim.Native.Nat.{ℕ, _≤_}
-use lib.ListN.{length}
+use Prim.Native.Nat.{ℕ}
 use Rattle.meaning.specs.Table.{Characters, Table}
 use Rattle.meaning.specs.Meaning.{convert, meaningText, meaningPlace}
-use Rattle.automaton.specs.Layout.{wordCount}
-use Rattle.automaton.specs.Compile.{compile}
-use Rattle.automaton.specs.Claims.{KeepsCompiling}
+use Rattle.automaton.specs.Claims.{Compiled}
 use Rattle.reckoning.specs.Machine.{Open, Closed}
 use Rattle.reckoning.specs.Session.{Session}
 use Rattle.reckoning.specs.Reckoning.{ran}
@@ -28,6 +25,6 @@ pub record Prints (t : Table) (input printed : List ℕ) (s : Session) : Type 0 
 -- of every table that keeps the rules for compiling, and every list of turns under its words
 unfoldable pub PrintsMeaning : Type 0
 PrintsMeaning =
-    (table found : List ℕ) (t : Table) → KeepsCompiling table t → wordCount ≤ length found →
-    (input printed : List ℕ) (s : Session) (going : Bool) → Characters input → Turns (compile table found .words) input printed s going →
+    (t : Table) (w : List ℕ) → Compiled t w →
+    (input printed : List ℕ) (s : Session) (going : Bool) → Characters input → Turns w input printed s going →
     s .status ≢ Open → Prints t input printed s

@@ -8,6 +8,7 @@ use Rattle.lists.specs.Decide.{allOf}
 use Rattle.meaning.specs.Table.{Table}
 use Rattle.meaning.specs.WellFormed.{WellFormed}
 use Rattle.meaning.specs.Claims.{CheckAccepts, CheckRefuses, ValuesTested, DirectAnswers, DirectAccepts, DirectRefuses}
+use Rattle.meaning.specs.Choices.{NeverBoth}
 use Rattle.meaning.specs.Answered.{tableOrder, EndsApart}
 use Rattle.meaning.specs.Digits.{DigitsOut}
 use Rattle.meaning.specs.AnyOrder.{TermsInAnyOrder}
@@ -20,12 +21,12 @@ use Rattle.automaton.specs.Witness.{RulesChecked, SecondOfT3}
 use Rattle.automaton.specs.AnyOrder.{CompiledAlike}
 use Rattle.automaton.specs.Pairs.{PairWords}
 use Rattle.reckoning.specs.Claims.{OutcomesAgree, CallsAnswer, CallsKeep, SoundAddsUp, RefusesOthers}
-use Rattle.reckoning.specs.Serves.{Demand3, UsesAddUp, Serves}
+use Rattle.reckoning.specs.Serves.{Demand3, UsesAddUp, NothingHeld, Serves}
 use Rattle.reckoning.specs.Answered.{callOrder}
 use Rattle.reckoning.specs.Append.{FeedsJoin, PartsAccepted, StopsJoin, FinishJoins}
 use Rattle.reckoning.specs.Preview.{LooksAhead}
 use Rattle.reckoning.specs.Examples.{holds, rows}
-use Rattle.reckoning.specs.Instances.{Instances}
+use Rattle.reckoning.specs.Instances.{Instances, HeldInstances}
 use Rattle.reckoning.specs.Pairs.{PairsRun}
 use Rattle.typed.specs.Claims.{TypedRules}
 use Rattle.session.specs.Caller as Code
@@ -161,6 +162,11 @@ pub record Promises : Type 2 where
   pub pair-words : PairWords
   -- A pair costs two takes and one emit after the back; a first unit with nothing readable after it is held at state 0, its back counted once, and sound sessions allow just this
   pub pairs-run : PairsRun
+  -- # Request [9]: nothing held without need
+  -- After any list of calls, in Rattle or in C, an open session that holds characters has two ways for the input to go on, ending there included, under which Definition 7 makes different choices at the first one's place; before it every choice is the same however the input goes on
+  pub nothing-held : NothingHeld Code.caller × NothingHeld Face.caller
+  -- No place has both
+  pub never-both : NeverBoth
   -- # The program
   -- For some input of as many bytes as were read, it hands to its writes what the list of turns prints, each from the session that the last one left, the first from a fresh one under compiling's words; or compiling's refusal, and reads nothing
   pub program : Program
@@ -171,6 +177,8 @@ pub record Promises : Type 2 where
   pub rows : T (all holds rows)
   -- Demand 3 on two lists of calls, with document 01's values, and on one of pairs
   pub instances : Instances
+  -- Request [9] on two more, T1 after `A&#` and a first unit of a pair, each with two ways to go on
+  pub held-instances : HeldInstances
   -- T3's second rule is dead, and its first is not
   pub second-of-t3 : SecondOfT3
   -- A caller who converts an input in two pieces has demand 3 of what is written and left

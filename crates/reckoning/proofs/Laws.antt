@@ -10,6 +10,7 @@ pub mod Whole
 pub mod Swap
 pub mod Calls
 pub mod Demand3
+pub mod Needs
 pub mod InTurn
 pub mod Serves
 pub mod Examples

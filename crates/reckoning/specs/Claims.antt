@@ -11,10 +11,8 @@ use Rattle.meaning.specs.Refusal.{refused, accepted, RefusedBy}
 use Rattle.meaning.specs.Table.{Characters, Table, longest, defaultNumber, pairNumber}
 use Rattle.meaning.specs.Block.{at}
 use Rattle.meaning.specs.Meaning.{covered, convert, meaningText, meaningPlace}
-use Rattle.automaton.specs.Layout.{wordCount}
 use Rattle.automaton.specs.Sound.{ruleCount, sound}
-use Rattle.automaton.specs.Compile.{compile}
-use Rattle.automaton.specs.Claims.{KeepsCompiling}
+use Rattle.automaton.specs.Claims.{Compiled}
 use Rattle.automaton.specs.Automaton.{Automaton, fromTable}
 use Rattle.reckoning.specs.Machine.{Configuration, Status, Open, Closed, Stopped, Ended}
 use Rattle.reckoning.specs.Uses.{usesOf, charactersUsed}
@@ -81,9 +79,7 @@ Agreed t cs v = let i = reckon t cs noInput in Agrees t cs v i (ran t (i .charac
 -- machine from a fresh session, refused ones included, whatever the pieces and output lengths."
 unfoldable pub OutcomesAgree : Type 0
 OutcomesAgree =
-    (b buffer : List ℕ) (t : Table) → KeepsCompiling b t → wordCount ≤ length buffer →
-    (cs : List Call) → Each (λ c. Characters (piece c)) cs →
-    Agreed t cs (serve (compile b buffer .words) cs unserved)
+    (t : Table) (w : List ℕ) → Compiled t w → (cs : List Call) → Each (λ c. Characters (piece c)) cs → Agreed t cs (serve w cs unserved)
 
 -- Demand 1 for a feed or finish that found the session s and the buffer, and came to o: "an accepted answer or one of the numbered
 -- refusals"; "every other refusal changes nothing. Words beyond those written stay as found."

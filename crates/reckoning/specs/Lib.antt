@@ -5,6 +5,7 @@ pub mod Calls
 pub mod Reckoning
 pub mod Claims
 pub mod InTurn
+pub mod Needs
 pub mod Serves
 pub mod Append
 pub mod Preview

@@ -22,7 +22,7 @@ use Rattle.automaton.specs.Classes.{starts}
 use Rattle.automaton.specs.States.{states}
 use Rattle.automaton.specs.Layout.{wordCount, words}
 use Rattle.automaton.specs.Compile.{small, compilable, compileBy, compile}
-use Rattle.automaton.specs.Claims.{KeepsCompiling, CompileAnswers, CompileAccepts, CompileRefuses, CompiledSound}
+use Rattle.automaton.specs.Claims.{KeepsCompiling, Compiled, CompileAnswers, CompileAccepts, CompileRefuses, CompiledSound}
 use Rattle.automaton.proofs.Laws.Places.{length-words}
 use Rattle.automaton.proofs.Laws.Sound.{compiled-sound}
 
@@ -169,10 +169,17 @@ module _ (b buffer : List ℕ) where
         room = λ e. reason 10 e .no-room refl;
       }
 
--- COMPILED WORDS ARE SOUND
+-- COMPILED WORDS
+
+pub compiled-by : (b buffer : List ℕ) (t : Table) → KeepsCompiling b t → wordCount ≤ length buffer → Compiled t (compile b buffer .words)
+compiled-by b buffer t k h = record { table = b; buffer = buffer; keeps = k; room = h; left = refl }
+
+pub compiled-words : (t : Table) (w : List ℕ) (C : Compiled t w) → w ≡ words t ++ drop wordCount (C .buffer)
+compiled-words t w C = C .left ∙ compile-accepts (C .table) (C .buffer) .keeping t (C .keeps) (C .room) .1
 
 pub compiling-sound : CompiledSound
 unfolding CompiledSound
-compiling-sound b buffer t k h =
-    rw (compile-accepts b buffer .keeping t k h .1)
-    (compiled-sound t (drop wordCount buffer) (well-formed-shaped t (k .keeps .well-formed)) (k .classes) (k .states))
+compiling-sound t w C =
+    let k = C .keeps in
+    rw (compiled-words t w C)
+    (compiled-sound t (drop wordCount (C .buffer)) (well-formed-shaped t (k .keeps .well-formed)) (k .classes) (k .states))

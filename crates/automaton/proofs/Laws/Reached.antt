@@ -104,7 +104,7 @@ unfolding successor
 no-go t q c =
     of-cond (λ m. T (not (isEmpty m)) → acceptOf t q ≡ 0) (eqb (acceptOf t q) 0) (longerRules t q c) [] (λ e _. eqb→eq (acceptOf t q) 0 e) (λ _ h. absurd h)
 
-target-inhabited : (t : Table) (qs : List State) (q : State) (c : ℕ) → targetOf t qs q c ≢ 0 → T (inhabited (successor t q c))
+pub target-inhabited : (t : Table) (qs : List State) (q : State) (c : ℕ) → targetOf t qs q c ≢ 0 → T (inhabited (successor t q c))
 unfolding targetOf
 target-inhabited t qs q c =
     of-cond (λ k. k ≢ 0 → T (inhabited (successor t q c))) (inhabited (successor t q c)) (orElse 0 (findFrom 0 (sameState (successor t q c)) qs)) 0

@@ -1,20 +1,48 @@
--- What Definition 7 chooses at a place: at first what the rules that fit say; and a rule that is chosen anywhere is the choice for some rest.
--- By recursion on the input, as the conversion goes.
+-- What Definition 7 chooses at a place: at first what the rules that fit say, within a log what the log says and behind it what the rest of the
+-- conversion chooses; and a rule that is chosen anywhere is the choice for some rest. By recursion on the log, and on the input as the conversion goes.
 use mathlib.Core.Bool.{Bool, true, false, cond}
-use mathlib.Core.List.{List, [], _∷_}
-use mathlib.Core.Option.{Option, none, some}
+use mathlib.Core.List.{List, [], _∷_, _++_}
+use mathlib.Core.Option.{Option, none, some, Option·some-injective}
 use mathlib.Core.Path.{_≡_, refl, sym, ap, subst, _∙_}
-use Prim.Native.Nat.{ℕ, zero, suc, pred, _-_, min, _≤_, _<_}
+use Prim.Native.Nat.{ℕ, zero, suc, pred, _-_, min, _≤_, _<_, _+_}
+use native.Mathlib.Nat.{zero-add}
 use native.Mathlib.Omega.{arith}
-use lib.Dec.{T, not-T, eqb, ltb, eqb→eq, lt→ltb}
+use lib.Dec.{T, not-T, eqb, ltb, eqb→eq, lt→ltb, ltb→lt, nltb→le}
 use lib.ListN.{length, take, length-take}
-use Rattle.lists.proofs.Laws.Tests.{of-T, of-not, of-cond}
+use Rattle.lists.proofs.Laws.Tests.{of-T, of-not, either, of-cond}
 use Rattle.meaning.specs.Table.{Characters, Table, group, defaultNumber, Mode, Absent, Single, Paired, mode, present, pairNumber}
-use Rattle.meaning.specs.Meaning.{Conversion, best, orDefault, choose, convertBy, convertFrom, convert, startsPair}
-use Rattle.meaning.specs.Choices.{Choice, theRule, theDefault, theStop, choiceOf, atStart, chosenIn, chosenAt, Live, Dead, thePair}
+use Rattle.meaning.specs.Meaning.{Conversion, best, orDefault, choose, convertBy, convertFrom, convert, startsPair, Emission, covered}
+use Rattle.meaning.specs.Choices.{Choice, theRule, theDefault, theStop, choiceOf, atStart, chosenIn, chosenAt, Live, Dead, thePair, Decided, NeverBoth}
 use Rattle.meaning.proofs.Laws.Shape.{Shaped}
 use Rattle.meaning.proofs.Laws.Groups.{rule-shaped, group-rule, group-pair, default-size}
 use Rattle.meaning.proofs.Laws.Choice.{Chosen, best-chosen, choose-is}
+
+-- behind a log what is chosen is what the rest chooses
+pub chosen-behind : (l m : List Emission) (c : Bool) (p : ℕ) → chosenIn (l ++ m) c (covered l + p) ≡ chosenIn m c p
+unfolding chosenIn covered
+chosen-behind [] m c p = rw zero-add
+chosen-behind (e ∷ l) m c p =
+    let n = length (e .word) in
+    of-cond (λ o. o ≡ chosenIn m c p) (ltb (n + covered l + p) n) (atStart (n + covered l + p) (choiceOf e)) (chosenIn (l ++ m) c (n + covered l + p - n))
+    (λ t. let h : n + covered l + p < n = ltb→lt (n + covered l + p) n t in absurd (omega arith))
+    (λ _. let h : n + covered l + p - n ≡ covered l + p = omega arith in ap (chosenIn (l ++ m) c) h ∙ chosen-behind l m c p)
+
+-- within what a log covers the rest of the conversion has no say
+pub chosen-within : (l m : List Emission) (c : Bool) (p : ℕ) → p < covered l → chosenIn (l ++ m) c p ≡ chosenIn l true p
+unfolding chosenIn covered
+chosen-within [] m c p h = absurd (omega arith)
+chosen-within (e ∷ l) m c p h =
+    let n = length (e .word) in
+    let here = atStart p (choiceOf e) in
+    either (λ b. cond b here (chosenIn (l ++ m) c (p - n)) ≡ cond b here (chosenIn l true (p - n))) (ltb p n) (λ _. refl)
+    (λ t. chosen-within l m c (p - n) (omega (arith, nltb→le p n t)))
+
+-- under both ways to go on the choice is that of the input by itself
+pub never-both : NeverBoth
+unfolding NeverBoth Decided
+never-both t u p d o =
+    o .differ (Option·some-injective (o .one-choice) (o .other-choice)
+    (sym (o .one-chosen) ∙ d (o .one) (o .one-characters) ∙ sym (d (o .other) (o .other-characters)) ∙ o .other-chosen))
 
 -- what stands in for a rule where none fits u
 abbrev pub fallen : Mode → List ℕ → Choice

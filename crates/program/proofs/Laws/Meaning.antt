@@ -4,22 +4,19 @@ use mathlib.Core.Bool.{Bool, true, false, _||_, false≢true}
 use mathlib.Core.List.{List, [], _∷_, _++_, append-nil, append-assoc}
 use mathlib.Core.Logic.{_≢_}
 use mathlib.Core.Path.{_≡_, refl, sym, ap, subst, _∙_}
-use Prim.Native.Nat.{ℕ, suc, _+_, _≤_, _<_}
+use Prim.Native.Nat.{ℕ, _+_, _<_}
 use native.Mathlib.Omega.{arith}
 use lib.Dec.{T}
 use lib.ListN.{length, take, length-append}
-use Rattle.lists.specs.Lists.{Each, flatMap}
+use Rattle.lists.specs.Lists.{Each}
 use Rattle.lists.proofs.Laws.Each.{each-append, each-front, each-back}
 use Rattle.lists.proofs.Laws.Folds.{flatMap-append}
 use Rattle.meaning.specs.Refusal.{Outcome, refused, accepted}
 use Rattle.meaning.specs.Table.{Characters, Table}
-use Rattle.meaning.specs.Meaning.{covered, convert, meaningText, meaningPlace}
+use Rattle.meaning.specs.Meaning.{covered, convert, meaningPlace}
 use Rattle.meaning.proofs.Laws.Shape.{Shaped}
 use Rattle.meaning.proofs.Laws.Described.{well-formed-shaped}
-use Rattle.automaton.specs.Layout.{wordCount}
-use Rattle.automaton.specs.Compile.{compile}
 use Rattle.automaton.specs.Automaton.{fromTable, fromWords}
-use Rattle.automaton.specs.Claims.{KeepsCompiling}
 use Rattle.reckoning.specs.Machine.{Status, Open, Closed, Stopped, start}
 use Rattle.reckoning.specs.Session.{Session, fresh, consumed, isOpen}
 use Rattle.reckoning.specs.Calls.{Answer, CallOutcome, admits, callBy, feed, finish}
@@ -30,7 +27,7 @@ use Rattle.reckoning.proofs.Laws.Run.{NotClosed, run-unended}
 use Rattle.reckoning.proofs.Laws.Demand3.{outcomes-agree}
 use Rattle.reckoning.proofs.Laws.Whole.{run-is, meaning-is}
 use Rattle.program.specs.Text.{hexLines, StatusLine, AcceptedLines, PrintedFor}
-use Rattle.program.specs.Turns.{callOn, waits, Turned, TurnOn, Turns, no-turn, a-turn}
+use Rattle.program.specs.Turns.{callOn, waits, TurnOn, Turns, no-turn, a-turn}
 use Rattle.program.specs.Claims.{Prints, PrintsMeaning}
 
 -- the call of a turn
@@ -255,15 +252,14 @@ module _ (t : Table) (keeps : Shaped t) (cs : List Call) (v : Served) (i : Input
 
 pub prints-meaning : PrintsMeaning
 unfolding PrintsMeaning OutcomesAgree
-prints-meaning table found t keeps room input printed s going characters turns over =
-    let w = compile table found .words in
+prints-meaning t w C input printed s going characters turns over =
     let x = over-turns w turns over in
     let S = x .standing in
     let v = serve w (S .calls) unserved in
     let i = reckon t (S .calls) noInput in
-    let g = outcomes-agree table found t keeps room (S .calls) (S .characters characters) in
+    let g = outcomes-agree t w C (S .calls) (S .characters characters) in
     let same : i .characters ≡ input = g .input ∙ S .pieces in
-    let said = prints t (well-formed-shaped t (keeps .keeps .well-formed)) (S .calls) v i g (subst Characters (sym same) characters)
+    let said = prints t (well-formed-shaped t (C .keeps .keeps .well-formed)) (S .calls) v i g (subst Characters (sym same) characters)
     (λ e. over (ap (λ (y : Session). y .status) (sym (S .session)) ∙ e)) printed (x .line) (S .text)
     (subst (λ y. StatusLine (y .status) (consumed y) (y .steps) (x .line)) (sym (S .session)) (x .last)) in
     subst (λ y. Prints t input printed y) (S .session) (subst (λ l. Prints t l printed (v .session)) same said)

@@ -3,6 +3,7 @@
 use Rattle.meaning.proofs.Laws.Direct.{check-accepts, check-refuses, values-tested, direct-answers, direct-accepts, direct-refuses}
 use Rattle.meaning.proofs.Laws.Reading.{ends-apart}
 use Rattle.meaning.proofs.Laws.Answered.{tables-in-order}
+use Rattle.meaning.proofs.Laws.Choices.{never-both}
 use Rattle.meaning.proofs.Laws.Digits.{digits-out}
 use Rattle.meaning.proofs.Laws.AnyOrder.{terms-in-any-order}
 use Rattle.meaning.proofs.Laws.Pairs.{pairs-meant}
@@ -21,7 +22,7 @@ use Rattle.reckoning.proofs.Laws.Demand3.{outcomes-agree}
 use Rattle.reckoning.proofs.Laws.Append.{feeds-join, parts-accepted, stops-join, finish-joins}
 use Rattle.reckoning.proofs.Laws.Preview.{looks-ahead}
 use Rattle.reckoning.proofs.Laws.Examples.{rows-hold}
-use Rattle.reckoning.proofs.Laws.Instances.{instances}
+use Rattle.reckoning.proofs.Laws.Instances.{instances, held-instances}
 use Rattle.reckoning.proofs.Laws.Pairs.{pairs-run}
 use Rattle.typed.proofs.Laws.Promised.{typed-rules}
 use Rattle.session.proofs.Laws.Caller.{code-serves}
@@ -94,10 +95,13 @@ promises = record {
   pairs-meant = pairs-meant;
   pair-words = pair-words;
   pairs-run = pairs-run;
+  nothing-held = (code-serves .nothing-held, face-serves .nothing-held);
+  never-both = never-both;
   program = program;
   prints-meaning = prints-meaning;
   rows = rows-hold;
   instances = instances;
+  held-instances = held-instances;
   second-of-t3 = second-of-t3;
   in-two = in-two;
   text-in-two = text-in-two;

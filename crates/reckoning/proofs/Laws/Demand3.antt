@@ -17,14 +17,14 @@ use Rattle.meaning.proofs.Laws.Groups.{longest-small}
 use Rattle.meaning.proofs.Laws.Described.{well-formed-shaped}
 use Rattle.automaton.specs.States.{states}
 use Rattle.automaton.specs.Layout.{wordCount, words}
-use Rattle.automaton.specs.Claims.{KeepsCompiling}
+use Rattle.automaton.specs.Claims.{KeepsCompiling, Compiled}
 use Rattle.automaton.proofs.Laws.States.{table-good, table-reads}
 use Rattle.automaton.proofs.Laws.Good.{SameNumbers}
 use Rattle.automaton.proofs.Laws.Places.{layout-expansion}
 use Rattle.automaton.proofs.Laws.Alike.{words-numbers, numbers-alike, numbers-after}
 use Rattle.automaton.proofs.Laws.Write.{words-write}
 use Rattle.automaton.proofs.Laws.Sound.{compiled-sound}
-use Rattle.automaton.proofs.Laws.Compile.{compile-accepts}
+use Rattle.automaton.proofs.Laws.Compile.{compiled-words}
 use Rattle.automaton.specs.Automaton.{Automaton, fromTable, fromWords, after}
 use Rattle.reckoning.specs.Machine.{Status, Open, Closed, Stopped}
 use Rattle.reckoning.specs.Uses.{usesOf}
@@ -187,10 +187,9 @@ module _ (t : Table) (w : List ℕ) (K : Matched t w) where
       (let i = reckon t cs noInput in Agrees t cs (serve w cs unserved) i (ran t (i .characters) (i .ended)))
   calls-agree N cs a = agrees N cs (serve w cs unserved) (reckon t cs noInput) (input-pieces t cs) (calls-stand t w K cs a)
 
--- DEMAND 3, for every table that keeps the rules for compiling and every buffer that it is compiled into.
-compiled : (b buffer : List ℕ) (t : Table) → KeepsCompiling b t → Matched t (words t ++ drop wordCount buffer)
-compiled b buffer t k =
-    let rest = drop wordCount buffer in
+-- a table's words match it, whatever stands behind them
+matched : (b : List ℕ) (t : Table) → KeepsCompiling b t → (rest : List ℕ) → Matched t (words t ++ rest)
+matched b t k rest =
     let s = well-formed-shaped t (k .keeps .well-formed) in
     let good = table-good t s in
     record {
@@ -204,9 +203,15 @@ compiled b buffer t k =
       expands = layout-expansion t rest;
     }
 
+pub compiled-matched : (t : Table) (w : List ℕ) → Compiled t w → Matched t w
+compiled-matched t w C = subst (Matched t) (sym (compiled-words t w C)) (matched (C .table) t (C .keeps) (drop wordCount (C .buffer)))
+
+compiled-numbers : (t : Table) (w : List ℕ) → Compiled t w → SameNumbers (fromTable t) (fromWords w) (length (states t))
+compiled-numbers t w C =
+    subst (λ z. SameNumbers (fromTable t) (fromWords z) (length (states t))) (sym (compiled-words t w C))
+    (words-numbers t (drop wordCount (C .buffer)) (C .keeps .classes) (C .keeps .states))
+
+-- DEMAND 3, for every table that keeps the rules for compiling and every buffer that it is compiled into.
 pub outcomes-agree : OutcomesAgree
 unfolding OutcomesAgree
-outcomes-agree b buffer t k room cs a =
-    let w = words t ++ drop wordCount buffer in
-    rw (compile-accepts b buffer .keeping t k room .1)
-    (calls-agree t w (compiled b buffer t k) (words-numbers t (drop wordCount buffer) (k .classes) (k .states)) cs a)
+outcomes-agree t w C cs a = calls-agree t w (compiled-matched t w C) (compiled-numbers t w C) cs a

@@ -1,20 +1,21 @@
--- Demand 3 holds of two lists of calls with document 01's values, and of one of request [8].
+-- Demand 3 holds of two lists of calls with document 01's values and of one of request [8], and with request [9] of two that leave characters held.
 -- The reckoning and Definition 7 are computed from the tables' bytes; what was served follows by the demand.
-use mathlib.Core.Bool.{_||_}
+use mathlib.Core.Bool.{true, false}
 use mathlib.Core.List.{List, []}
 use mathlib.Core.Option.{none}
-use mathlib.Core.Path.{_≡_, refl, sym, subst, _∙_}
+use mathlib.Core.Path.{_≡_, refl, sym, ap, subst, _∙_}
 use Prim.Native.Nat.{ℕ, _≤_}
 use native.Mathlib.Omega.{arith}
 use lib.Dec.{T, leb, ltb, leb→le, ltb→lt}
 use lib.ListN.{length}
-use Rattle.lists.specs.Lists.{all, pad}
+use Rattle.lists.specs.Lists.{Each, all, pad}
 use Rattle.lists.proofs.Laws.Each.{all-each}
 use Rattle.lists.proofs.Laws.Parts.{length-pad}
 use Rattle.meaning.specs.Refusal.{Outcome, refused, accepted}
-use Rattle.meaning.specs.Table.{unmarked, Table}
+use Rattle.meaning.specs.Table.{Characters, unmarked, Table}
 use Rattle.meaning.specs.Reader.{readTable}
-use Rattle.meaning.specs.Meaning.{covered, convert, meaningText, meaningPlace}
+use Rattle.meaning.specs.Meaning.{covered}
+use Rattle.meaning.specs.Choices.{choiceOf, chosenIn, chosenAt}
 use Rattle.meaning.specs.Samples.{t1, t2, t3Marked}
 use Rattle.meaning.proofs.Laws.Direct.{read-keeps}
 use Rattle.meaning.proofs.Laws.Opened.{rules-opened}
@@ -23,15 +24,18 @@ use Rattle.automaton.specs.States.{states}
 use Rattle.automaton.specs.Layout.{wordCount}
 use Rattle.automaton.specs.Compile.{compile}
 use Rattle.automaton.specs.Claims.{KeepsCompiling}
+use Rattle.automaton.proofs.Laws.Compile.{compiled-by}
 use Rattle.automaton.proofs.Laws.Opened.{machine-opened}
-use Rattle.reckoning.specs.Machine.{Ended, fallBack, step, steps, run}
+use Rattle.reckoning.specs.Machine.{Open, Ended, fallBack, step, steps, run}
 use Rattle.reckoning.specs.Uses.{usesOf}
-use Rattle.reckoning.specs.Session.{Session, consumed}
+use Rattle.reckoning.specs.Session.{Session}
 use Rattle.reckoning.specs.Calls.{receivedBy}
-use Rattle.reckoning.specs.Reckoning.{piece, Served, unserved, serve, noInput, ran, ranText, reckoned, reckon}
-use Rattle.reckoning.specs.Claims.{isStopped, Agrees, OutcomesAgree}
-use Rattle.reckoning.specs.Instances.{Case, servedAs, inputAs, Holds, closing, stopping, pairing, Firm, Instances}
+use Rattle.reckoning.specs.Reckoning.{piece, acceptedPieces, Served, unserved, serve, noInput, ran, ranText, reckoned, reckon}
+use Rattle.reckoning.specs.Claims.{Agrees, OutcomesAgree}
+use Rattle.reckoning.specs.Needs.{HeldOfNeed}
+use Rattle.reckoning.specs.Instances.{Case, servedAs, inputAs, Holds, Over, closing, stopping, pairing, waiting, unpaired, Firm, Instances, HeldInstances}
 use Rattle.reckoning.proofs.Laws.Demand3.{outcomes-agree}
+use Rattle.reckoning.proofs.Laws.Needs.{nothing-held}
 
 abbrev tableIn : Outcome Table → Table
 tableIn (refused n) = record { rules = []; default = none; mark = unmarked }
@@ -55,7 +59,7 @@ module _ (x : Case) (t : Table) where
   abbrev input : List ℕ
   input = x .input
 
-  -- what is computed of a case: its table's bytes, its table, the reckoning, the plain machine's run over the input, and Definition 7
+  -- what is computed of a case: its table's bytes, its table, the reckoning, and the plain machine's run over the input
   record Computed : Type 0 where
     bytes : T (all (λ z. ltb z 256) (x .table))
     read : readTable (x .table) ≡ accepted t
@@ -65,10 +69,6 @@ module _ (x : Case) (t : Table) where
     reckons : reckon t (x .calls) noInput ≡ inputAs x
     writes : ranText t (ran t input (x .ended)) ≡ x .output
     leaves : leftBy t (ran t input (x .ended)) (length input) ≡ x .session
-    over : T (x .ended || isStopped (x .session .status))
-    text : meaningText t input ≡ x .output
-    closes : convert t input .closed ≡ x .closed
-    place : meaningPlace t input ≡ consumed (x .session)
 
   module _ (c : Computed) where
     keeping : KeepsCompiling (x .table) t
@@ -79,6 +79,10 @@ module _ (x : Case) (t : Table) where
           states = leb→le _ 256 (c .states);
         }
 
+    characters-fed : Each (λ d. Characters (piece d)) (x .calls)
+    characters-fed =
+        all-each (λ d. all (λ z. ltb z 65536) (piece d)) (x .calls) (λ d h. all-each (λ z. ltb z 65536) (piece d) (λ z l. ltb→lt z 65536 l) h) (c .pieces)
+
     abbrev served : List ℕ → Served
     served buffer = serve (compile (x .table) buffer .words) (x .calls) unserved
 
@@ -87,8 +91,7 @@ module _ (x : Case) (t : Table) where
     unfolding OutcomesAgree
     by-demand buffer room =
         subst (λ i. Agrees t (x .calls) (served buffer) i (ran t (i .characters) (i .ended))) (c .reckons)
-        (outcomes-agree (x .table) buffer t keeping room (x .calls)
-        (all-each (λ d. all (λ z. ltb z 65536) (piece d)) (x .calls) (λ d h. all-each (λ z. ltb z 65536) (piece d) (λ z l. ltb→lt z 65536 l) h) (c .pieces)))
+        (outcomes-agree t _ (compiled-by (x .table) buffer t keeping room) (x .calls) characters-fed)
 
     serves : (buffer : List ℕ) → wordCount ≤ length buffer → served buffer ≡ servedAs x
     serves buffer room =
@@ -110,21 +113,28 @@ module _ (x : Case) (t : Table) where
     some-room : wordCount ≤ length (pad wordCount [])
     some-room = let e = length-pad wordCount [] in omega arith
 
-    holds : Holds x
+    holds : Holds x t
     holds =
         record {
-          read = t;
           keeps = keeping;
           serves = serves;
           reckons = c .reckons;
           agrees =
               subst (λ v. Agrees t (x .calls) v (inputAs x) (ran t input (x .ended))) (serves (pad wordCount []) some-room)
               (by-demand (pad wordCount []) some-room);
-          over = c .over;
-          text = c .text;
-          closes = c .closes;
-          place = c .place;
         }
+
+    -- request [9], of the case's values
+    needs : x .session .status ≡ Open → HeldOfNeed t input (x .session)
+    needs o =
+        let buffer = pad wordCount [] in
+        let e = serves buffer some-room in
+        let v = served buffer in
+        let is-open : v .session .status ≡ Open = ap (λ (z : Served). z .session .status) e ∙ o in
+        let h = nothing-held t _ (compiled-by (x .table) buffer t keeping some-room) (x .calls) characters-fed is-open in
+        let same : acceptedPieces (x .calls) (v .answers) ≡ input =
+        sym (by-demand buffer some-room .input) in
+        subst (λ u. HeldOfNeed t u (x .session)) same (subst (λ (z : Served). HeldOfNeed t (acceptedPieces (x .calls) (v .answers)) (z .session)) e h)
 
 abbrev table1 : Table
 table1 = tableIn (readTable t1)
@@ -137,65 +147,65 @@ table3 = tableIn (readTable t3Marked)
 
 closing-computed : Computed closing table1
 unfolding rules-opened machine-opened fallBack step steps run ran reckoned reckon closing
-closing-computed = record {
-  bytes = tt;
-  read = refl;
-  classes = tt;
-  states = tt;
-  pieces = tt;
-  reckons = refl;
-  writes = refl;
-  leaves = refl;
-  over = tt;
-  text = refl;
-  closes = refl;
-  place = refl;
-}
+closing-computed = record { bytes = tt; read = refl; classes = tt; states = tt; pieces = tt; reckons = refl; writes = refl; leaves = refl }
+
+closing-over : Over closing table1 true
+unfolding rules-opened closing
+closing-over = record { over = tt; text = refl; closes = refl; place = refl }
 
 stopping-computed : Computed stopping table2
 unfolding rules-opened machine-opened fallBack step steps run ran reckoned reckon stopping
-stopping-computed = record {
-  bytes = tt;
-  read = refl;
-  classes = tt;
-  states = tt;
-  pieces = tt;
-  reckons = refl;
-  writes = refl;
-  leaves = refl;
-  over = tt;
-  text = refl;
-  closes = refl;
-  place = refl;
-}
+stopping-computed = record { bytes = tt; read = refl; classes = tt; states = tt; pieces = tt; reckons = refl; writes = refl; leaves = refl }
+
+stopping-over : Over stopping table2 false
+unfolding rules-opened stopping
+stopping-over = record { over = tt; text = refl; closes = refl; place = refl }
 
 pairing-computed : Computed pairing table3
 unfolding rules-opened machine-opened fallBack step steps run ran reckoned reckon pairing
-pairing-computed = record {
-  bytes = tt;
-  read = refl;
-  classes = tt;
-  states = tt;
-  pieces = tt;
-  reckons = refl;
-  writes = refl;
-  leaves = refl;
-  over = tt;
-  text = refl;
-  closes = refl;
-  place = refl;
-}
+pairing-computed = record { bytes = tt; read = refl; classes = tt; states = tt; pieces = tt; reckons = refl; writes = refl; leaves = refl }
+
+pairing-over : Over pairing table3 true
+unfolding rules-opened pairing
+pairing-over = record { over = tt; text = refl; closes = refl; place = refl }
 
 -- the demand's last field, whose conditions the case meets
-stopping-firm : (h : Holds stopping) → Firm (h .read)
+stopping-firm : Firm table2
 unfolding stopping Firm
-stopping-firm h more c ended =
-    let a = h .agrees in
+stopping-firm more c ended =
+    let a = holds stopping table2 stopping-computed .agrees in
     let f = a .firm refl refl more c ended in
-    (f .0 ∙ h .text, f .1 ∙ h .place, f .2 ∙ sym (a .steps))
+    (f .0 ∙ stopping-over .text, f .1 ∙ stopping-over .place, f .2 ∙ sym (a .steps))
 
 pub instances : Instances
 unfolding Instances
-instances =
-    let h = holds stopping table2 stopping-computed in
-    (holds closing table1 closing-computed, (h, stopping-firm h), holds pairing table3 pairing-computed)
+instances = (
+  (table1, holds closing table1 closing-computed, closing-over),
+  (table2, holds stopping table2 stopping-computed, stopping-over, stopping-firm),
+  (table3, holds pairing table3 pairing-computed, pairing-over),
+)
+
+-- characters held
+
+waiting-computed : Computed waiting table1
+unfolding rules-opened machine-opened fallBack step steps run ran reckoned reckon waiting
+waiting-computed = record { bytes = tt; read = refl; classes = tt; states = tt; pieces = tt; reckons = refl; writes = refl; leaves = refl }
+
+unpaired-computed : Computed unpaired table3
+unfolding rules-opened machine-opened fallBack step steps run ran reckoned reckon unpaired
+unpaired-computed = record { bytes = tt; read = refl; classes = tt; states = tt; pieces = tt; reckons = refl; writes = refl; leaves = refl }
+
+pub held-instances : HeldInstances
+unfolding rules-opened chosenAt chosenIn choiceOf waiting unpaired HeldInstances
+held-instances = (
+  (
+    table1,
+    holds waiting table1 waiting-computed,
+    record { is-open = refl; holds = omega arith; one-chosen = refl; other-chosen = refl; needs = needs waiting table1 waiting-computed refl },
+  ),
+  (
+    table3,
+    holds unpaired table3 unpaired-computed,
+    record { is-open = refl; holds = omega arith; one-chosen = refl; other-chosen = refl; needs = needs unpaired table3 unpaired-computed refl },
+  ),
+)

@@ -81,7 +81,7 @@ module _ (A : Automaton) (t : Table) (s : Shaped t) (R : Reads A t) (b : Fall) (
         R .dead w x (characters-front (w ++ x ∷ []) u (rw (append-assoc w (x ∷ []) u) (n .0))) l p q k h (longer-takes t s w x u k i f));
   }
 
-  round-picks : (z : List ℕ) → Characters z → Picks t z (walk A true b 0 0 z)
+  pub round-picks : (z : List ℕ) → Characters z → Picks t z (walk A true b 0 0 z)
   round-picks z c = walk-along A true b (λ z w. Characters z × NoShorter t z w) (Picks t) picks-along z (c, λ r h f. omega arith)
 
 -- over x and u the conversion does what the round picks

@@ -9,7 +9,7 @@ use native.Mathlib.Nat.{zero-add, mul-le-mul-left}
 use native.Mathlib.Omega.{arith}
 use lib.Dec.{T}
 use lib.ListN.{length, take, drop, length-append, take-append-drop}
-use lib.Seq.{take-append-le, length-take-le}
+use lib.Seq.{take-append-le, drop-append-add, length-take-le}
 use Rattle.lists.proofs.Laws.Tests.{and-right}
 use Rattle.lists.proofs.Laws.Each.{each-back}
 use Rattle.meaning.specs.Table.{Characters, Mode, Absent, Single, Paired, isFirst, isSecond}
@@ -139,6 +139,17 @@ held-characters closing u c a = tt
 held-characters (stopping d) u c a = tt
 held-characters (accepting g w t) u c a = held-characters t (c .0) (c .2) (each-back (λ x. x < 65536) w (c .0) (subst Characters (c .1) a))
 held-characters (defaulting d g w t) u c a = held-characters t (c .0) (c .2) (each-back (λ x. x < 65536) w (c .0) (subst Characters (c .1) a))
+
+-- of what waits it is the input behind the log
+pub covers-held : (t : Trace) (u : List ℕ) → Covers u t → statusOf t ≡ Open → drop (covered (logOf t)) u ≡ heldOf t
+unfolding covered logOf heldOf statusOf
+covers-held (waiting h) u c o = sym c
+covers-held closing u c o = absurd (not-open Closed tt o)
+covers-held (stopping d) u c o = absurd (not-open Stopped tt o)
+covers-held (accepting g w t) u c o =
+    ap (drop (length w + covered (logOf t))) (c .1) ∙ drop-append-add w (c .0) (covered (logOf t)) ∙ covers-held t (c .0) (c .2) o
+covers-held (defaulting d g w t) u c o =
+    ap (drop (length w + covered (logOf t))) (c .1) ∙ drop-append-add w (c .0) (covered (logOf t)) ∙ covers-held t (c .0) (c .2) o
 
 -- where a machine stands between calls: what is held leads to the state, or is a first unit that a marked default left at state 0
 pub data Stood (A : Automaton) (h : List ℕ) (q : ℕ) : Type 0 where

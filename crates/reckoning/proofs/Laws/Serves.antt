@@ -1,4 +1,4 @@
--- Demand 3 and request [2] of every caller of feed and finish whose calls' contracts tell their outcomes.
+-- Demand 3 and requests [2] and [9] of every caller of feed and finish whose calls' contracts tell their outcomes.
 -- What such a caller sees is what the outcome functions serve.
 use mathlib.Core.List.{List, [], _∷_}
 use mathlib.Core.Path.{_≡_, refl}
@@ -8,9 +8,10 @@ use Rattle.reckoning.specs.Session.{Session, fresh}
 use Rattle.reckoning.specs.Calls.{CallOutcome}
 use Rattle.reckoning.specs.Reckoning.{Call, Served, before, unserved, called, andThen, serveCall, serve}
 use Rattle.reckoning.specs.Claims.{OutcomesAgree, SoundAddsUp}
-use Rattle.reckoning.specs.Serves.{SessionCaller, Demand3, UsesAddUp, Serves}
+use Rattle.reckoning.specs.Serves.{SessionCaller, Demand3, UsesAddUp, NothingHeld, Serves}
 use Rattle.reckoning.proofs.Laws.Answers.{sound-adds-up, calls-stay}
 use Rattle.reckoning.proofs.Laws.Demand3.{outcomes-agree}
+use Rattle.reckoning.proofs.Laws.Needs.{nothing-held}
 use Rattle.reckoning.proofs.Laws.InTurn.{outcomesOf, Tells, every-list}
 
 -- what is asked of a caller of feed and finish
@@ -29,9 +30,9 @@ module _ (caller : SessionCaller) (tells : TellsCalls caller) where
   -- DEMAND 3
   demand : Demand3 caller
   unfolding Demand3 OutcomesAgree
-  demand table buffer words t keeps room is-compiled =
-      every-list (called words) (λ o. o .session) (caller words) (tells words) fresh _
-      (λ cs chars. rw (seen-served words cs unserved, is-compiled) (outcomes-agree table buffer t keeps room cs chars))
+  demand t w C =
+      every-list (called w) (λ o. o .session) (caller w) (tells w) fresh _
+      (λ cs chars. rw (seen-served w cs unserved) (outcomes-agree t w C cs chars))
 
   -- REQUEST [2]
   uses : UsesAddUp caller
@@ -40,5 +41,12 @@ module _ (caller : SessionCaller) (tells : TellsCalls caller) where
       every-list (called w) (λ o. o .session) (caller w) (tells w) s _
       (λ cs. rw (seen-served w cs (before s)) (let k = calls-stay w cs (before s) sure eight in (k, sound-adds-up w _ W k)))
 
+  -- REQUEST [9]
+  held : NothingHeld caller
+  unfolding NothingHeld
+  held t w C =
+      every-list (called w) (λ o. o .session) (caller w) (tells w) fresh _
+      (λ cs chars. rw (seen-served w cs unserved) (nothing-held t w C cs chars))
+
   pub serves : Serves caller
-  serves = record { demand-3 = demand; uses-add-up = uses }
+  serves = record { demand-3 = demand; uses-add-up = uses; nothing-held = held }

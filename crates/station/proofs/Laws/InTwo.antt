@@ -8,7 +8,7 @@ use lib.ListN.{length, take, length-append, length-take}
 use Rattle.meaning.specs.Refusal.{Outcome, refused, accepted}
 use Rattle.meaning.proofs.Laws.Refusal.{accepted-not}
 use Rattle.automaton.specs.Compile.{compile}
-use Rattle.automaton.proofs.Laws.Compile.{compile-accepts}
+use Rattle.automaton.proofs.Laws.Compile.{compile-accepts, compiled-by}
 use Rattle.reckoning.specs.Session.{Session, fresh}
 use Rattle.reckoning.specs.Calls.{Answer}
 use Rattle.reckoning.specs.Reckoning.{Call, ofFeed, ofFinish, Served, unserved, called, outputBy, serveCall, serve, noInput, ran, reckon}
@@ -128,4 +128,4 @@ in-two table first second buffer output t keeps room one two a =
     let done : inTwo table first second buffer output ≡ pieces w first second output =
     ap (λ o. ifCompiled o output (pieces w first second output)) accepts in
     let same = ap (seenBy w cs) done ∙ seen w first second output (ap (λ (v : Turn × List ℕ). v .0 .answer) (sym done) ∙ a) in
-    subst (λ v. Agrees t cs v i (ran t (i .characters) (i .ended))) (sym same) (outcomes-agree table buffer t keeps room cs (one, (two, (tt, tt))))
+    subst (λ v. Agrees t cs v i (ran t (i .characters) (i .ended))) (sym same) (outcomes-agree t w (compiled-by table buffer t keeps room) cs (one, (two, (tt, tt))))
