@@ -2,7 +2,7 @@
 //! buffers for direct conversion; tables at the limits of compiling.
 
 use reference::builder::{encode, encode_records, TableBuilder};
-use reference::meaning::choose;
+use reference::meaning::along;
 use reference::random::Random;
 use reference::samples::{
     digits_and_sums, four_digits, lookahead, random_input, random_table, t1, t2, t3, two_digits,
@@ -226,14 +226,8 @@ pub fn room(random: &mut Random, needed: usize) -> usize {
 
 /// Whether Definition 7 chooses a group of a sort on an input.
 pub fn chooses(table: &Table, input: &[u16], sort: impl Fn(&Group) -> bool) -> bool {
-    let mut place = 0;
-    while let Some(choice) = choose(table, &input[place..]).filter(|_| place < input.len()) {
-        if table.group(choice).is_some_and(&sort) {
-            return true;
-        }
-        place += table.taken(choice);
-    }
-    false
+    let mut groups = along(table, input).filter_map(|(_, choice)| table.group(choice?));
+    groups.any(sort)
 }
 
 /// Numbers to fill a buffer with, each unlike those beside it.

@@ -1,5 +1,5 @@
 //! An independent version of the rollback converter, written from document 01
-//! and requests \[1\] to \[8\] of document 02 alone, for comparison with the
+//! and requests \[1\] to \[9\] of document 02 alone, for comparison with the
 //! definitions and the code of the project.
 //!
 //! The modules in document 01's order:
@@ -16,11 +16,13 @@
 //! - [`reckoning`]: what a list of calls must give, from the table and the calls alone
 //! - [`direct`], [`compile`]: direct conversion and compiling
 //! - [`witness`]: rules that can never be chosen, and inputs for the others
+//! - [`needs`]: ways for an input to go on under which Definition 7 chooses differently
 //! - [`typed`]: the records of rules typed as text
 //! - [`refusal`], [`lengths`]: the refusals, and the two that look at lengths alone
 //!
 //! For tests and comparisons: [`builder`] writes tables, [`random`] draws
-//! numbers from a seed, [`samples`] has the example tables, refused and random ones.
+//! numbers from a seed, [`samples`] has the example tables, refused and random ones,
+//! [`trial`] every short text.
 
 #![forbid(unsafe_code)]
 #![warn(missing_docs)]
@@ -33,6 +35,7 @@ pub mod direct;
 pub mod lengths;
 pub mod machine;
 pub mod meaning;
+pub mod needs;
 pub mod pairs;
 pub mod random;
 pub mod reckoning;
@@ -41,6 +44,7 @@ pub mod samples;
 pub mod session;
 pub mod states;
 pub mod table;
+pub mod trial;
 pub mod typed;
 pub mod uses;
 pub mod witness;

@@ -162,12 +162,27 @@ pub fn choose(table: &Table, rest: &[u16]) -> Option<Choice> {
     }
 }
 
+/// Definition 7 along an input, from place 0: each place at which it makes a choice,
+/// with the choice. At the last place there may be none, and "conversion stops at this
+/// place".
+pub fn along<'t>(
+    table: &'t Table,
+    input: &'t [u16],
+) -> impl Iterator<Item = (usize, Option<Choice>)> + 't {
+    let mut next = Some(0);
+    std::iter::from_fn(move || {
+        let place = next.filter(|&place| place < input.len())?;
+        let choice = choose(table, &input[place..]);
+        next = choice.map(|choice| place + table.taken(choice));
+        Some((place, choice))
+    })
+}
+
 /// Definition 7, from place 0 to the input's end or to a stop.
 pub fn convert(table: &Table, input: &[u16]) -> Meaning {
     let mut text = Vec::new();
-    let mut place = 0;
-    while place < input.len() {
-        let Some(choice) = choose(table, &input[place..]) else {
+    for (place, choice) in along(table, input) {
+        let Some(choice) = choice else {
             let ending = Ending::Stopped;
             return Meaning {
                 text,
@@ -175,14 +190,12 @@ pub fn convert(table: &Table, input: &[u16]) -> Meaning {
                 ending,
             };
         };
-        let next = place + table.taken(choice);
-        table.write(choice, &input[place..next], &mut text);
-        place = next;
+        let word = &input[place..][..table.taken(choice)];
+        table.write(choice, word, &mut text);
     }
-    let ending = Ending::Closed;
     Meaning {
         text,
-        place,
-        ending,
+        place: input.len(),
+        ending: Ending::Closed,
     }
 }

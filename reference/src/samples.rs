@@ -2,6 +2,7 @@
 //! random tables and inputs.
 
 use crate::builder::TableBuilder;
+use crate::pairs::{FIRST_UNITS, SECOND_UNITS};
 use crate::random::Random;
 use crate::table::{
     Digit, Group, Output, Range, Sum, Table, Term, MAX_OUTPUTS, MAX_RANGES, MAX_RULES, SHIFTS,
@@ -289,17 +290,7 @@ impl Letters {
     }
 }
 
-/// The first units of pairs.
-const FIRST_UNITS: Range = Range {
-    low: 55296,
-    high: 56319,
-};
-/// The second units of pairs.
-const SECOND_UNITS: Range = Range {
-    low: 56320,
-    high: 57343,
-};
-/// Both.
+/// The units of pairs of both sorts.
 const UNITS: Range = Range {
     low: FIRST_UNITS.low,
     high: SECOND_UNITS.high,

@@ -5,9 +5,10 @@ use std::collections::{BTreeSet, HashSet};
 
 use crate::classes::starts_of;
 use crate::compile::compile;
-use crate::meaning::{choose, Choice};
+use crate::meaning::{along, Choice};
 use crate::refusal::Refusal;
 use crate::table::{Group, RuleNo, Table};
+use crate::trial::{text_count, texts};
 
 /// "Free but of at most 9 characters."
 pub const MAX_INPUT: usize = 9;
@@ -126,14 +127,11 @@ impl<'t> Search<'t> {
 /// The rules that Definition 7 chooses, place by place, until the input's end or a
 /// stop.
 pub fn choices(table: &Table, input: &[u16]) -> Vec<RuleNo> {
-    let (mut chosen, mut rest) = (Vec::new(), input);
-    while let Some(choice) = choose(table, rest).filter(|_| !rest.is_empty()) {
-        if let Choice::Rule(rule) = choice {
-            chosen.push(rule);
-        }
-        rest = &rest[table.taken(choice)..];
-    }
-    chosen
+    let rules = along(table, input).filter_map(|(_, choice)| match choice? {
+        Choice::Rule(rule) => Some(rule),
+        Choice::Default | Choice::Pair => None,
+    });
+    rules.collect()
 }
 
 /// By trial: the rules that Definition 7 chooses anywhere on some input of up to so many
@@ -141,17 +139,10 @@ pub fn choices(table: &Table, input: &[u16]) -> Vec<RuleNo> {
 pub fn chosen_on_trial(table: &Table, most: usize) -> BTreeSet<RuleNo> {
     let characters: Vec<u16> = starts_of(table.ranges()).into_iter().collect();
     let mut chosen = BTreeSet::new();
-    for length in 1..=most {
-        let mut classes = vec![0; length];
-        loop {
-            let input: Vec<u16> = classes.iter().map(|&class| characters[class]).collect();
-            chosen.extend(choices(table, &input));
-            if chosen.len() == table.rules.len() {
-                return chosen;
-            }
-            if !count_on(&mut classes, characters.len()) {
-                break;
-            }
+    for input in texts(&characters, 1..=most) {
+        chosen.extend(choices(table, &input));
+        if chosen.len() == table.rules.len() {
+            break;
         }
     }
     chosen
@@ -159,9 +150,7 @@ pub fn chosen_on_trial(table: &Table, most: usize) -> BTreeSet<RuleNo> {
 
 /// How many inputs a trial of up to so many characters has at most.
 pub fn trials(table: &Table, most: usize) -> usize {
-    let classes = starts_of(table.ranges()).len();
-    let of_length = |length: usize| classes.saturating_pow(length as u32);
-    (1..=most).map(of_length).fold(0, usize::saturating_add)
+    text_count(starts_of(table.ranges()).len(), 1..=most)
 }
 
 /// The most characters, up to 9, with which a trial of a table has at most so many
@@ -170,16 +159,4 @@ pub fn trials(table: &Table, most: usize) -> usize {
 pub fn most_tried(table: &Table, inputs: usize) -> Option<usize> {
     let mut lengths = (table.longest() + 1..=MAX_INPUT).rev();
     lengths.find(|&most| trials(table, most) <= inputs)
-}
-
-/// The next digits in a base, unless these are the last.
-fn count_on(digits: &mut [usize], base: usize) -> bool {
-    for digit in digits {
-        *digit += 1;
-        if *digit < base {
-            return true;
-        }
-        *digit = 0;
-    }
-    false
 }

@@ -29,7 +29,7 @@ while read -r package least; do
     echo "rust: $package: $passed tests"
     packages=$((packages + 1))
 done << 'END'
-reference 186
+reference 201
 compare 106
 rust 51
 tools 61
