@@ -14,6 +14,7 @@
 //! - [`damage`]: damaged machine words and sessions
 //! - [`orders`]: words whose states are numbered in another order
 //! - [`pairs`]: tables with marked defaults over units of pairs
+//! - [`needs`]: sessions with what they were fed, and words that wait without need
 //! - [`uses`]: sessions with uses of many rules, and damage to their counts
 //! - [`fast`]: the rollback machine written for speed
 //! - `flex`: T1's rules as a scanner that flex generates (feature `flex`)
@@ -36,6 +37,7 @@ pub mod fast;
 #[cfg(feature = "flex")]
 pub mod flex;
 pub mod lists;
+pub mod needs;
 pub mod orders;
 pub mod pairs;
 pub mod rivals;

@@ -3,8 +3,8 @@
 
 use reference::random::Random;
 
-/// The places of a state's targets by the classes in use.
-fn targets(words: &[u16], state: usize) -> &[u16] {
+/// A state's targets by the classes in use.
+pub fn targets(words: &[u16], state: usize) -> &[u16] {
     &words[838 + 64 * state..][..usize::from(words[1])]
 }
 

@@ -30,7 +30,7 @@ while read -r package least; do
     packages=$((packages + 1))
 done << 'END'
 reference 201
-compare 106
+compare 113
 rust 51
 tools 61
 END
