@@ -8,7 +8,7 @@ use std::fmt::Debug;
 
 use compare::both;
 use compare::cases::{room, sound_tables};
-use compare::face::{Session, OPEN};
+use compare::face::{Session, OPEN, STOPPED};
 use compare::lists::Compiled;
 use compare::needs::{tried, Fed, Needless, Sort};
 use compare::pairs::marked_tables;
@@ -53,7 +53,8 @@ struct Met {
 
 impl Met {
     /// Feeds random pieces to a fresh session: empty ones, single characters and a few
-    /// more, of which some have too little room. The session is tried after each.
+    /// more, of which some have too little room and are refused by 15. The session is
+    /// tried after each.
     fn feed(&mut self, random: &mut Random, machine: &Compiled) {
         let table = &machine.automaton.table;
         let trial = Trial::of(table);
@@ -66,6 +67,7 @@ impl Met {
             unread = rest;
             let needed = table.most_outputs() * (fed.held().len() + piece.len());
             let code = fed.feed(&machine.words, piece, room(random, needed));
+            assert!(matches!(code, OPEN | STOPPED | 15), "{code}, {fed:?}");
             self.refused += usize::from(code == 15);
             self.note(&trial, &fed);
         }
