@@ -629,9 +629,9 @@ static inline size_t cobbletwill_longest_piece(const uint16_t *words,
  * Answers 65 where the session waits for more, or 64 where it stopped, since no
  * rule fits and there is no default. Then `*session` is the session after the
  * piece, `*written` is the number of characters written from the start of `output`,
- * and the rest of `output` is as found. Characters that a pattern may still take
- * are held and written by a later call, and so is a first unit that may be half of a
- * pair under a marked default.
+ * and the rest of `output` is as found. Under words that cobbletwill_compile left,
+ * characters are held, and written by a later call, only while it depends on what
+ * follows, the input's end included, which rule or default takes the first of them.
  *
  * Else answers the first refusal in this order, and `*session`, `output` and
  * `*written` are as found:

@@ -98,8 +98,9 @@ impl Session {
         }
     }
 
-    /// Feeds a piece: the output is written from the buffer's start. Refused by
-    /// 12 to 15, with nothing changed.
+    /// Feeds a piece: the output is written from the buffer's start. Characters are
+    /// held only while what becomes of the first of them depends on what follows, the
+    /// input's end included. Refused by 12 to 15, with nothing changed.
     pub fn feed(
         &mut self,
         machine: &Machine,

@@ -96,5 +96,5 @@ done
 # Every marked block was run, every kind of example was met, and there are as many as ever.
 [ "$(grep -c '^```example$' "$page")" = "$(find "$out" -name 1.lines | wc -l)" ] || { echo "format: a block of $page expects nothing" >&2; exit 1; }
 [ "$(tr ' ' '\n' <<< "$kinds" | sort -u | xargs)" = "input rules session text units words" ] || { echo "format: only the examples$kinds are met" >&2; exit 1; }
-[ "$examples" -ge 56 ] || { echo "format: only $examples examples are met" >&2; exit 1; }
+[ "$examples" -ge 58 ] || { echo "format: only $examples examples are met" >&2; exit 1; }
 echo "format: $examples examples of $page as stated"

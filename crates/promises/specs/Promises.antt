@@ -165,7 +165,7 @@ pub record Promises : Type 2 where
   -- # Request [9]: nothing held without need
   -- After any list of calls, in Rattle or in C, an open session that holds characters has two ways for the input to go on, ending there included, under which Definition 7 makes different choices at the first one's place; before it every choice is the same however the input goes on
   pub nothing-held : NothingHeld Code.caller × NothingHeld Face.caller
-  -- No place has both
+  -- No place of an input is both open so and decided
   pub never-both : NeverBoth
   -- # The program
   -- For some input of as many bytes as were read, it hands to its writes what the list of turns prints, each from the session that the last one left, the first from a fresh one under compiling's words; or compiling's refusal, and reads nothing
