@@ -40,7 +40,7 @@ tables: target/staticlib/libcobbletwill.a
 	done
 
 # The library, proved, beside that of an earlier commit and beside rivals; prints the tables of docs/PERFORMANCE.md. BEFORE is the landing before
-# this one, and each landing sets it anew.
+# this one, and each landing sets it anew; the tables of the page are of BEFORE=f79dcd3.
 BEFORE ?= 5a445fa
 bench:
 	@command -v flex > /dev/null || { echo 'bench: flex is missing; apt-get install flex' >&2; exit 1; }

@@ -630,8 +630,9 @@ static inline size_t cobbletwill_longest_piece(const uint16_t *words,
  * rule fits and there is no default. Then `*session` is the session after the
  * piece, `*written` is the number of characters written from the start of `output`,
  * and the rest of `output` is as found. Under words that cobbletwill_compile left,
- * characters are held, and written by a later call, only while it depends on what
- * follows, the input's end included, which rule or default takes the first of them.
+ * characters are held for a later call only while it depends on what follows, the
+ * input's end included, what is chosen for the first of them: a rule, the default on
+ * one unit, the default on a pair, or the stop.
  *
  * Else answers the first refusal in this order, and `*session`, `output` and
  * `*written` are as found:

@@ -3,8 +3,8 @@
 use std::iter::successors;
 use std::ops::RangeInclusive;
 
-/// Every text of some characters, of one character at least, whose length is one of the
-/// lengths, the shortest first.
+/// Every text made of the characters, of which there is one at least, whose length is one
+/// of the lengths, the shortest first.
 pub fn texts(
     characters: &[u16],
     lengths: RangeInclusive<usize>,

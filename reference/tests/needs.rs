@@ -50,15 +50,15 @@ fn read(bytes: &[u8]) -> Table {
 }
 
 /// What is chosen at each place of an input, behind its end too.
-fn along(table: &[u8], input: &[u16]) -> Vec<Option<AtPlace>> {
+fn at_each_place(table: &[u8], input: &[u16]) -> Vec<Option<AtPlace>> {
     let places = 0..input.len() + 2;
     places
         .map(|place| chosen_at(&read(table), input, place))
         .collect()
 }
 
-/// Two ways found at a place: they differ, each is what it says it is, and what is found
-/// is the first of all ways and the first that differs from it.
+/// Two ways found at a place: they differ, each is what it says it is, and the first is
+/// no longer than the other.
 fn two_ways(table: &Table, input: &[u16], place: usize) -> Option<[Way; 2]> {
     let two = Trial::of(table).two_ways(input, place)?;
     for Way { text, chosen } in &two {
@@ -104,20 +104,20 @@ fn assert_spelled(table: &[u8], input: &str, place: usize, ways: &[(&str, AtPlac
 fn choices_at_the_places_of_an_input() {
     let mut expected = vec![Some(DEFAULT), Some(rule(0)), None, None, None, None];
     expected.extend([Some(rule(2)), None, None, None]);
-    assert_eq!(along(&t1(), &characters("A&#00;&#")), expected);
-    assert_eq!(along(&t1(), &[]), [None, None]);
+    assert_eq!(at_each_place(&t1(), &characters("A&#00;&#")), expected);
+    assert_eq!(at_each_place(&t1(), &[]), [None, None]);
     // Of a pair the second unit has no choice; alone it has.
     let pairs = [Some(PAIR), None, Some(DEFAULT), Some(DEFAULT), None, None];
-    assert_eq!(along(&t1_marked(), &[HIGH, LOW, LOW, HIGH]), pairs);
+    assert_eq!(at_each_place(&t1_marked(), &[HIGH, LOW, LOW, HIGH]), pairs);
     let alone = [Some(DEFAULT), Some(DEFAULT), None, None];
-    assert_eq!(along(&t1(), &[HIGH, LOW]), alone);
+    assert_eq!(at_each_place(&t1(), &[HIGH, LOW]), alone);
 }
 
 /// T2 stops at `b`, and chooses nothing behind it.
 #[test]
 fn nothing_is_chosen_behind_a_stop() {
     let expected = [Some(rule(1)), Some(STOP), None, None, None];
-    assert_eq!(along(&t2(), &characters("aba")), expected);
+    assert_eq!(at_each_place(&t2(), &characters("aba")), expected);
     let table = read(&t2());
     let (input, trial) = (characters("ab"), Trial::of(&table));
     assert_eq!(trial.ways(&input, 2).next(), None);
@@ -331,8 +331,7 @@ impl Met {
 }
 
 /// Feeds an input character by character, with an empty piece now and then; the session
-/// after each, by feed and by the reckoning of the pieces so far, holds nothing without
-/// need.
+/// after each holds nothing without need, and the last is the reckoning's.
 fn feed_along(random: &mut Random, table: &Table, met: &mut Met) {
     let Ok(automaton) = TableAutomaton::of(table.clone()) else {
         return;

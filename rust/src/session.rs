@@ -98,9 +98,11 @@ impl Session {
         }
     }
 
-    /// Feeds a piece: the output is written from the buffer's start. Characters are
-    /// held only while what becomes of the first of them depends on what follows, the
-    /// input's end included. Refused by 12 to 15, with nothing changed.
+    /// Feeds a piece: the output is written from the buffer's start. Under a machine
+    /// that was compiled, characters are held only while it depends on what follows, the
+    /// input's end included, what is chosen for the first of them: a rule, the default on
+    /// one unit, the default on a pair, or the stop. Refused by 12 to 15, with nothing
+    /// changed.
     pub fn feed(
         &mut self,
         machine: &Machine,

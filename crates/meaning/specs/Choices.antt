@@ -10,8 +10,8 @@ use lib.ListN.{length}
 use Rattle.meaning.specs.Table.{Characters, Table, defaultNumber, pairNumber}
 use Rattle.meaning.specs.Meaning.{Emission, convert}
 
--- what is chosen at a place: "A choice is a rule, the default on one unit, the default on a pair, or the stop.", where no rule fits and there is
--- no default
+-- what is chosen at a place: "A choice is a rule, the default on one unit, the default on a pair, or the stop."; the stop is where no rule fits
+-- and there is no default
 pub data Choice : Type 0 where
   theRule : ℕ → Choice
   theDefault : Choice

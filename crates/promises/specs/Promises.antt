@@ -163,7 +163,7 @@ pub record Promises : Type 2 where
   -- A pair costs two takes and one emit after the back; a first unit with nothing readable after it is held at state 0, its back counted once, and sound sessions allow just this
   pub pairs-run : PairsRun
   -- # Request [9]: nothing held without need
-  -- After any list of calls, in Rattle or in C, an open session that holds characters has two ways for the input to go on, ending there included, under which Definition 7 makes different choices at the first one's place; before it every choice is the same however the input goes on
+  -- After any list of calls of a compiled machine from a fresh session, in Rattle or in C: an open session that holds characters has two ways for the input to go on, ending there included, under which Definition 7 makes different choices at the place of the first held character; at each place before it the choice is the same however the input goes on
   pub nothing-held : NothingHeld Code.caller × NothingHeld Face.caller
   -- No place of an input is both open so and decided
   pub never-both : NeverBoth

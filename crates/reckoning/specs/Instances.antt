@@ -77,8 +77,8 @@ abbrev finishOf : ℕ → Call
 finishOf room = ofFinish (pad room [])
 
 -- a session: status, state, what is held; received, produced, steps; how often each rule, the default and pairs were used
-abbrev sessionOf : Status → ℕ → List ℕ → ℕ → ℕ → ℕ → List ℕ → ℕ → ℕ → Session
-sessionOf status state held received produced steps rules default pairs =
+abbrev sessionWith : Status → ℕ → List ℕ → ℕ → ℕ → ℕ → List ℕ → ℕ → ℕ → Session
+sessionWith status state held received produced steps rules default pairs =
     record {
       status = status;
       state = state;
@@ -99,7 +99,7 @@ closing =
       calls = feedOf "A&#" 15 ∷ feedOf "38;" 25 ∷ finishOf 0 ∷ [];
       answers = answer 1 Open ∷ answer 1 Open ∷ answer 0 Closed ∷ [];
       output = characters "A&";
-      session = sessionOf Closed 0 [] 6 2 10 (0 ∷ 1 ∷ []) 1 0;
+      session = sessionWith Closed 0 [] 6 2 10 (0 ∷ 1 ∷ []) 1 0;
       input = characters "A&#38;";
       ended = true;
     }
@@ -113,7 +113,7 @@ stopping =
       calls = feedOf "a" 1 ∷ feedOf "b" 1 ∷ feedOf "b" 2 ∷ finishOf 0 ∷ [];
       answers = answer 0 Open ∷ refused 15 ∷ answer 1 Stopped ∷ refused 13 ∷ [];
       output = characters "Y";
-      session = sessionOf Stopped 0 [] 1 1 4 (0 ∷ 1 ∷ []) 0 0;
+      session = sessionWith Stopped 0 [] 1 1 4 (0 ∷ 1 ∷ []) 0 0;
       input = characters "ab";
       ended = false;
     }
@@ -127,13 +127,13 @@ pairing =
       calls = ofFeed (55296 ∷ []) (pad 1 []) ∷ ofFeed (56320 ∷ []) (pad 2 []) ∷ ofFeed (56319 ∷ []) (pad 1 []) ∷ finishOf 1 ∷ [];
       answers = answer 0 Open ∷ answer 2 Open ∷ answer 0 Open ∷ answer 1 Closed ∷ [];
       output = 55296 ∷ 56320 ∷ 56319 ∷ [];
-      session = sessionOf Closed 0 [] 3 3 8 [] 1 1;
+      session = sessionWith Closed 0 [] 3 3 8 [] 1 1;
       input = 55296 ∷ 56320 ∷ 56319 ∷ [];
       ended = true;
     }
 
 -- T1 after `A&#`, whose last character is refused once, for a buffer of 9 where 10 is asked. `A` cost a back, a take and an emit, and two characters
--- were taken since; they lead to the third state.
+-- were taken since; they lead to state 2.
 unfoldable pub waiting : Case
 waiting =
     record {
@@ -141,7 +141,7 @@ waiting =
       calls = feedOf "A&" 10 ∷ feedOf "#" 9 ∷ feedOf "#" 10 ∷ [];
       answers = answer 1 Open ∷ refused 15 ∷ answer 0 Open ∷ [];
       output = characters "A";
-      session = sessionOf Open 2 (characters "&#") 3 1 5 [] 1 0;
+      session = sessionWith Open 2 (characters "&#") 3 1 5 [] 1 0;
       input = characters "A&#";
       ended = false;
     }
@@ -154,7 +154,7 @@ unpaired =
       calls = ofFeed (65 ∷ 55296 ∷ []) (pad 2 []) ∷ [];
       answers = answer 1 Open ∷ [];
       output = 65 ∷ [];
-      session = sessionOf Open 0 (55296 ∷ []) 2 1 4 [] 1 0;
+      session = sessionWith Open 0 (55296 ∷ []) 2 1 4 [] 1 0;
       input = 65 ∷ 55296 ∷ [];
       ended = false;
     }

@@ -13,7 +13,7 @@ pub record HeldOfNeed (t : Table) (u : List ℕ) (s : Session) : Type 0 where
   -- "Whenever the session is then open and holds characters, there are two ways for the input to go on, ending there included, under which the
   -- definition makes different choices at the place of the first held character."
   pub undecided : 0 < s .count → Undecided t u (consumed s)
-  -- And the contrary, so that a character is held exactly while its choice is open: what is chosen at each place before is decided,
+  -- And the contrary, so that the first held character is held exactly while its choice is open: what is chosen at each place before is decided,
   pub decided : (p : ℕ) → p < consumed s → Decided t u p
   -- and with nothing held that is the whole input.
   pub none-held : s .count ≡ 0 → consumed s ≡ length u

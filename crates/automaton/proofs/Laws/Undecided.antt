@@ -1,6 +1,7 @@
 -- After a word that leads on to a state whose go is not its end, two ways for the input to go on make different first choices.
--- An end and another go are told apart by a next character, a mere end too; with neither, some rule of the state can be completed.
-use mathlib.Core.Bool.{Bool, true, false, not, cond}
+-- An end and another go differ before a next character; so does an end without a go, whose rule needs the input's end; with neither, some rule
+-- of the state can be completed.
+use mathlib.Core.Bool.{Bool, true, false, cond}
 use mathlib.Core.List.{List, [], _∷_, _++_, append-nil}
 use mathlib.Core.Logic.{_≢_}
 use mathlib.Core.Option.{Option, none, some}
@@ -11,10 +12,9 @@ use native.Mathlib.Omega.{arith}
 use lib.Dec.{T}
 use lib.ListN.{length, getD, length-append}
 use lib.Seq.{take-all}
-use Rattle.lists.specs.Lists.{Each, filter, isEmpty, upTo}
-use Rattle.lists.proofs.Laws.Tests.{of-cond}
+use Rattle.lists.specs.Lists.{upTo}
 use Rattle.lists.proofs.Laws.Each.{each-getD}
-use Rattle.lists.proofs.Laws.Sets.{each-upTo}
+use Rattle.lists.proofs.Laws.Sets.{filter-some, each-upTo}
 use Rattle.meaning.specs.Table.{Characters, Mode, Absent, Single, Paired, Table, mode, everyCharacter, ruleAt, longest}
 use Rattle.meaning.specs.WellFormed.{WellFormedRule, WellFormed}
 use Rattle.meaning.specs.Value.{fitsWord}
@@ -31,11 +31,11 @@ use Rattle.automaton.specs.Classes.{starts}
 use Rattle.automaton.specs.States.{State, initial, inhabited, states, targetOf}
 use Rattle.automaton.specs.Automaton.{Automaton, after, Leads, fromTable}
 use Rattle.automaton.proofs.Laws.Good.{after-inside, stateAt, Least, Done, Free}
-use Rattle.automaton.proofs.Laws.States.{stateOf, state-after, table-good, table-reads}
+use Rattle.automaton.proofs.Laws.States.{state-after, table-good, table-reads}
 use Rattle.automaton.proofs.Laws.Fitting.{end-none, free-of}
 use Rattle.automaton.proofs.Laws.Levels.{target-found, numbered}
 use Rattle.automaton.proofs.Laws.Reached.{target-inhabited}
-use Rattle.automaton.proofs.Laws.Parents.{Parent, parent, Reached}
+use Rattle.automaton.proofs.Laws.Parents.{Parent, parent, Reached, onto-length}
 use Rattle.automaton.proofs.Laws.Witness.{at-first, short-of, end-first, go-first}
 
 -- choices that differ
@@ -57,12 +57,6 @@ no-rule t u k = go (mode t)
 
 -- a word that leads on fits some rule so far
 
-kept-some : (P : ℕ → Type 0) (f : ℕ → Bool) (ns : List ℕ) → Each P ns → T (not (isEmpty (filter f ns))) → (n : ℕ) × P n × T (f n)
-kept-some P f [] a = λ t. absurd t
-kept-some P f (n ∷ ns) a =
-    of-cond (λ ms. T (not (isEmpty ms)) → (n : ℕ) × P n × T (f n)) (f n) (n ∷ filter f ns) (filter f ns)
-    (λ h _. (n, a .0, h)) (λ _ t. kept-some P f ns (a .1) t)
-
 state-inhabited : (t : Table) (s : ℕ) → 0 < s → s < length (states t) → T (inhabited (stateAt t s))
 state-inhabited t s z h =
     let P : Parent t s = parent t s z h in
@@ -76,15 +70,14 @@ leads-fits : (t : Table) → Shaped t → (w : List ℕ) → 0 < length w → Ch
 unfolding initial
 leads-fits t S w z c l =
     let q : ℕ = after (fromTable t) 0 w in
-    let e : stateAt t q ≡ stateOf t w = state-after t S w c l in
-    let d : stateAt t q .depth ≡ length w = ap (λ (p : State). p .depth) e in
+    let d : length w ≡ stateAt t q .depth = onto-length t S q w (record { characters = c; leads = l; there = refl }) in
     let i : q < length (states t) = after-inside (fromTable t) (longest t) (length (states t)) (table-good t S) 0 w (numbered t .some-state) in
     let k : 0 < q = elim (ℕ-discrete q 0) [
       | yes p ↦ let y : stateAt t q .depth ≡ 0 = ap (λ s. stateAt t s .depth) p ∙ ap (λ (p : State). p .depth) (numbered t .first) in absurd (omega arith)
       | no p ↦ omega arith
     ] in
-    kept-some (λ r. r < length (t .rules)) (λ r. fitsPrefix (ruleAt t r .ranges) w) (upTo (length (t .rules))) (each-upTo (length (t .rules)))
-    (subst (λ p. T (inhabited p)) e (state-inhabited t q k i))
+    filter-some (λ r. r < length (t .rules)) (λ r. fitsPrefix (ruleAt t r .ranges) w) (upTo (length (t .rules))) (each-upTo (length (t .rules)))
+    (subst (λ p. T (inhabited p)) (state-after t S w c l) (state-inhabited t q k i))
 
 module _ (t : Table) (W : WellFormed t) where
   abbrev S : Shaped t

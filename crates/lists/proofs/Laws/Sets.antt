@@ -36,6 +36,12 @@ module _ {A : Type 0} where
   filter-all f [] a = refl
   filter-all f (x ∷ xs) a = ap₂ (λ b l. cond b (x ∷ l) l) (of-T (f x) (a .0)) (filter-all f xs (a .1))
 
+  pub filter-some : (P : A → Type 0) (f : A → Bool) (xs : List A) → Each P xs → T (not (isEmpty (filter f xs))) → (x : A) × P x × T (f x)
+  filter-some P f [] a = λ t. absurd t
+  filter-some P f (x ∷ xs) a =
+      of-cond (λ l. T (not (isEmpty l)) → (x : A) × P x × T (f x)) (f x) (x ∷ filter f xs) (filter f xs)
+      (λ h _. (x, a .0, h)) (λ _ t. filter-some P f xs (a .1) t)
+
   pub not-empty : (xs : List A) {x : A} → List·Memᴰ x xs → T (not (isEmpty xs))
   not-empty [] m = absurd (List·Memᴰ·not-nil m)
   not-empty (x ∷ xs) m = tt

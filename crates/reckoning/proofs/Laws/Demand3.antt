@@ -11,7 +11,7 @@ use lib.ListN.{length, drop}
 use Rattle.lists.specs.Lists.{Each, pad}
 use Rattle.lists.proofs.Laws.Each.{each-append}
 use Rattle.meaning.specs.Refusal.{Outcome, refused, accepted}
-use Rattle.meaning.specs.Table.{Characters, Table, mode, group, longest}
+use Rattle.meaning.specs.Table.{Characters, Table, group, longest}
 use Rattle.meaning.specs.Meaning.{Emission, written, textOf, covered, convert}
 use Rattle.meaning.proofs.Laws.Groups.{longest-small}
 use Rattle.meaning.proofs.Laws.Described.{well-formed-shaped}
@@ -34,7 +34,8 @@ use Rattle.reckoning.specs.Reckoning.{Call, piece, ends, Served, unserve
 use Rattle.reckoning.specs.Claims.{isStopped, Agrees, OutcomesAgree}
 use Rattle.reckoning.proofs.Laws.Trace.{trace, cost, logOf, heldOf, statusOf}
 use Rattle.reckoning.proofs.Laws.Rounds.{NotOpen, not-open, trace-covers, held-characters, trace-graft, graft-stopped, ended-empty, Counted, Bounded, bounded}
-use Rattle.reckoning.proofs.Laws.Meaning.{ending, meaning-law}
+use Rattle.reckoning.proofs.Laws.Meaning.{ending}
+use Rattle.reckoning.proofs.Laws.Whole.{meaning-is}
 use Rattle.reckoning.proofs.Laws.Calls.{told, Matched, Standing, calls-stand, ran-tells, ran-waits, same-trace, ran-text}
 
 -- a trace that stopped without the end is the trace of every longer input, ended or not
@@ -105,16 +106,6 @@ module _ (t : Table) where
   input-pieces cs = let g = reckon-grown cs noInput in g .characters ∙ ap (acceptedPieces cs) (sym (g .answers))
 
 module _ (t : Table) (w : List ℕ) (K : Matched t w) where
-  default-is : fromTable t .default ≡ mode t
-  unfolding fromTable
-  default-is = refl
-
-  -- Definition 7 of an input is the trace with the end known
-  meaning-trace : (u : List ℕ) → Characters u →
-      (logOf (trace (fromTable t) true 0 u) ≡ convert t u .log) × (statusOf (trace (fromTable t) true 0 u) ≡ ending (convert t u .closed))
-  unfolding convert
-  meaning-trace u c = meaning-law (fromTable t) t (K .shaped) (K .reads) default-is 0 u c
-
   text-is : (l : List Emission) → textOf (fromTable t .write) l ≡ textOf (λ n v. written (group t n) v) l
   unfolding fromTable
   text-is l = refl
@@ -144,7 +135,7 @@ module _ (t : Table) (w : List ℕ) (K : Matched t w) where
       let after-is : after A 0 (heldOf x) ≡ after M 0 (heldOf x) =
       numbers-after A M (longest t) (length (states t)) (K .good) N 0 (heldOf x) (K .good .some-state)
       (held-characters x u (trace-covers A (longest t) (length (states t)) (K .good) e 0 u (omega arith)) (S .characters)) in
-      let D = meaning-trace u (S .characters) in
+      let D = meaning-is t (K .shaped) u (S .characters) in
       let log-is : T (e || isStopped (v .session .status)) → logOf x ≡ convert t u .log = λ h. ap logOf (over h) ∙ D .0 in
       let end-is : T (e || isStopped (v .session .status)) → v .session .status ≡ ending (convert t u .closed) = λ h. st ∙ ap statusOf (over h) ∙ D .1 in
       record {
@@ -169,8 +160,8 @@ module _ (t : Table) (w : List ℕ) (K : Matched t w) where
         firm = λ ne h more cm e′.
             let sx : statusOf (trace A false 0 u) ≡ Stopped = subst (λ z. statusOf (trace A z 0 u) ≡ Stopped) ne (sym st ∙ h) in
             let c₂ = each-append (λ z. z < 65536) u more (S .characters) cm in
-            let D₂ = meaning-trace (u ++ more) c₂ in
-            let D₁ = meaning-trace u (S .characters) in
+            let D₂ = meaning-is t (K .shaped) (u ++ more) c₂ in
+            let D₁ = meaning-is t (K .shaped) u (S .characters) in
             let q₂ : trace A true 0 (u ++ more) ≡ trace A false 0 u = stopped-firm A u more true sx in
             let q₁ : trace A true 0 u ≡ trace A false 0 u = subst (λ z. trace A true 0 z ≡ trace A false 0 u) (append-nil u) (stopped-firm A u [] true sx) in
             let logs : convert t (u ++ more) .log ≡ convert t u .log = sym (D₂ .0) ∙ ap logOf (q₂ ∙ sym q₁) ∙ D₁ .0 in

@@ -37,9 +37,10 @@ use Rattle.reckoning.specs.Needs.{HeldOfNeed}
 use Rattle.reckoning.proofs.Laws.Trace.{walk, Trace, trace, logOf, heldOf, statusOf}
 use Rattle.reckoning.proofs.Laws.Walk.{settled-hit}
 use Rattle.reckoning.proofs.Laws.Rounds.{Stood, led, leftover, Joined, Covers, trace-covers, covers-held, held-characters, trace-graft, graft-open, not-open, trace-rests, rests-open, trace-ended}
-use Rattle.reckoning.proofs.Laws.Meaning.{round-picks, ending, meaning-law}
+use Rattle.reckoning.proofs.Laws.Meaning.{round-picks, ending}
+use Rattle.reckoning.proofs.Laws.Whole.{run-is, meaning-is}
 use Rattle.reckoning.proofs.Laws.Kept.{sound-facts}
-use Rattle.reckoning.proofs.Laws.Calls.{Matched, calls-stand, ran-tells}
+use Rattle.reckoning.proofs.Laws.Calls.{calls-stand}
 use Rattle.reckoning.proofs.Laws.Demand3.{compiled-matched, outcomes-agree}
 
 module _ (t : Table) (W : WellFormed t) where
@@ -52,6 +53,44 @@ module _ (t : Table) (W : WellFormed t) where
   abbrev good : Good A (longest t) (length (states t))
   good = table-good t S
 
+  -- Where the machine waits with h held, the first choice over h is open.
+
+  go-not-end : (q : ℕ) → settled A q ≡ false → (r : ℕ) → A .accept q ≡ suc r → A .acceptAtEnd q ≡ suc r → ⊥
+  go-not-end q n r pg pe = subst T (sym (settled-hit A q (suc r) pg) ∙ n) (rw pe (eqb-refl (suc r)))
+
+  -- where state 0 has no target for a character, no rule fits there
+  none-fits : (y : ℕ) → A .target 0 y ≡ 0 → (u : List ℕ) → Characters (y ∷ u) → Chosen t (length (t .rules)) (y ∷ u) none
+  unfolding walk
+  none-fits y n u c = rw (good .accept-0, n) at (round-picks A t S (table-reads t S) (taking 0 0) tt (y ∷ u) c)
+
+  default-is : A .default ≡ mode t
+  unfolding fromTable
+  default-is = refl
+
+  -- a first unit that was left: ending there the default takes it alone, and before a second unit it takes both
+  unit-open : (y : ℕ) → y < 65536 → mode t ≡ Paired → T (isFirst y) → A .target 0 y ≡ 0 → Undecided t (y ∷ []) 0
+  unit-open y b m i none-there = record {
+    one = [];
+    other = 56320 ∷ [];
+    one-characters = tt;
+    other-characters = (omega arith, tt);
+    one-choice = theDefault;
+    other-choice = thePair;
+    one-chosen =
+        at-first t S (y ∷ []) none (omega arith) (none-fits y none-there [] (b, tt))
+        ∙ ap (λ m. some (fallen m (y ∷ []))) m;
+    other-chosen =
+        at-first t S (y ∷ 56320 ∷ []) none (omega arith) (none-fits y none-there (56320 ∷ []) (b, (omega arith, tt)))
+        ∙ ap (λ m. some (fallen m (y ∷ 56320 ∷ []))) m
+        ∙ ap (λ z. some (cond z thePair theDefault)) (of-T (isFirst y && isSecond 56320) (both (isFirst y) (isSecond 56320) i tt));
+    differ = λ e. let z : _≡_ {A = ℕ} 0 1 = cc in omega arith;
+  }
+
+  stood-open : (h : List ℕ) (q : ℕ) → Stood A h q → settled A q ≡ false → 0 < length h → Characters h → Undecided t h 0
+  stood-open h q (led p l) n some-held k = two-ways t W h some-held k l (go-not-end (after A 0 h) (subst (λ s. settled A s ≡ false) p n))
+  stood-open h q (leftover y p z m i none-there) n some-held k =
+      subst (λ h. Undecided t h 0) (sym p) (unit-open y (subst Characters p k .0) (sym default-is ∙ m) i none-there)
+
   -- An input that goes on: what is chosen where the held characters begin is what is chosen first of them and what follows.
 
   ending-same : (a b : Bool) → ending a ≡ ending b → a ≡ b
@@ -59,14 +98,6 @@ module _ (t : Table) (W : WellFormed t) where
   ending-same true false e = let z : _≡_ {A = ℕ} 0 1 = cc in absurd (omega arith)
   ending-same false true e = let z : _≡_ {A = ℕ} 0 1 = cc in absurd (omega arith)
   ending-same false false e = refl
-
-  default-is : A .default ≡ mode t
-  unfolding fromTable
-  default-is = refl
-
-  told : (u : List ℕ) → Characters u → (logOf (trace A true 0 u) ≡ convert t u .log) × (statusOf (trace A true 0 u) ≡ ending (convert t u .closed))
-  unfolding convert
-  told u c = meaning-law A t S (table-reads t S) default-is 0 u c
 
   -- The input u was read, and the machine waits.
   module _ (u : List ℕ) (c : Characters u) (o : statusOf (trace A false 0 u) ≡ Open) where
@@ -90,8 +121,8 @@ module _ (t : Table) (W : WellFormed t) where
         let rest = heldOf x ++ v in
         let J : Joined x (trace A true 0 rest) (trace A true 0 all) =
         rw (trace-graft A true v 0 u (omega arith)) (graft-open (trace A false 0 u) (λ h. trace A true 0 (h ++ v)) o) in
-        let D = told all (each-append (λ c. c < 65536) u v c k) in
-        let E = told rest (each-append (λ c. c < 65536) (heldOf x) v characters k) in
+        let D = meaning-is t S all (each-append (λ c. c < 65536) u v c k) in
+        let E = meaning-is t S rest (each-append (λ c. c < 65536) (heldOf x) v characters k) in
         let logs : convert t all .log ≡ logOf x ++ convert t rest .log = sym (D .0) ∙ J .log ∙ ap (λ m. logOf x ++ m) (E .0) in
         let ends : convert t all .closed ≡ convert t rest .closed = ending-same _ _ (sym (D .1) ∙ J .status ∙ E .1) in
         ap (λ m. chosenIn m (convert t all .closed) p) logs ∙ ap (λ b. chosenIn (logOf x ++ convert t rest .log) b p) ends
@@ -112,43 +143,11 @@ module _ (t : Table) (W : WellFormed t) where
         λ v k. let r = convert t (heldOf x ++ v) in chosen-on v k p ∙ chosen-within (logOf x) (r .log) (r .closed) p h in
         by-log v k ∙ sym (by-log [] tt) ∙ ap (λ z. chosenAt t z p) (append-nil u)
 
-    unsettled : (q : ℕ) → settled A q ≡ false → (r : ℕ) → A .accept q ≡ suc r → A .acceptAtEnd q ≡ suc r → ⊥
-    unsettled q n r pg pe = subst T (sym (settled-hit A q (suc r) pg) ∙ n) (rw pe (eqb-refl (suc r)))
-
-    -- where state 0 has no target for a character, no rule fits there
-    none-fits : (y : ℕ) → A .target 0 y ≡ 0 → (u : List ℕ) → Characters (y ∷ u) → Chosen t (length (t .rules)) (y ∷ u) none
-    unfolding walk
-    none-fits y n u c = rw (good .accept-0, n) at (round-picks A t S (table-reads t S) (taking 0 0) tt (y ∷ u) c)
-
-    -- a first unit that was left: ending there the default takes it alone, and before a second unit it takes both
-    unit-open : (y : ℕ) → y < 65536 → mode t ≡ Paired → T (isFirst y) → A .target 0 y ≡ 0 → Undecided t (y ∷ []) 0
-    unit-open y b m i none-there = record {
-      one = [];
-      other = 56320 ∷ [];
-      one-characters = tt;
-      other-characters = (omega arith, tt);
-      one-choice = theDefault;
-      other-choice = thePair;
-      one-chosen =
-          at-first t S (y ∷ []) none (omega arith) (none-fits y none-there [] (b, tt))
-          ∙ ap (λ m. some (fallen m (y ∷ []))) m;
-      other-chosen =
-          at-first t S (y ∷ 56320 ∷ []) none (omega arith) (none-fits y none-there (56320 ∷ []) (b, (omega arith, tt)))
-          ∙ ap (λ m. some (fallen m (y ∷ 56320 ∷ []))) m
-          ∙ ap (λ z. some (cond z thePair theDefault)) (of-T (isFirst y && isSecond 56320) (both (isFirst y) (isSecond 56320) i tt));
-      differ = λ e. let z : _≡_ {A = ℕ} 0 1 = cc in omega arith;
-    }
-
-    stood-open : (h : List ℕ) (q : ℕ) → Stood A h q → q ≡ after A 0 h → settled A q ≡ false → 0 < length h → Characters h → Undecided t h 0
-    stood-open h q (led p l) e n some-held k = two-ways t W h some-held k l (unsettled (after A 0 h) (subst (λ s. settled A s ≡ false) e n))
-    stood-open h q (leftover y p z m i none-there) e n some-held k =
-        subst (λ h. Undecided t h 0) (sym p) (unit-open y (subst Characters p k .0) (sym default-is ∙ m) i none-there)
-
     -- WHAT IS HELD IS NOT
     pub held-undecided : 0 < length (heldOf x) → Undecided t u (covered (logOf x))
     held-undecided h =
         let k = rests-open A x (trace-rests A (longest t) (length (states t)) good 0 u) o in
-        let w : Undecided t (heldOf x) 0 = stood-open (heldOf x) (after A 0 (heldOf x)) (k .0) refl (k .1) h characters in
+        let w : Undecided t (heldOf x) 0 = stood-open (heldOf x) (after A 0 (heldOf x)) (k .0) (k .1) h characters in
         record {
           one = w .one;
           other = w .other;
@@ -167,14 +166,13 @@ record Needed (t : Table) (u : List ℕ) (r : Ended) : Type 0 where
   undecided : 0 < length (r .final .store) → Undecided t u (covered (r .final .log))
   decided : (p : ℕ) → p < covered (r .final .log) → Decided t u p
 
-module _ (t : Table) (w : List ℕ) (K : Matched t w) (W : WellFormed t) where
+module _ (t : Table) (W : WellFormed t) where
   -- with its end an input does not wait
   needed : (u : List ℕ) (e : Bool) → Characters u → ran t u e .status ≡ Open → Needed t u (ran t u e)
-  needed u true c o = absurd (not-open _ (trace-ended (fromTable t) 0 u) (sym (ran-tells t w K u true .status) ∙ o))
+  needed u true c o = absurd (not-open _ (trace-ended (fromTable t) 0 u) (sym (run-is t (well-formed-shaped t W) u true .status) ∙ o))
   needed u false c o =
-      let T = ran-tells t w K u false in
-      let x = trace (fromTable t) false 0 u in
-      let open-x : statusOf x ≡ Open = sym (T .status) ∙ o in
+      let T = run-is t (well-formed-shaped t W) u false in
+      let open-x : statusOf (trace (fromTable t) false 0 u) ≡ Open = sym (T .status) ∙ o in
       record {
         place = rw (T .log, T .store) (held-place t W u c open-x);
         undecided = λ h. rw (T .log) (held-undecided t W u c open-x (subst (λ m. 0 < length m) (T .store) h));
@@ -190,14 +188,13 @@ pub nothing-held : (t : Table) (w : List ℕ) → Compiled t w → (cs : List Ca
     (let v = serve w cs unserved in v .session .status ≡ Open → HeldOfNeed t (acceptedPieces cs (v .answers)) (v .session))
 unfolding OutcomesAgree
 nothing-held t w C cs a o =
-    let K = compiled-matched t w C in
     let s = serve w cs unserved .session in
     let i = reckon t cs noInput in
     let G = outcomes-agree t w C cs a in
-    let S = calls-stand t w K cs a in
+    let S = calls-stand t w (compiled-matched t w C) cs a in
     let r = ran t (i .characters) (i .ended) in
     let is-open : r .status ≡ Open = sym (G .status) ∙ o in
-    let N : Needed t (i .characters) r = needed t w K (C .keeps .keeps .well-formed) (i .characters) (i .ended) (S .characters) is-open in
+    let N : Needed t (i .characters) r = needed t (C .keeps .keeps .well-formed) (i .characters) (i .ended) (S .characters) is-open in
     let all : s .received ≡ length (i .characters) = G .received ∙ ap (λ z. receivedBy z (length (i .characters)) (covered (r .final .log))) is-open in
     rw (← G .input) (record {
       place = rw (G .consumes) (N .place) ∙ sym (stored (s .count) (s .held) (r .final .store) (G .count) (G .held) (sound-facts w s (S .kept) .places));

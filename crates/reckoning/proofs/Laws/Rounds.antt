@@ -140,7 +140,7 @@ held-characters (stopping d) u c a = tt
 held-characters (accepting g w t) u c a = held-characters t (c .0) (c .2) (each-back (λ x. x < 65536) w (c .0) (subst Characters (c .1) a))
 held-characters (defaulting d g w t) u c a = held-characters t (c .0) (c .2) (each-back (λ x. x < 65536) w (c .0) (subst Characters (c .1) a))
 
--- of what waits it is the input behind the log
+-- where a trace waits, what is held is the input behind what its log covers
 pub covers-held : (t : Trace) (u : List ℕ) → Covers u t → statusOf t ≡ Open → drop (covered (logOf t)) u ≡ heldOf t
 unfolding covered logOf heldOf statusOf
 covers-held (waiting h) u c o = sym c
