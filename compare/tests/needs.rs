@@ -4,7 +4,6 @@
 //! have a machine wait without need are told apart.
 
 use std::collections::BTreeMap;
-use std::fmt::Debug;
 
 use compare::both;
 use compare::cases::{room, sound_tables};
@@ -116,74 +115,91 @@ impl Met {
     }
 }
 
-/// What is named was met, each as often as is named or more.
-fn assert_often<K: Debug + Ord>(
-    met: &BTreeMap<K, usize>,
-    named: impl IntoIterator<Item = (K, usize)>,
-) {
-    for (key, least) in named {
-        let times = met.get(&key).copied().unwrap_or(0);
-        assert!(times >= least, "{key:?} {times} times, {met:?}");
+/// How often something must be met at least: a third of what is met or less.
+struct Least<'l> {
+    refused: usize,
+    empty: usize,
+    units: usize,
+    settled: usize,
+    /// By how many characters are held, from one on.
+    holding: &'l [usize],
+    /// By the sorts of the two choices; no others are met.
+    sorts: &'l [([Sort; 2], usize)],
+}
+
+impl Met {
+    /// Each was met often.
+    fn assert_often(&self, least: &Least) {
+        assert!(self.refused >= least.refused, "{self:?}");
+        assert!(self.empty >= least.empty, "{self:?}");
+        assert!(self.units >= least.units, "{self:?}");
+        assert!(self.settled >= least.settled, "{self:?}");
+        for (held, &times) in (1..).zip(least.holding) {
+            assert!(self.holding.get(&held) >= Some(&times), "{held}: {self:?}");
+        }
+        for (sorts, times) in least.sorts {
+            assert!(self.sorts.get(sorts) >= Some(times), "{sorts:?}: {self:?}");
+        }
+        assert_eq!(self.sorts.len(), least.sorts.len(), "{self:?}");
     }
 }
 
 /// More than half of the open sessions hold characters, most of them one. A third of the
-/// tables has no default, a third a marked one. The guards are a third of what is met or
-/// less, here as below.
+/// tables has no default, a third a marked one.
 #[test]
 fn tables_as_they_come() {
-    let met = Met::of(SEED, sound_tables(SEED + 1));
-    assert!(met.refused >= 2_500 && met.empty >= 6_000, "{met:?}");
-    assert!(met.units >= 400 && met.settled >= 5_000, "{met:?}");
-    let held = [4_500, 1_500, 600, 200, 80, 25, 10, 3];
-    assert_often(&met.holding, (1..).zip(held));
-    let sorts = [
-        ([Sort::Rule, Sort::Rule], 450),
-        ([Sort::Rule, Sort::Default], 5_000),
-        ([Sort::Rule, Sort::Pair], 15),
-        ([Sort::Rule, Sort::Stop], 1_000),
-        ([Sort::Default, Sort::Pair], 450),
-    ];
-    assert_eq!(met.sorts.len(), sorts.len(), "{met:?}");
-    assert_often(&met.sorts, sorts);
+    Met::of(SEED, sound_tables(SEED + 1)).assert_often(&Least {
+        refused: 2_500,
+        empty: 6_000,
+        units: 400,
+        settled: 5_000,
+        holding: &[4_500, 1_500, 600, 200, 80, 25, 10, 3],
+        sorts: &[
+            ([Sort::Rule, Sort::Rule], 450),
+            ([Sort::Rule, Sort::Default], 5_000),
+            ([Sort::Rule, Sort::Pair], 15),
+            ([Sort::Rule, Sort::Stop], 1_000),
+            ([Sort::Default, Sort::Pair], 450),
+        ],
+    });
 }
 
 /// A rule for the input's end before the same rule: two rules are met more often.
 #[test]
 fn tables_with_rivals() {
-    let met = Met::of(SEED + 2, rival_tables(SEED + 3));
-    assert!(met.refused >= 2_500 && met.empty >= 5_000, "{met:?}");
-    assert!(met.units >= 400 && met.settled >= 5_000, "{met:?}");
-    let held = [5_000, 1_500, 600, 200, 80, 25, 10, 4];
-    assert_often(&met.holding, (1..).zip(held));
-    let sorts = [
-        ([Sort::Rule, Sort::Rule], 1_500),
-        ([Sort::Rule, Sort::Default], 4_500),
-        ([Sort::Rule, Sort::Pair], 15),
-        ([Sort::Rule, Sort::Stop], 1_000),
-        ([Sort::Default, Sort::Pair], 450),
-    ];
-    assert_eq!(met.sorts.len(), sorts.len(), "{met:?}");
-    assert_often(&met.sorts, sorts);
+    Met::of(SEED + 2, rival_tables(SEED + 3)).assert_often(&Least {
+        refused: 2_500,
+        empty: 5_000,
+        units: 400,
+        settled: 5_000,
+        holding: &[5_000, 1_500, 600, 200, 80, 25, 10, 4],
+        sorts: &[
+            ([Sort::Rule, Sort::Rule], 1_500),
+            ([Sort::Rule, Sort::Default], 4_500),
+            ([Sort::Rule, Sort::Pair], 15),
+            ([Sort::Rule, Sort::Stop], 1_000),
+            ([Sort::Default, Sort::Pair], 450),
+        ],
+    });
 }
 
 /// Every table has a default and so no stop. Units make more characters to try, so that
 /// fewer tables with long rules are small enough.
 #[test]
 fn tables_with_marked_defaults() {
-    let met = Met::of(SEED + 4, marked_tables(SEED + 5));
-    assert!(met.refused >= 3_000 && met.empty >= 7_000, "{met:?}");
-    assert!(met.units >= 1_500 && met.settled >= 3_000, "{met:?}");
-    let held = [6_000, 1_500, 600, 150, 40, 9];
-    assert_often(&met.holding, (1..).zip(held));
-    let sorts = [
-        ([Sort::Rule, Sort::Rule], 200),
-        ([Sort::Rule, Sort::Default], 6_000),
-        ([Sort::Rule, Sort::Pair], 300),
-        ([Sort::Default, Sort::Pair], 2_500),
-    ];
-    assert_eq!(met.sorts.len(), sorts.len(), "{met:?}");
-    assert_often(&met.sorts, sorts);
+    Met::of(SEED + 4, marked_tables(SEED + 5)).assert_often(&Least {
+        refused: 3_000,
+        empty: 7_000,
+        units: 1_500,
+        settled: 3_000,
+        holding: &[6_000, 1_500, 600, 150, 40, 9],
+        sorts: &[
+            ([Sort::Rule, Sort::Rule], 200),
+            ([Sort::Rule, Sort::Default], 6_000),
+            ([Sort::Rule, Sort::Pair], 300),
+            ([Sort::Default, Sort::Pair], 2_500),
+        ],
+    });
 }
 
 /// Feeds an input by single characters, of which so many are held at last; answers the

@@ -16,6 +16,9 @@ use reference::session::{feed, Session};
 use reference::table::{RuleNo, Table};
 use reference::trial::{text_count, texts};
 
+mod letters;
+use letters::{A, B, HIGH, LAST_HIGH, LAST_LOW, LOW};
+
 /// The seed of the random tables.
 const SEED: u64 = 99;
 /// How many small tables of each sort are tried.
@@ -24,16 +27,6 @@ const TABLES: usize = 1_500;
 const WAYS: usize = 400;
 /// The most characters of an input.
 const LONGEST_INPUT: usize = 20;
-
-/// The first and the last first unit, and the first and the last second unit.
-const HIGH: u16 = 0xD800;
-const LAST_HIGH: u16 = 0xDBFF;
-const LOW: u16 = 0xDC00;
-const LAST_LOW: u16 = 0xDFFF;
-
-/// `a` and `b`.
-const A: u16 = 97;
-const B: u16 = 98;
 
 const DEFAULT: AtPlace = AtPlace::Chosen(Choice::Default);
 const PAIR: AtPlace = AtPlace::Chosen(Choice::Pair);

@@ -14,14 +14,10 @@ use reference::table::{Group, Mode, RuleNo, Table};
 use reference::uses::{Uses, DEFAULT, PAIRS};
 use reference::words::Words;
 
-/// The first and the last first unit, and the first and the last second unit.
-const HIGH: u16 = 0xD800;
-const LAST_HIGH: u16 = 0xDBFF;
-const LOW: u16 = 0xDC00;
-const LAST_LOW: u16 = 0xDFFF;
-/// `a`, `b` and `!`.
-const A: u16 = 97;
-const B: u16 = 98;
+mod letters;
+use letters::{A, B, HIGH, LAST_HIGH, LAST_LOW, LOW};
+
+/// `!`.
 const MARK: u16 = 33;
 
 /// `ab` writes `!`; the marked default writes `!` for one unit, so that it shows which
