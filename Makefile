@@ -27,8 +27,8 @@ install:
 	version=$$(sed -n 's/^#define COBBLETWILL_VERSION "\(.*\)"$$/\1/p' include/cobbletwill.h) && \
 	    sed -e "s,@PREFIX@,$(PREFIX)," -e "s,@VERSION@,$$version," include/cobbletwill.pc.in > "$(DESTDIR)$(PREFIX)/lib/pkgconfig/cobbletwill.pc"
 
-# The example in C.
-target/examples/station: examples/c/station.c include/cobbletwill.h target/staticlib/libcobbletwill.a
+# The examples in C, station and chain.
+target/examples/%: examples/c/%.c examples/c/text.h include/cobbletwill.h target/staticlib/libcobbletwill.a
 	@mkdir -p $(@D)
 	cc -std=c11 -Wall -Wextra -Werror -O2 -Iinclude -o $@ $< target/staticlib/libcobbletwill.a
 
@@ -40,8 +40,8 @@ tables: target/staticlib/libcobbletwill.a
 	done
 
 # The library, proved, beside that of an earlier commit and beside rivals; prints the tables of docs/PERFORMANCE.md. BEFORE is the landing before
-# this one, and each landing sets it anew; the tables of the page are of BEFORE=f79dcd3.
-BEFORE ?= 5a445fa
+# this one, and each landing sets it anew; the tables of the page are of BEFORE=f79dcd3, but for that of chains.
+BEFORE ?= 05edb7e
 bench:
 	@command -v flex > /dev/null || { echo 'bench: flex is missing; apt-get install flex' >&2; exit 1; }
 	@bash .ci/build

@@ -1,11 +1,12 @@
 #!/usr/bin/env bash
-# The two stations, in C and in Rust, against every table's expected text, and where they stop or are refused; and what `make demo` shows.
+# The two stations, in C and in Rust, against every table's expected text, and where they stop or are refused; the two chains on their sample;
+# and what `make demo` shows.
 set -euo pipefail
 cd "$(dirname "$0")/.."
 
 out=target/examples
 mkdir -p "$out"
-make --no-print-directory "$out/station"
+make --no-print-directory "$out/station" "$out/chain"
 for package in rust tools; do
     cargo build --release --offline --locked --quiet --manifest-path "$package/Cargo.toml" --target-dir target/cargo --bins --examples
 done
@@ -27,6 +28,19 @@ expect_uses() {
     for station in "$out/station" target/cargo/release/examples/station; do
         "$station" "$2" < "$3" > "$out/text" 2> "$out/counts" || [ $? = 2 ]
         tail -n +3 "$out/counts" | diff "$out/uses" - || { echo "$1: $station counts other uses" >&2; exit 1; }
+    done
+}
+
+# expect_chain NAME CODE FIRST SECOND INPUT TEXT: both chains end so, with this output and with the lines on standard error that stand on
+# standard input.
+expect_chain() {
+    cat > "$out/ends"
+    for chain in "$out/chain" target/cargo/release/examples/chain; do
+        code=0
+        "$chain" "$3" "$4" < "$5" > "$out/text" 2> "$out/counts" || code=$?
+        [ "$code" = "$2" ] || { echo "$1: $chain ends with $code, not $2" >&2; exit 1; }
+        cmp "$out/text" "$6"
+        sed 's/^chain: //' "$out/counts" | diff "$out/ends" - || { echo "$1: $chain says something else" >&2; exit 1; }
     done
 }
 
@@ -112,6 +126,25 @@ printf '"a" ==> [256];' > "$out/high.txt"
 target/cargo/release/build_table "$out/high.txt" "$out/high.tab" > "$out/counts"
 expect high 1 "$out/high.tab" "$out/input" "$out/empty" 'an output character above 255'
 
+# The sample of examples/chain, whose README.md has the numbers worked out.
+html=tables/html-decimal/rules.tab
+expect_chain sample 0 "$html" tables/shef/rules.tab examples/chain/input.txt examples/chain/expected.txt << 'END'
+first closed: 241 characters received, 177 written
+second closed: 177 characters received, 172 written
+END
+
+# T2 writes Y for the `a` of `ab` and stops at the `b`, whether it is the second, to which the first passes `ab` on, or the first.
+expect_chain 'second stops' 2 "$html" "$out/t2.tab" "$out/input" "$out/expected" << 'END'
+first open: 2 characters received, 2 written
+second stopped: 1 characters received, 1 written
+END
+expect_chain 'first stops' 2 "$out/t2.tab" "$html" "$out/input" "$out/expected" << 'END'
+first stopped: 1 characters received, 1 written
+second open: 1 characters received, 1 written
+END
+expect_chain 'first refused' 1 "$out/empty" "$html" "$out/input" "$out/empty" <<< 'refused 5: no rule'
+expect_chain 'second refused' 1 "$html" "$out/empty" "$out/input" "$out/empty" <<< 'refused 5: no rule'
+
 make --no-print-directory demo > "$out/demo"
 awk '/^-- counts/ { shown = 0 } shown; /^-- output/ { shown = 1 }' "$out/demo" > "$out/text"
 [ -s "$out/text" ] || { echo "demo: shows no output" >&2; exit 1; }
@@ -122,4 +155,4 @@ for uses in '      1             5     7  "&#[0-9][0-9];" ' '      0            
 done
 grep -qF 'not proved. `make build` proves' <<< "$(tail -n 1 "$out/demo")" || { echo "demo: the last line does not say that nothing is proved" >&2; exit 1; }
 
-echo "stations and demo: $tables tables as expected"
+echo "stations, chains and demo: $tables tables as expected"

@@ -2,7 +2,7 @@
  * Cobbletwill: conversion of text under a table of rules, tables of rules that are
  * typed as text, compiling a table into machine words, inputs that show which rules
  * can be chosen, and conversion by the words, piece by piece, with a look ahead at
- * what a piece would give.
+ * what a piece would give, and by two tables in a row.
  *
  * The library is libcobbletwill.a, for x86-64 Linux. docs/FORMAT.md of its sources
  * has tables, typed rules, machine words and sessions character by character and
@@ -17,24 +17,32 @@
  * other unit it treats alone, as one without the mark does. A first unit at the end of a
  * piece waits for what follows, and is treated alone at the input's end.
  *
+ * Chains. Two machines in a row: the first's text is fed to the second, by way of a
+ * middle buffer that is lent. Each has words and a session of its own, its L, E and
+ * characters held with them. The least middle length is the first's E times the
+ * characters that it holds and those of the piece.
+ *
  * Names. COBBLETWILL_REFUSED_... is the number of a refusal, COBBLETWILL_..._SIZE a
  * number of elements, with which an array is declared, and COBBLETWILL_MAX_... a
  * greatest number.
  *
  * Buffers. A buffer is a pointer to its first element and then its number of
  * elements. With the number 0 the pointer is not used and may be null. No other
- * pointer may be null: `session`, `later`, `place`, `written`, `length` and the
- * `input` of witness always point to one object, `uses` and `later_uses` to 34.
- * Pointers are aligned as their type.
+ * pointer may be null: `session`, `later`, `first`, `second`, `place`, `written`,
+ * `first_status`, `length` and the `input` of witness always point to one object,
+ * `uses`, `later_uses`, `first_uses` and `second_uses` to 34. Pointers are aligned as
+ * their type.
  *
  * Overlaps. What a call may write (the table of from_text, the words of compile
- * and witness, the `*input` of witness, `output`, the `*session` and `uses` of feed
- * and finish, `*later`, `later_uses`, `*place`, `*written`, `*length`) must not
- * overlap anything else that is passed to it. Where counts of uses are passed too, a
- * session is the 48 bytes before its counts. What a call only reads (`text`, `table`
- * but for that of from_text, the `input` of convert, `piece`, the words of feed,
- * finish and preview, the `*session` and `uses` of preview) may overlap, and may lie
- * in read-only memory.
+ * and witness, the `*input` of witness, `middle`, `output`, the `*session` and `uses`
+ * of feed and finish, `*later`, `later_uses`, `*first`, `first_uses`, `*second`,
+ * `second_uses`, `*place`, `*written`, `*first_status`, `*length`) must not overlap
+ * anything else that is passed to it. Where counts of uses are passed too, a session
+ * is the 48 bytes before its counts. What a call only reads (`text`, `table` but for
+ * that of from_text, the `input` of convert, `piece`, the words of feed, finish,
+ * preview and a chain, the `*session` and `uses` of preview) may overlap, and may lie
+ * in read-only memory: so both machines of a chain may have the same words, and each
+ * its own session.
  *
  * A refused call writes nothing, but for a compile or a witness refused by 1 to 9,
  * which leaves its words 0. So at any other refusal what could have been written may
@@ -53,13 +61,14 @@
  * layout, answers, functions. Words of 0.2, which has no digits, are not for later
  * versions. Tables and words of 0.4, which has no from_text, of 0.5, which has no
  * preview, of 0.6, which has no witness, of 0.7, which takes terms by rising position
- * alone, of 0.8, which has other names of refusals and sizes, and of 0.9, which has no
- * marked default, stay valid. Sessions of 0.9 are not for 0.10: a session is 312 bytes
- * there and has no count of pairs. Nor are those of the versions before. */
+ * alone, of 0.8, which has other names of refusals and sizes, of 0.9, which has no
+ * marked default, and of 0.10, which has no chains, stay valid. So do sessions of 0.10,
+ * and not those of the versions before: in 0.9 a session is 312 bytes and has no count
+ * of pairs. */
 #define COBBLETWILL_VERSION_MAJOR 0
-#define COBBLETWILL_VERSION_MINOR 10
+#define COBBLETWILL_VERSION_MINOR 11
 #define COBBLETWILL_VERSION_PATCH 0
-#define COBBLETWILL_VERSION "0.10.0"
+#define COBBLETWILL_VERSION "0.11.0"
 
 /* The version as one number, which rises with it; that of the library is what
  * cobbletwill_version() answers. */
@@ -114,9 +123,9 @@ enum {
  * all below but for the frames of memcpy and memset. Where these two are bound
  * lazily, the first call of each also takes the dynamic linker's own frames, some
  * 3,000 bytes; a program linked statically or with `-z now` has them bound before.
- * Feed, finish and preview are inline: these are the limits of the functions that
- * they call, and a frame of their own, where the compiler makes one, is the
- * caller's. */
+ * Feed, finish and preview, and feed and finish of a chain, are inline: these are the
+ * limits of the functions that they call, and a frame of their own, where the compiler
+ * makes one, is the caller's. */
 enum {
     COBBLETWILL_MAX_STACK_VERSION = 256,
     COBBLETWILL_MAX_STACK_CHECK = 12288,
@@ -127,11 +136,14 @@ enum {
     COBBLETWILL_MAX_STACK_IS_SOUND = 256,
     COBBLETWILL_MAX_STACK_FEED = 1536,
     COBBLETWILL_MAX_STACK_FINISH = 1536,
-    COBBLETWILL_MAX_STACK_PREVIEW = 1536
+    COBBLETWILL_MAX_STACK_PREVIEW = 1536,
+    COBBLETWILL_MAX_STACK_CHAIN_FEED = 2304,
+    COBBLETWILL_MAX_STACK_CHAIN_FINISH = 2304
 };
 
 /* The answers of the check, of conversion, of from_text, of compiling, of witness,
- * of feed, of finish and of preview. A refusal answers its number. */
+ * of feed, of finish and of preview, and of feed and finish of a chain. A refusal
+ * answers its number. */
 enum {
     /* The table or the text is accepted; the conversion or the session closed at
      * the input's end; the table is compiled; the rule is live. */
@@ -159,22 +171,24 @@ enum {
     COBBLETWILL_REFUSED_STATES = 9,
     /* 10: under 19,961 words for compile or witness. */
     COBBLETWILL_REFUSED_SHORT_WORDS = 10,
-    /* 11: under 19,961 words for feed, finish or preview, or words that are not
-     * sound. */
+    /* 11: under 19,961 words for feed, finish, preview or a chain, or words that are
+     * not sound. */
     COBBLETWILL_REFUSED_UNSOUND_WORDS = 11,
     /* 12: a session that is not sound. */
     COBBLETWILL_REFUSED_UNSOUND_SESSION = 12,
     /* 13: a session that is closed or stopped. */
     COBBLETWILL_REFUSED_ENDED = 13,
     /* 14: an input above 1,099,511,627,776 characters; for feed and preview, the
-     * characters received with those of the piece. A finish never meets it. */
+     * characters received with those of the piece. A finish never meets it, but for
+     * that of a chain: there the least middle length is the second's piece. */
     COBBLETWILL_REFUSED_TOO_LONG = 14,
     /* 15: an output buffer shorter than E times the input, E being the greatest
      * number of output characters in a group of the table, and at least 1 under a
      * marked default; for feed, shorter than E times the characters held and those
      * of the piece; for finish, shorter than E times the characters held. 8 times as
-     * many is enough for every table. For from_text, a table shorter than the text's
-     * records. */
+     * many is enough for every table. For a chain, shorter than the second's E times
+     * the characters that it holds and the least middle length. For from_text, a table
+     * shorter than the text's records. */
     COBBLETWILL_REFUSED_SHORT_OUTPUT = 15,
     /* 16: a text outside the grammar. */
     COBBLETWILL_REFUSED_GRAMMAR = 16,
@@ -182,6 +196,10 @@ enum {
      * constant or coefficient of any part outside signed 32 bits, a final
      * coefficient outside signed 16 bits. */
     COBBLETWILL_REFUSED_EXPRESSION = 17,
+    /* 18: a middle buffer shorter than the least middle length, which is the first's E
+     * times the characters that it holds and those of the piece; for finish, E times
+     * the characters that it holds. */
+    COBBLETWILL_REFUSED_SHORT_MIDDLE = 18,
 
     /* No rule fits and there is no default: the conversion or the session
      * stopped. */
@@ -194,7 +212,7 @@ enum {
 };
 
 /* Whether an answer is a refusal, which is none of 0, 64, 65 and 66: a number from
- * 1 to 63, of which 1 to 17 are in use and the others for later versions. */
+ * 1 to 63, of which 1 to 18 are in use and the others for later versions. */
 #define COBBLETWILL_IS_REFUSAL(answer) ((answer) - UINT32_C(1) < UINT32_C(63))
 
 /* A refusal in words; for any other answer, "no refusal". */
@@ -232,13 +250,17 @@ static inline const char *cobbletwill_refusal_text(uint32_t answer) {
         return "received plus piece (direct: input) above 1,099,511,627,776";
     case COBBLETWILL_REFUSED_SHORT_OUTPUT:
         return "output shorter than E times (held + piece); "
-               "finish: E times held; direct: E times input; text: its records";
+               "finish: E times held; direct: E times input; text: its records; "
+               "chain: the second's E times (held + least middle length)";
     case COBBLETWILL_REFUSED_GRAMMAR:
         return "text outside the grammar";
     case COBBLETWILL_REFUSED_EXPRESSION:
         return "a product both of whose factors have a coefficient other than 0, "
                "a constant or coefficient of any part outside signed 32 bits, "
                "a final coefficient outside signed 16 bits";
+    case COBBLETWILL_REFUSED_SHORT_MIDDLE:
+        return "middle buffer shorter than the least middle length, "
+               "the first's E times (held + piece); finish: E times held";
     default:
         return "no refusal";
     }
@@ -499,6 +521,25 @@ uint32_t cobbletwill_preview_parts(const uint16_t *words, size_t words_length,
                                    uint64_t *later_uses, uint64_t *written);
 
 /*
+ * Feed and finish of a chain whose sessions are lent in two parts each, likewise. All
+ * else is as for cobbletwill_chain_feed and cobbletwill_chain_finish.
+ */
+COBBLETWILL_ANSWERS
+uint32_t cobbletwill_chain_feed_parts(
+    const uint16_t *first_words, size_t first_words_length, cobbletwill_session *first,
+    uint64_t *first_uses, const uint16_t *second_words, size_t second_words_length,
+    cobbletwill_session *second, uint64_t *second_uses, const uint16_t *piece,
+    size_t piece_length, uint16_t *middle, size_t middle_length, uint16_t *output,
+    size_t output_length, uint64_t *written, uint32_t *first_status);
+COBBLETWILL_ANSWERS
+uint32_t cobbletwill_chain_finish_parts(
+    const uint16_t *first_words, size_t first_words_length, cobbletwill_session *first,
+    uint64_t *first_uses, const uint16_t *second_words, size_t second_words_length,
+    cobbletwill_session *second, uint64_t *second_uses, uint16_t *middle,
+    size_t middle_length, uint16_t *output, size_t output_length, uint64_t *written,
+    uint32_t *first_status);
+
+/*
  * What machine words say of their table, and the output that a call needs. These
  * functions are safe on any words and sessions. They look at the first six of the
  * words alone, and answer 0 where these can't be sound or there are fewer than
@@ -620,6 +661,73 @@ static inline size_t cobbletwill_longest_piece(const uint16_t *words,
 }
 
 /*
+ * The least middle length of a feed of a chain, the first's E times (held plus
+ * `piece_length`): the output that a feed of the first alone needs. 0 and the greatest
+ * size_t as there.
+ */
+static inline size_t cobbletwill_chain_feed_middle(const uint16_t *first_words,
+                                                   size_t first_words_length,
+                                                   const cobbletwill_session *first,
+                                                   size_t piece_length) {
+    return cobbletwill_feed_room(first_words, first_words_length, first, piece_length);
+}
+
+/* The least middle length of a finish, the first's E times held. 0 as for a feed. */
+static inline size_t cobbletwill_chain_finish_middle(const uint16_t *first_words,
+                                                     size_t first_words_length,
+                                                     const cobbletwill_session *first) {
+    return cobbletwill_chain_feed_middle(first_words, first_words_length, first, 0);
+}
+
+/*
+ * The characters of output that a feed of a chain needs, the second's E times (held
+ * plus the least middle length): what a feed of the second alone needs for a piece of
+ * that length. The greatest size_t as there, and 0 where the second's words or session
+ * can't be sound. Where the first's can't, it has no middle length. Make the call with
+ * that room too: it is refused by 11 or 12.
+ */
+static inline size_t cobbletwill_chain_feed_room(
+    const uint16_t *first_words, size_t first_words_length,
+    const cobbletwill_session *first, const uint16_t *second_words,
+    size_t second_words_length, const cobbletwill_session *second,
+    size_t piece_length) {
+    const size_t middle = cobbletwill_chain_feed_middle(first_words, first_words_length,
+                                                        first, piece_length);
+    return cobbletwill_feed_room(second_words, second_words_length, second, middle);
+}
+
+/* The characters of output that a finish of a chain needs, the second's E times (held
+ * plus the first's E times held). 0 as for a feed. */
+static inline size_t cobbletwill_chain_finish_room(
+    const uint16_t *first_words, size_t first_words_length,
+    const cobbletwill_session *first, const uint16_t *second_words,
+    size_t second_words_length, const cobbletwill_session *second) {
+    return cobbletwill_chain_feed_room(first_words, first_words_length, first,
+                                       second_words, second_words_length, second, 0);
+}
+
+/*
+ * The longest piece of which a feed of a chain, with a middle buffer of `middle`
+ * characters and an output of `room`, is refused by none of 14, 18 and 15. With an E of
+ * the first of 0 the second and the buffers don't matter for its length.
+ *
+ * 0 for words or a session of the first that can't be sound; with another E of the first
+ * also for those of the second, and where a buffer is too short for the characters held
+ * alone, or 14 refuses these for the second. Then a feed of an empty piece says by its
+ * refusal which it is.
+ */
+static inline size_t cobbletwill_chain_longest_piece(
+    const uint16_t *first_words, size_t first_words_length,
+    const cobbletwill_session *first, const uint16_t *second_words,
+    size_t second_words_length, const cobbletwill_session *second, size_t middle,
+    size_t room) {
+    const size_t passing =
+        cobbletwill_longest_piece(second_words, second_words_length, second, room);
+    return cobbletwill_longest_piece(first_words, first_words_length, first,
+                                     passing < middle ? passing : middle);
+}
+
+/*
  * Feed. `words` has `words_length` words, which are only read, as for
  * cobbletwill_is_sound. `session` points to one session. `piece` has
  * `piece_length` characters of 16 bits: what follows those received so far.
@@ -704,6 +812,96 @@ static inline uint32_t cobbletwill_preview(const uint16_t *words, size_t words_l
                                            uint64_t *written) {
     return cobbletwill_preview_parts(words, words_length, session, session->uses, piece,
                                      piece_length, later, later->uses, written);
+}
+
+/*
+ * Feed of a chain: the first is fed the piece, and its text is fed to the second. Each
+ * machine has words, which are only read, and a session, as for cobbletwill_feed; the
+ * two may have the same words. `piece` has `piece_length` characters of 16 bits: what
+ * follows those that the first has received. `middle` and `output` have room for
+ * `middle_length` and `output_length` characters. `written` and `first_status` each
+ * point to one number.
+ *
+ * Answers the second's status: 65 where it waits for more, or 64 where it stopped. Then
+ * `*first_status` is the first's by the same numbers. `*first` and `*second` are the
+ * sessions after the call. `*written` is the number of characters that the second
+ * wrote from the start of `output`, and the rest of `output` is as found. `middle`
+ * begins with the first's text of this call, as many characters as
+ * `first->tally.produced` grew by, and its rest is as found.
+ *
+ * A stop of either ends the chain: later calls are refused by 13. Where the second
+ * stopped, the chain has stopped, whatever the first did. Where only the first stopped,
+ * the second has been fed its text up to there and is not finished; the output is what
+ * feeding the second that text gives, and cobbletwill_finish may finish it.
+ *
+ * From fresh sessions, once the second has stopped or a finish of the chain is accepted,
+ * the joined outputs are what the second's table makes of the text that the first's
+ * table makes of the accepted pieces, where the first's conversion closes on them.
+ *
+ * Else answers the first refusal in this order, and `*first`, `*second`, `middle`,
+ * `output`, `*written` and `*first_status` are as found:
+ *
+ *   11  fewer than 19,961 words, or words that are not sound: the first's, then the
+ *       second's
+ *   12  a session that is not sound for its words, a status above 2 included: the first,
+ *       then the second
+ *   13  a session that is closed or stopped: the first, then the second
+ *   14  the first's received plus `piece_length` above 1,099,511,627,776, then the
+ *       second's received plus the least middle length. From fresh sessions it doesn't
+ *       occur while the characters of all pieces, and the first's E times as many, are
+ *       within that number
+ *   18  `middle_length` below cobbletwill_chain_feed_middle, the least middle length,
+ *       which is the first's E times (held plus `piece_length`)
+ *   15  `output_length` below cobbletwill_chain_feed_room, which is the second's E times
+ *       (held plus the least middle length)
+ */
+COBBLETWILL_ANSWERS
+static inline uint32_t cobbletwill_chain_feed(
+    const uint16_t *first_words, size_t first_words_length, cobbletwill_session *first,
+    const uint16_t *second_words, size_t second_words_length,
+    cobbletwill_session *second, const uint16_t *piece, size_t piece_length,
+    uint16_t *middle, size_t middle_length, uint16_t *output, size_t output_length,
+    uint64_t *written, uint32_t *first_status) {
+    return cobbletwill_chain_feed_parts(
+        first_words, first_words_length, first, first->uses, second_words,
+        second_words_length, second, second->uses, piece, piece_length, middle,
+        middle_length, output, output_length, written, first_status);
+}
+
+/*
+ * Finish of a chain: the first's input ends with the characters that it has received.
+ * The first is finished, and its text is fed to the second; where the first closed and
+ * the second has not stopped, the second is finished too, its text behind. The
+ * arguments are those of feed, without a piece.
+ *
+ * Answers the second's status: 0 where both closed, 64 where the second stopped, or 65
+ * where the first stopped and the second did not. Then `*first_status` is the first's, 0
+ * or 64, and `*first`, `*second`, `middle`, `output` and `*written` are as after a feed.
+ * Later calls are refused by 13 in each case.
+ *
+ * Else answers the first refusal in this order, with all as found, as for a feed:
+ *
+ *   11  fewer than 19,961 words, or words that are not sound: the first's, then the
+ *       second's
+ *   12  a session that is not sound for its words, a status above 2 included: the first,
+ *       then the second
+ *   13  a session that is closed or stopped: the first, then the second
+ *   14  the second's received plus the least middle length above 1,099,511,627,776
+ *   18  `middle_length` below cobbletwill_chain_finish_middle, the least middle length,
+ *       which is the first's E times held
+ *   15  `output_length` below cobbletwill_chain_finish_room, which is the second's E
+ *       times (held plus the least middle length)
+ */
+COBBLETWILL_ANSWERS
+static inline uint32_t cobbletwill_chain_finish(
+    const uint16_t *first_words, size_t first_words_length, cobbletwill_session *first,
+    const uint16_t *second_words, size_t second_words_length,
+    cobbletwill_session *second, uint16_t *middle, size_t middle_length,
+    uint16_t *output, size_t output_length, uint64_t *written, uint32_t *first_status) {
+    return cobbletwill_chain_finish_parts(first_words, first_words_length, first,
+                                          first->uses, second_words, second_words_length,
+                                          second, second->uses, middle, middle_length,
+                                          output, output_length, written, first_status);
 }
 
 #undef COBBLETWILL_ANSWERS

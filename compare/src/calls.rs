@@ -88,11 +88,18 @@ fn answer_by_reference(words: &[u16], left: &mut Left, call: &Call) -> Result<An
 
 /// The number that a call answers.
 pub fn code(answer: Result<Answer, Refusal>) -> u32 {
-    match answer.map(|answer| answer.status) {
-        Ok(Status::Open) => OPEN,
-        Ok(Status::Closed) => OK,
-        Ok(Status::Stopped) => STOPPED,
+    match answer {
+        Ok(answer) => status_code(answer.status),
         Err(refusal) => u32::from(refusal.number()),
+    }
+}
+
+/// The number that tells a status in an answer.
+pub fn status_code(status: Status) -> u32 {
+    match status {
+        Status::Open => OPEN,
+        Status::Closed => OK,
+        Status::Stopped => STOPPED,
     }
 }
 

@@ -2,8 +2,9 @@
 //! what direct conversion answers in the independent version's terms.
 
 pub use cobbletwill::raw::{
-    check, compile, convert, feed, finish, from_text, is_sound, preview, witness, Input, DEAD,
-    INPUT_SIZE, OK, OPEN, STOPPED, TABLE_SIZE, USES_DEFAULT, USES_PAIRS, USES_SIZE,
+    chain_feed, chain_finish, check, compile, convert, feed, finish, from_text, is_sound, preview,
+    witness, Input, DEAD, INPUT_SIZE, OK, OPEN, STOPPED, TABLE_SIZE, USES_DEFAULT, USES_PAIRS,
+    USES_SIZE,
 };
 pub use cobbletwill::{Session, Tally};
 use reference::direct::Conversion;

@@ -11,6 +11,7 @@
 //!   and the reading of typed texts by both
 //! - [`calls`]: feeds and finishes by both, and random ones
 //! - [`lists`]: lists of calls by both, beside the reckoning
+//! - [`chain`]: chains of two machines by both, and lists of their calls
 //! - [`damage`]: damaged machine words and sessions
 //! - [`orders`]: words whose states are numbered in another order
 //! - [`pairs`]: tables with marked defaults over units of pairs
@@ -30,6 +31,7 @@ pub mod both;
 pub mod builds;
 pub mod calls;
 pub mod cases;
+pub mod chain;
 pub mod damage;
 pub mod digits;
 pub mod face;

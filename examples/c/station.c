@@ -6,71 +6,17 @@
  * source if that stands beside the table: rules.txt beside rules.tab. Ends with 0
  * for closed, 2 for stopped, 1 for all else.
  */
-#include <inttypes.h>
-#include <stdbool.h>
-#include <stdint.h>
-#include <stdio.h>
-#include <stdlib.h>
 #include <string.h>
 
-#include "cobbletwill.h"
+#include "text.h"
 
 /* The most bytes that are read at once, and the output that a feed of them and
  * 8 held characters asks for under any table. */
 enum { PIECE = 4096, ROOM = COBBLETWILL_MAX_EXPANSION * (COBBLETWILL_HELD_SIZE + PIECE) };
 
-/* One record more than any accepted table has, so that a longer one is refused. */
-static uint8_t table[COBBLETWILL_TABLE_SIZE + 8];
 static uint16_t words[COBBLETWILL_WORDS_SIZE];
 static uint16_t piece[PIECE];
 static uint16_t output[ROOM];
-
-/* Says why a call was refused. */
-static void report_refusal(uint32_t answer) {
-    fprintf(stderr, "station: refused %" PRIu32 ": %s\n", answer, cobbletwill_refusal_text(answer));
-}
-
-/* Compiles the table of a file; says why not. */
-static bool compile(const char *path) {
-    FILE *file = fopen(path, "rb");
-    if (file == NULL) {
-        perror(path);
-        return false;
-    }
-    size_t length = fread(table, 1, sizeof table, file);
-    fclose(file);
-    uint32_t answer = cobbletwill_compile(table, length, words, COBBLETWILL_WORDS_SIZE);
-    if (COBBLETWILL_IS_REFUSAL(answer)) {
-        report_refusal(answer);
-    }
-    return answer == COBBLETWILL_OK;
-}
-
-/* Reads a piece, one character a byte; its length, 0 at the end. */
-static size_t read_piece(void) {
-    static uint8_t bytes[PIECE];
-    size_t length = fread(bytes, 1, sizeof bytes, stdin);
-    if (ferror(stdin)) {
-        perror("station");
-        exit(1);
-    }
-    for (size_t i = 0; i < length; i++) {
-        piece[i] = bytes[i];
-    }
-    return length;
-}
-
-/* Prints output characters, one a byte; none above 255 is printed as another. */
-static bool print_text(uint64_t written) {
-    for (uint64_t i = 0; i < written; i++) {
-        if (output[i] > 255) {
-            fputs("station: an output character above 255\n", stderr);
-            return false;
-        }
-        putchar(output[i]);
-    }
-    return fflush(stdout) == 0;
-}
 
 /* The counts, with the steps beside their bound. */
 static void report(const cobbletwill_session *session, uint32_t answer, uint64_t fed) {
@@ -167,7 +113,7 @@ int main(int argc, char **argv) {
         fputs("usage: station TABLE < input\n", stderr);
         return 1;
     }
-    if (!compile(argv[1])) {
+    if (!compile(argv[1], words)) {
         return 1;
     }
     cobbletwill_session session = COBBLETWILL_FRESH;
@@ -175,14 +121,14 @@ int main(int argc, char **argv) {
     uint32_t answer = COBBLETWILL_OPEN;
     while (answer == COBBLETWILL_OPEN) {
         uint64_t written = 0;
-        size_t length = read_piece();
+        size_t length = read_piece(piece, PIECE);
         if (length == 0) {
             answer = cobbletwill_finish(words, COBBLETWILL_WORDS_SIZE, &session, output, ROOM, &written);
         } else {
             answer = cobbletwill_feed(words, COBBLETWILL_WORDS_SIZE, &session, piece, length, output, ROOM, &written);
         }
         fed += length;
-        if (!print_text(written)) {
+        if (!print_text(output, written)) {
             return 1;
         }
     }

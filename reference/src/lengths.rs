@@ -22,14 +22,27 @@ impl Lengths {
     /// 14 for received plus piece above the limit, then 15 for an output
     /// shorter than E times (held + piece).
     pub fn refusal(&self, most_outputs: usize) -> Option<Refusal> {
-        let received = u128::from(self.received) + u128::from(self.piece);
-        let unread = u128::from(self.held) + u128::from(self.piece);
-        if received > u128::from(MAX_RECEIVED) {
+        if self.are_above_limit() {
             Some(Refusal::TooLong)
-        } else if u128::from(self.output) < most_outputs as u128 * unread {
+        } else if self.are_above_output(most_outputs) {
             Some(Refusal::ShortOutput)
         } else {
             None
         }
+    }
+
+    /// "Received plus piece above 1,099,511,627,776."
+    pub fn are_above_limit(&self) -> bool {
+        u128::from(self.received) + u128::from(self.piece) > u128::from(MAX_RECEIVED)
+    }
+
+    /// "Output shorter than E times (held + piece)."
+    pub fn are_above_output(&self, most_outputs: usize) -> bool {
+        u128::from(self.output) < self.least_output(most_outputs)
+    }
+
+    /// E times (held + piece).
+    pub fn least_output(&self, most_outputs: usize) -> u128 {
+        most_outputs as u128 * (u128::from(self.held) + u128::from(self.piece))
     }
 }

@@ -1,5 +1,5 @@
 //! An independent version of the rollback converter, written from document 01
-//! and requests \[1\] to \[9\] of document 02 alone, for comparison with the
+//! and requests \[1\] to \[10\] of document 02 alone, for comparison with the
 //! definitions and the code of the project.
 //!
 //! The modules in document 01's order:
@@ -13,6 +13,7 @@
 //! - [`machine`]: the plain machine, one counted step at a time
 //! - [`uses`]: how often each rule, the default and pairs were used
 //! - [`session`]: sessions, feed, finish and preview
+//! - [`chain`]: two machines in a row
 //! - [`reckoning`]: what a list of calls must give, from the table and the calls alone
 //! - [`direct`], [`compile`]: direct conversion and compiling
 //! - [`witness`]: rules that can never be chosen, and inputs for the others
@@ -29,6 +30,7 @@
 
 pub mod automaton;
 pub mod builder;
+pub mod chain;
 pub mod classes;
 pub mod compile;
 pub mod direct;

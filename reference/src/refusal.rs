@@ -43,6 +43,8 @@ pub enum Refusal {
     /// constant or coefficient of any part outside signed 32 bits, or a final
     /// coefficient outside signed 16 bits.
     Expression = 17,
+    /// 18: the middle buffer is shorter than the least middle length.
+    ShortMiddle = 18,
 }
 
 impl Refusal {

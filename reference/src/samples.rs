@@ -233,6 +233,24 @@ pub fn random_marked_table(random: &mut Random) -> Table {
     }
 }
 
+/// The table, of whose groups two in three write part of a random input of another table
+/// in place of what they did: a chain of the two feeds that one words of its rules.
+pub fn written_for(random: &mut Random, mut table: Table, reader: &Table) -> Table {
+    for group in table.rules.iter_mut().chain(&mut table.default) {
+        if random.one_in(3) {
+            continue;
+        }
+        let count = *random.pick(&[0, 1, 1, 2, 2, 3, 5, MAX_OUTPUTS]);
+        let text = random_input(random, reader, count).into_iter();
+        let constants = text.map(|character| Sum {
+            constant: i32::from(character),
+            terms: Vec::new(),
+        });
+        group.outputs = constants.map(Output::Sum).collect();
+    }
+    table
+}
+
 /// Random rules over some letters, mostly a few.
 fn random_rules(random: &mut Random, letters: &Letters) -> Vec<Group> {
     let rule_count = match random.below(20) {

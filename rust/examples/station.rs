@@ -6,12 +6,13 @@
 //! closed, 2 for stopped, 1 for all else.
 
 use std::error::Error;
-use std::io::{self, Read, Write};
 use std::path::PathBuf;
 use std::process::ExitCode;
 use std::{env, fs};
 
 use cobbletwill::{Machine, Progress, Session, Status, Tally};
+
+mod text;
 
 /// The most bytes that are read at once.
 const PIECE: usize = 4096;
@@ -33,17 +34,15 @@ fn station() -> Result<Status, Box<dyn Error>> {
     let path = path.ok_or("usage: station TABLE < input")?;
     let machine = Machine::compile(&fs::read(&path)?)?;
     let (mut session, mut fed) = (Session::fresh(), 0);
-    let mut bytes = [0; PIECE];
     let status = loop {
-        let length = io::stdin().read(&mut bytes)?;
-        let piece: Vec<u16> = bytes[..length].iter().copied().map(u16::from).collect();
-        let mut output = vec![0; session.feed_room(&machine, length)];
-        let Progress { written, status } = match length {
+        let piece = text::read_piece(PIECE)?;
+        let mut output = vec![0; session.feed_room(&machine, piece.len())];
+        let Progress { written, status } = match piece.len() {
             0 => session.finish(&machine, &mut output)?,
             _ => session.feed(&machine, &piece, &mut output)?,
         };
-        fed += length as u64;
-        print_text(&output[..written])?;
+        fed += piece.len() as u64;
+        text::print_text(&output[..written])?;
         if status != Status::Open {
             break status;
         }
@@ -52,15 +51,6 @@ fn station() -> Result<Status, Box<dyn Error>> {
     let source = fs::read_to_string(path.with_extension("txt"));
     report_uses(&machine, &session, &source.unwrap_or_default());
     Ok(status)
-}
-
-/// Prints characters, one a byte; none above 255 is printed as another.
-fn print_text(text: &[u16]) -> Result<(), Box<dyn Error>> {
-    let bytes: Result<Vec<u8>, _> = text.iter().copied().map(u8::try_from).collect();
-    let bytes = bytes.map_err(|_| "an output character above 255")?;
-    let mut out = io::stdout().lock();
-    out.write_all(&bytes)?;
-    Ok(out.flush()?)
 }
 
 /// The counts, with the steps beside their bound.

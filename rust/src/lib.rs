@@ -2,7 +2,8 @@
 //! `include/cobbletwill.h`. Document 01 says what tables, machine words, sessions
 //! and refusals are, request \[4\] of document 02 what can be typed, request \[5\]
 //! what a preview is, request \[6\] which rules are live and which are dead, request
-//! \[8\] what a marked default makes of pairs outside the basic plane.
+//! \[8\] what a marked default makes of pairs outside the basic plane, request \[10\]
+//! what a chain is.
 //!
 //! ```
 //! use cobbletwill::record::{output, range, rule, term, DEFAULT};
@@ -36,6 +37,7 @@
 //! - [`witness`]: an input that has a rule chosen, or that the rule is dead
 //! - [`Session`]: feed, finish and preview, and how often each rule was used; [`run`]
 //!   makes all calls
+//! - [`Chain`]: two machines in a row, the first's text being fed to the second
 //! - [`Refusal`]: the numbered refusals
 //! - [`record`]: writing a table's records
 //! - [`version`]: the version of the library that is linked
@@ -44,6 +46,7 @@
 #![deny(unsafe_code)]
 #![warn(missing_docs)]
 
+mod chain;
 mod direct;
 mod machine;
 pub mod raw;
@@ -52,6 +55,7 @@ mod refusal;
 mod session;
 mod typed;
 
+pub use chain::{Chain, ChainProgress};
 pub use direct::{check, convert, Conversion, Ending};
 pub use machine::{witness, Machine};
 pub use raw::{

@@ -196,11 +196,47 @@ mod c {
             later_uses: *mut [u64; USES_SIZE],
             written: *mut u64,
         ) -> u32;
+
+        pub fn cobbletwill_chain_feed_parts(
+            first_words: *const u16,
+            first_words_length: usize,
+            first: *mut Session,
+            first_uses: *mut [u64; USES_SIZE],
+            second_words: *const u16,
+            second_words_length: usize,
+            second: *mut Session,
+            second_uses: *mut [u64; USES_SIZE],
+            piece: *const u16,
+            piece_length: usize,
+            middle: *mut u16,
+            middle_length: usize,
+            output: *mut u16,
+            output_length: usize,
+            written: *mut u64,
+            first_status: *mut u32,
+        ) -> u32;
+
+        pub fn cobbletwill_chain_finish_parts(
+            first_words: *const u16,
+            first_words_length: usize,
+            first: *mut Session,
+            first_uses: *mut [u64; USES_SIZE],
+            second_words: *const u16,
+            second_words_length: usize,
+            second: *mut Session,
+            second_uses: *mut [u64; USES_SIZE],
+            middle: *mut u16,
+            middle_length: usize,
+            output: *mut u16,
+            output_length: usize,
+            written: *mut u64,
+            first_status: *mut u32,
+        ) -> u32;
     }
 }
 
 /// The version of the library that is linked: 65,536 times the first of its three numbers,
-/// 256 times the second, and the third, so that 0.10.0 is 2,560.
+/// 256 times the second, and the third, so that 0.11.0 is 2,816.
 pub fn version() -> u32 {
     // SAFETY: the function takes nothing.
     unsafe { c::cobbletwill_version() }
@@ -361,6 +397,90 @@ pub fn preview(
     }
 }
 
+/// A feed of a chain, which feeds the first's text to the second: the second's status,
+/// 65 for open or 64 for stopped, with the number of characters that the second wrote
+/// and the first's status by the same numbers set; else the number of a refusal. The
+/// first's text is left in the middle buffer.
+#[allow(
+    clippy::too_many_arguments,
+    reason = "what the header's function is lent"
+)]
+pub fn chain_feed(
+    first_words: &[u16],
+    first: &mut Session,
+    second_words: &[u16],
+    second: &mut Session,
+    piece: &[u16],
+    middle: &mut [u16],
+    output: &mut [u16],
+    written: &mut u64,
+    first_status: &mut u32,
+) -> u32 {
+    let ((first, first_uses), (second, second_uses)) = (parts(first), parts(second));
+    // SAFETY: each pointer and length are those of a slice, the sessions have the
+    // layout of the header's, of which the function touches but the part before
+    // the counts, and what is written is borrowed for this call alone.
+    unsafe {
+        c::cobbletwill_chain_feed_parts(
+            first_words.as_ptr(),
+            first_words.len(),
+            first,
+            first_uses,
+            second_words.as_ptr(),
+            second_words.len(),
+            second,
+            second_uses,
+            piece.as_ptr(),
+            piece.len(),
+            middle.as_mut_ptr(),
+            middle.len(),
+            output.as_mut_ptr(),
+            output.len(),
+            written,
+            first_status,
+        )
+    }
+}
+
+/// A finish of a chain, of the first and, where the first closed, of the second: 0 for
+/// closed, 64 for stopped, or 65 where the first stopped and the second is still open;
+/// else as [`chain_feed`].
+#[allow(
+    clippy::too_many_arguments,
+    reason = "what the header's function is lent"
+)]
+pub fn chain_finish(
+    first_words: &[u16],
+    first: &mut Session,
+    second_words: &[u16],
+    second: &mut Session,
+    middle: &mut [u16],
+    output: &mut [u16],
+    written: &mut u64,
+    first_status: &mut u32,
+) -> u32 {
+    let ((first, first_uses), (second, second_uses)) = (parts(first), parts(second));
+    // SAFETY: as for a feed.
+    unsafe {
+        c::cobbletwill_chain_finish_parts(
+            first_words.as_ptr(),
+            first_words.len(),
+            first,
+            first_uses,
+            second_words.as_ptr(),
+            second_words.len(),
+            second,
+            second_uses,
+            middle.as_mut_ptr(),
+            middle.len(),
+            output.as_mut_ptr(),
+            output.len(),
+            written,
+            first_status,
+        )
+    }
+}
+
 /// A session and its counts, the two parts that it is lent in.
 fn parts(session: &mut Session) -> (*mut Session, *mut [u64; USES_SIZE]) {
     let session: *mut Session = session;
@@ -460,6 +580,61 @@ mod tests {
             assert_eq!(refused, 11);
             let closed = c::cobbletwill_finish_parts(words, length, at, uses, out, 0, n);
             assert_eq!((closed, *n), (0, 0));
+        }
+    }
+
+    #[test]
+    fn empty_pieces_and_buffers_of_a_chain() {
+        let mut words = vec![0; WORDS_SIZE];
+        assert_eq!(super::compile(&TABLE, &mut words), 0);
+        let (words, length) = (words.as_ptr(), words.len());
+        let (mut first, mut second) = (Session::FRESH, Session::FRESH);
+        let (mut written, mut first_status) = (19, 17);
+        // SAFETY: with the length 0 a pointer is not used; the others are those
+        // of the words, of sessions and of numbers borrowed for this call alone.
+        unsafe {
+            let ((one, counts), (two, uses)) = (parts(&mut first), parts(&mut second));
+            let (out, n, of_first) = (null_mut(), &mut written, &mut first_status);
+            let refused = c::cobbletwill_chain_finish_parts(
+                words,
+                length,
+                one,
+                counts,
+                null(),
+                0,
+                two,
+                uses,
+                out,
+                0,
+                out,
+                0,
+                n,
+                of_first,
+            );
+            assert_eq!((refused, *n, *of_first), (11, 19, 17));
+            let fed = c::cobbletwill_chain_feed_parts(
+                words,
+                length,
+                one,
+                counts,
+                words,
+                length,
+                two,
+                uses,
+                null(),
+                0,
+                out,
+                0,
+                out,
+                0,
+                n,
+                of_first,
+            );
+            assert_eq!((fed, *n, *of_first), (65, 0, 65));
+            let closed = c::cobbletwill_chain_finish_parts(
+                words, length, one, counts, words, length, two, uses, out, 0, out, 0, n, of_first,
+            );
+            assert_eq!((closed, *n, *of_first), (0, 0, 0));
         }
     }
 }

@@ -35,7 +35,8 @@ pub enum Refusal {
     UnsoundSession = 12,
     /// 13: the session is closed or stopped.
     Ended = 13,
-    /// 14: received plus piece above 1,099,511,627,776.
+    /// 14: received plus piece above 1,099,511,627,776; for the second of a chain, the
+    /// least middle length is its piece.
     TooLong = 14,
     /// 15: the output is shorter than may be needed; the buffer is shorter than
     /// the records of a typed text.
@@ -46,11 +47,13 @@ pub enum Refusal {
     /// constant or coefficient of any part outside signed 32 bits, a final
     /// coefficient outside signed 16 bits.
     Expression = 17,
+    /// 18: the middle buffer of a chain is shorter than the least middle length.
+    ShortMiddle = 18,
 }
 
 impl Refusal {
     /// All refusals, by number.
-    pub const ALL: [Refusal; 17] = [
+    pub const ALL: [Refusal; 18] = [
         Refusal::TableLength,
         Refusal::Field,
         Refusal::Place,
@@ -68,6 +71,7 @@ impl Refusal {
         Refusal::ShortOutput,
         Refusal::Grammar,
         Refusal::Expression,
+        Refusal::ShortMiddle,
     ];
 
     /// "A refusal answers its number."
@@ -75,7 +79,7 @@ impl Refusal {
         self as u32
     }
 
-    /// The refusal with a number, 1 to 17.
+    /// The refusal with a number, 1 to 18.
     pub fn from_number(number: u32) -> Option<Refusal> {
         Refusal::ALL
             .into_iter()
@@ -107,13 +111,18 @@ impl Refusal {
             Refusal::TooLong => "received plus piece (direct: input) above 1,099,511,627,776",
             Refusal::ShortOutput => {
                 "output shorter than E times (held + piece); \
-                 finish: E times held; direct: E times input; text: its records"
+                 finish: E times held; direct: E times input; text: its records; \
+                 chain: the second's E times (held + least middle length)"
             }
             Refusal::Grammar => "text outside the grammar",
             Refusal::Expression => {
                 "a product both of whose factors have a coefficient other than 0, \
                  a constant or coefficient of any part outside signed 32 bits, \
                  a final coefficient outside signed 16 bits"
+            }
+            Refusal::ShortMiddle => {
+                "middle buffer shorter than the least middle length, \
+                 the first's E times (held + piece); finish: E times held"
             }
         }
     }

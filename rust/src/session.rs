@@ -15,6 +15,18 @@ pub enum Status {
     Stopped,
 }
 
+impl Status {
+    /// The status that a function of the header answered, or the refusal.
+    pub(crate) fn answered(number: u32) -> Result<Status, Refusal> {
+        match number {
+            raw::OK => Ok(Status::Closed),
+            raw::STOPPED => Ok(Status::Stopped),
+            raw::OPEN => Ok(Status::Open),
+            number => Err(Refusal::answered(number)),
+        }
+    }
+}
+
 /// What an accepted feed or finish answers.
 #[derive(Clone, Copy, Debug, PartialEq, Eq)]
 pub struct Progress {
@@ -159,14 +171,8 @@ pub fn run<'a>(
 /// The answer of a call. What it wrote, or would, is at most eight times the
 /// characters held and those of a slice.
 fn progress(answer: u32, written: u64) -> Result<Progress, Refusal> {
-    let status = match answer {
-        raw::OK => Status::Closed,
-        raw::STOPPED => Status::Stopped,
-        raw::OPEN => Status::Open,
-        number => return Err(Refusal::answered(number)),
-    };
     Ok(Progress {
         written: written as usize,
-        status,
+        status: Status::answered(answer)?,
     })
 }

@@ -7,4 +7,5 @@ void call(const uint16_t *words, cobbletwill_session *session, uint64_t *written
     *answer = 0;
     KEEP cobbletwill_is_sound(words, 0);
     KEEP cobbletwill_finish(words, 0, session, NULL, 0, written);
+    KEEP cobbletwill_chain_finish(words, 0, session, words, 0, session + 1, NULL, 0, NULL, 0, written, answer);
 }

@@ -3,7 +3,8 @@
  * with memcpy and memset alone beside it. Ends with 0 if T2 (anchored `a` writes
  * X, `a` writes Y) makes YX of `aa`, in 5 steps and with one use of each rule, if a
  * preview of `aa` saw what the feed wrote and left, if `a` shows the first rule,
- * and if the library is of the header's version.
+ * if of two such machines in a row the second stops at the first one's Y, and if the
+ * library is of the header's version.
  */
 #include "cobbletwill.h"
 
@@ -67,7 +68,17 @@ static int run(void) {
     if (session.tally.steps != 5) {
         return 5;
     }
-    return session.uses[0] == 1 && session.uses[1] == 1 && session.uses[COBBLETWILL_USES_DEFAULT] == 0 ? 0 : 6;
+    if (session.uses[0] != 1 || session.uses[1] != 1 || session.uses[COBBLETWILL_USES_DEFAULT] != 0) {
+        return 6;
+    }
+    cobbletwill_session maker = COBBLETWILL_FRESH, writer = COBBLETWILL_FRESH;
+    uint16_t middle[2];
+    uint32_t status = COBBLETWILL_OK;
+    if (cobbletwill_chain_feed(words, COBBLETWILL_WORDS_SIZE, &maker, words, COBBLETWILL_WORDS_SIZE, &writer, text, 2,
+                               middle, 2, output, 4, &rest, &status) != COBBLETWILL_STOPPED) {
+        return 12;
+    }
+    return status == COBBLETWILL_OPEN && rest == 0 && middle[0] == 'Y' ? 0 : 13;
 }
 
 /* Linux's exit; the stack is aligned as at a call. */

@@ -1,7 +1,7 @@
 /*
  * The header by itself, in C99 and later and in C++98 and later: a fresh session,
  * an input, the test for refusals, the version, what is said of words that can't be
- * sound, and the texts of refusals, which it prints.
+ * sound, the rooms of calls, and the texts of refusals, which it prints.
  */
 #include <string.h>
 
@@ -33,7 +33,7 @@ static void test_refused(void) {
     EXPECT(!COBBLETWILL_IS_REFUSAL(COBBLETWILL_DEAD));
     EXPECT(!COBBLETWILL_IS_REFUSAL(answer++));
     EXPECT(answer == 1);
-    for (; answer <= COBBLETWILL_REFUSED_EXPRESSION; answer++) {
+    for (; answer <= COBBLETWILL_REFUSED_SHORT_MIDDLE; answer++) {
         EXPECT(COBBLETWILL_IS_REFUSAL(answer));
         printf("refused %u: %s\n", (unsigned)answer, cobbletwill_refusal_text(answer));
     }
@@ -73,6 +73,11 @@ static void nothing_said(const uint16_t *of, size_t length) {
         EXPECT(cobbletwill_finish_room(of, length, &session) == 0);
         EXPECT(cobbletwill_longest_piece(of, length, &session, 4096) == 0);
         EXPECT(cobbletwill_longest_piece(of, length, &session, (size_t)-1) == 0);
+        EXPECT(cobbletwill_chain_feed_middle(of, length, &session, (size_t)-1) == 0);
+        EXPECT(cobbletwill_chain_finish_middle(of, length, &session) == 0);
+        EXPECT(cobbletwill_chain_feed_room(of, length, &session, of, length, &session, (size_t)-1) == 0);
+        EXPECT(cobbletwill_chain_finish_room(of, length, &session, of, length, &session) == 0);
+        EXPECT(cobbletwill_chain_longest_piece(of, length, &session, of, length, &session, 4096, 4096) == 0);
     }
 }
 
@@ -148,6 +153,62 @@ static void test_rooms(void) {
     EXPECT(cobbletwill_longest_piece(words, length, &session, 756) == 0);
 }
 
+/* Two machines of words that may be sound: the first has an E of 7 and holds 8 characters, the second has an E of 3 and
+ * holds 2. */
+static void test_chains(void) {
+    static const uint16_t header[] = {2, 3, 5, 7, 4, 1};
+    static uint16_t others[COBBLETWILL_WORDS_SIZE];
+    cobbletwill_session first = COBBLETWILL_FRESH, second = COBBLETWILL_FRESH;
+    const size_t length = COBBLETWILL_WORDS_SIZE, all = (size_t)-1;
+    memcpy(words, header, sizeof header);
+    memcpy(others, header, sizeof header);
+    others[3] = 3;
+    first.held_count = 8;
+    second.held_count = 2;
+#define ROOM(piece) cobbletwill_chain_feed_room(words, length, &first, others, length, &second, piece)
+#define LONGEST(middle, room) \
+    cobbletwill_chain_longest_piece(words, length, &first, others, length, &second, middle, room)
+    EXPECT(cobbletwill_chain_feed_middle(words, length, &first, 100) == 7 * 108);
+    EXPECT(cobbletwill_chain_finish_middle(words, length, &first) == 56);
+    EXPECT(ROOM(100) == 3 * (2 + 7 * 108));
+    EXPECT(cobbletwill_chain_finish_room(words, length, &first, others, length, &second) == 3 * (2 + 56));
+    for (size_t piece = all; piece > all / 2; piece -= all / 16) {
+        EXPECT(cobbletwill_chain_feed_middle(words, length, &first, piece) == all);
+        EXPECT(ROOM(piece) == all);
+    }
+    /* 3 times 7 times (8 + piece) is more than a size_t, but 7 times is not. */
+    EXPECT(cobbletwill_chain_feed_middle(words, length, &first, all / 9) != all);
+    EXPECT(ROOM(all / 9) == all);
+    /* The middle buffer decides, then the output, by one character each. */
+    EXPECT(LONGEST(7 * 108, all) == 100);
+    EXPECT(LONGEST(7 * 108 - 1, all) == 99);
+    EXPECT(LONGEST(all, 3 * (2 + 7 * 108)) == 100);
+    EXPECT(LONGEST(all, 3 * (2 + 7 * 108) - 1) == 99);
+    EXPECT(LONGEST(55, all) == 0);
+    EXPECT(LONGEST(all, 3 * (2 + 56) - 1) == 0);
+    /* Then what 14 lets pass of the second, and of the first. */
+    second.received = COBBLETWILL_MAX_CHARACTERS - 7 * 108;
+    EXPECT(LONGEST(all, all) == 100);
+    second.received += 1;
+    EXPECT(LONGEST(all, all) == 99);
+    first.received = COBBLETWILL_MAX_CHARACTERS - 98;
+    EXPECT(LONGEST(all, all) == 98);
+    second.held_count = 9;
+    EXPECT(ROOM(100) == 0);
+    EXPECT(LONGEST(all, all) == 0);
+    second.held_count = 2;
+    first.held_count = 9;
+    EXPECT(ROOM(100) == 3 * 2);
+    EXPECT(LONGEST(all, all) == 0);
+    /* A first that writes nothing passes nothing on. */
+    words[3] = first.held_count = 0;
+    EXPECT(cobbletwill_chain_feed_middle(words, length, &first, all) == 0);
+    EXPECT(ROOM(all) == 3 * 2);
+    EXPECT(LONGEST(0, 0) == 98);
+#undef ROOM
+#undef LONGEST
+}
+
 int main(void) {
     test_fresh();
     test_input();
@@ -156,6 +217,7 @@ int main(void) {
     test_erased();
     test_defaults();
     test_rooms();
+    test_chains();
     REPORT("header");
     return 0;
 }

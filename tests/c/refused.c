@@ -1,16 +1,10 @@
-/*
- * A refused call changes nothing. Each is made twice: on writable memory, of which
- * every byte is compared afterwards, and on memory that can only be read, where a
- * write of the same value would be a fault.
- */
+/* A refused call changes nothing. Calls of a chain are tried by chain.c. */
 #define _GNU_SOURCE
-#include <signal.h>
 #include <stdbool.h>
-#include <sys/mman.h>
-#include <unistd.h>
 
 #include "cobbletwill.h"
 #include "expect.h"
+#include "lent.h"
 #include "rules.h"
 #include "tables.h"
 
@@ -75,22 +69,7 @@ static uint32_t make(const struct call *call) {
 }
 
 /* A call is refused by a number, and changes nothing. */
-static void refused(const struct call *call, uint32_t number) {
-    static struct lent found;
-    memcpy(&found, lent, sizeof found);
-    EXPECT(make(call) == number);
-    EXPECT(memcmp(&found, lent, sizeof found) == 0);
-    EXPECT(mprotect(lent, sizeof *lent, PROT_READ) == 0);
-    EXPECT(make(call) == number);
-    EXPECT(mprotect(lent, sizeof *lent, PROT_READ | PROT_WRITE) == 0);
-}
-
-static void on_fault(int signal) {
-    static const char text[] = "refused.c: a refused call wrote memory that can only be read\n";
-    (void)signal;
-    (void)!write(STDERR_FILENO, text, sizeof text - 1);
-    _exit(1);
-}
+static void refused(const struct call *call, uint32_t number) { EXPECT_REFUSED(lent, make(call), number); }
 
 /* All of it 0x5a, but for the words of a table and a session. */
 static void lend_under(const uint8_t *bytes, size_t length, cobbletwill_session session) {
@@ -484,10 +463,7 @@ static void test_typed(void) {
 }
 
 int main(void) {
-    signal(SIGSEGV, on_fault);
-    signal(SIGBUS, on_fault);
-    lent = mmap(NULL, sizeof *lent, PROT_READ | PROT_WRITE, MAP_PRIVATE | MAP_ANONYMOUS, -1, 0);
-    EXPECT(lent != MAP_FAILED);
+    lent = lend_pages(sizeof *lent);
     test_tables();
     test_terms();
     test_inputs();

@@ -13,7 +13,7 @@
 #include "rules.h"
 #include "tables.h"
 
-enum { DEEP = 1 << 13, PIECE = 5001, ROOM = 8 * (8 + PIECE) };
+enum { DEEP = 1 << 13, PIECE = 5001, ROOM = 8 * (8 + PIECE), CHAIN_ROOM = 8 * (8 + ROOM) };
 
 #define PAINT UINT64_C(0xa55aa55aa55aa55a)
 
@@ -28,9 +28,11 @@ static size_t rules_length;
 static uint8_t records[COBBLETWILL_TABLE_SIZE];
 static uint16_t words[COBBLETWILL_WORDS_SIZE];
 static uint16_t text[PIECE];
-static uint16_t output[ROOM];
+static uint16_t middle[ROOM];
+static uint16_t output[CHAIN_ROOM];
 static uint64_t place, written, length;
-static cobbletwill_session session, later;
+static cobbletwill_session session, later, first, second;
+static uint32_t first_status;
 static uint32_t rule;
 static cobbletwill_input input;
 static uint32_t answer;
@@ -92,9 +94,35 @@ SUBJECT(preview_parts,
         (const uint16_t *w, size_t wl, const cobbletwill_session *s, const uint64_t *u, const uint16_t *p, size_t pl,
          cobbletwill_session *l, uint64_t *lu, uint64_t *n),
         (words, COBBLETWILL_WORDS_SIZE, &session, session.uses, text, PIECE, &later, later.uses, &written))
+SUBJECT(chain_feed_parts,
+        (const uint16_t *fw, size_t fwl, cobbletwill_session *f, uint64_t *fu, const uint16_t *sw, size_t swl,
+         cobbletwill_session *s, uint64_t *su, const uint16_t *p, size_t pl, uint16_t *m, size_t ml, uint16_t *o,
+         size_t ol, uint64_t *n, uint32_t *fs),
+        (words, COBBLETWILL_WORDS_SIZE, &first, first.uses, words, COBBLETWILL_WORDS_SIZE, &second, second.uses, text,
+         PIECE, middle, ROOM, output, CHAIN_ROOM, &written, &first_status))
+SUBJECT(chain_finish_parts,
+        (const uint16_t *fw, size_t fwl, cobbletwill_session *f, uint64_t *fu, const uint16_t *sw, size_t swl,
+         cobbletwill_session *s, uint64_t *su, uint16_t *m, size_t ml, uint16_t *o, size_t ol, uint64_t *n,
+         uint32_t *fs),
+        (words, COBBLETWILL_WORDS_SIZE, &first, first.uses, words, COBBLETWILL_WORDS_SIZE, &second, second.uses, middle,
+         ROOM, output, CHAIN_ROOM, &written, &first_status))
 #pragma GCC diagnostic pop
 
-enum { VERSION, CHECK, CONVERT, FROM_TEXT, COMPILE, WITNESS, IS_SOUND, FEED, FINISH, PREVIEW, SUBJECTS };
+enum {
+    VERSION,
+    CHECK,
+    CONVERT,
+    FROM_TEXT,
+    COMPILE,
+    WITNESS,
+    IS_SOUND,
+    FEED,
+    FINISH,
+    PREVIEW,
+    CHAIN_FEED,
+    CHAIN_FINISH,
+    SUBJECTS
+};
 
 /* A function's name, the stack that it may take, and the most that was measured. */
 static struct subject {
@@ -111,6 +139,8 @@ static struct subject {
     [FEED] = {"cobbletwill_feed_parts", COBBLETWILL_MAX_STACK_FEED, 0},
     [FINISH] = {"cobbletwill_finish_parts", COBBLETWILL_MAX_STACK_FINISH, 0},
     [PREVIEW] = {"cobbletwill_preview_parts", COBBLETWILL_MAX_STACK_PREVIEW, 0},
+    [CHAIN_FEED] = {"cobbletwill_chain_feed_parts", COBBLETWILL_MAX_STACK_CHAIN_FEED, 0},
+    [CHAIN_FINISH] = {"cobbletwill_chain_finish_parts", COBBLETWILL_MAX_STACK_CHAIN_FINISH, 0},
 };
 
 static void note(int subject, size_t bytes, uint32_t expected) {
@@ -123,7 +153,7 @@ static void note(int subject, size_t bytes, uint32_t expected) {
 /* Every function of tables and words, on a text that ends in the middle of a pattern. */
 static void measure(void) {
     const cobbletwill_session fresh = COBBLETWILL_FRESH;
-    session = fresh;
+    session = first = second = fresh;
     note(VERSION, depth_version(), COBBLETWILL_VERSION_NUMBER);
     note(CHECK, depth_check(), COBBLETWILL_OK);
     note(CONVERT, depth_convert(), COBBLETWILL_OK);
@@ -134,6 +164,9 @@ static void measure(void) {
     note(FEED, depth_feed_parts(), COBBLETWILL_OPEN);
     EXPECT(session.held_count > 0);
     note(FINISH, depth_finish_parts(), COBBLETWILL_OK);
+    note(CHAIN_FEED, depth_chain_feed_parts(), COBBLETWILL_OPEN);
+    EXPECT(first.held_count > 0);
+    note(CHAIN_FINISH, depth_chain_finish_parts(), COBBLETWILL_OK);
 }
 
 /* 64 classes and 256 states, and a default that writes eight characters, four of them digits. */

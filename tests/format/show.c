@@ -11,6 +11,10 @@
  * are not 0, each behind its place. Where a preview saw anything else, it says so.
  * `show units TABLE UNITS` does the same for a piece in hexadecimal, and prints the
  * units that were written behind the answer.
+ * `show chain TABLE PIECES SECOND` feeds pieces, with blanks between, to fresh
+ * sessions of two machines in a row, and finishes them. For each call it prints the
+ * least lengths of middle buffer and output, the answer, the first's status and both
+ * texts, or the refusal. Where a shorter buffer is let pass, it says so.
  * `show text RULES` prints the records of typed rules, one character a byte, eight
  * bytes a line, or the refusal.
  */
@@ -23,7 +27,7 @@
 #include "cobbletwill.h"
 
 static uint8_t bytes[32768];
-static uint16_t words[COBBLETWILL_WORDS_SIZE];
+static uint16_t words[COBBLETWILL_WORDS_SIZE], second_words[COBBLETWILL_WORDS_SIZE];
 
 static void show_words(void) {
     for (int place = 0; place < COBBLETWILL_WORDS_SIZE; place++) {
@@ -125,6 +129,65 @@ static void show_session(const uint16_t *piece, size_t length, bool shows_writte
     }
 }
 
+/* Two machines in a row, and the buffers between and behind them, for the pieces of an example. */
+struct chain {
+    cobbletwill_session first, second;
+    uint16_t middle[8 * (8 + PIECE)], output[8 * (8 + 8 * (8 + PIECE))];
+    uint64_t written;
+    uint32_t first_status;
+};
+
+/* A feed with buffers of so many characters, or a finish where there is no piece. */
+static uint32_t call_chain(struct chain *chain, const uint16_t *piece, size_t length, size_t middle, size_t room) {
+    if (piece == NULL) {
+        return cobbletwill_chain_finish(words, COBBLETWILL_WORDS_SIZE, &chain->first, second_words,
+                                        COBBLETWILL_WORDS_SIZE, &chain->second, chain->middle, middle, chain->output,
+                                        room, &chain->written, &chain->first_status);
+    }
+    return cobbletwill_chain_feed(words, COBBLETWILL_WORDS_SIZE, &chain->first, second_words, COBBLETWILL_WORDS_SIZE,
+                                  &chain->second, piece, length, chain->middle, middle, chain->output, room,
+                                  &chain->written, &chain->first_status);
+}
+
+static void show_quoted(const uint16_t *text, uint64_t length) {
+    fputs(" \"", stdout);
+    for (uint64_t i = 0; i < length; i++) {
+        putchar(text[i]);
+    }
+    putchar('"');
+}
+
+static void show_call(struct chain *chain, const uint16_t *piece, size_t length) {
+    const size_t middle = cobbletwill_chain_feed_middle(words, COBBLETWILL_WORDS_SIZE, &chain->first, length);
+    const size_t room = cobbletwill_chain_feed_room(words, COBBLETWILL_WORDS_SIZE, &chain->first, second_words,
+                                                    COBBLETWILL_WORDS_SIZE, &chain->second, length);
+    const uint64_t produced = chain->first.tally.produced;
+    const bool open = chain->first.status == 0 && chain->second.status == 0;
+    if ((open && middle > 0 &&
+         call_chain(chain, piece, length, middle - 1, room) != COBBLETWILL_REFUSED_SHORT_MIDDLE) ||
+        (open && room > 0 && call_chain(chain, piece, length, middle, room - 1) != COBBLETWILL_REFUSED_SHORT_OUTPUT)) {
+        puts("a shorter buffer is let pass");
+    }
+    uint32_t answer = call_chain(chain, piece, length, middle, room);
+    if (COBBLETWILL_IS_REFUSAL(answer)) {
+        printf("%" PRIu32 "\n", answer);
+        return;
+    }
+    printf("%zu %zu %" PRIu32 " %" PRIu32, middle, room, answer, chain->first_status);
+    show_quoted(chain->middle, chain->first.tally.produced - produced);
+    show_quoted(chain->output, chain->written);
+    putchar('\n');
+}
+
+static void show_chain(char *pieces) {
+    static struct chain chain = {.first = COBBLETWILL_FRESH, .second = COBBLETWILL_FRESH};
+    uint16_t piece[PIECE];
+    for (const char *text = strtok(pieces, " "); text != NULL; text = strtok(NULL, " ")) {
+        show_call(&chain, piece, read_text(text, piece));
+    }
+    show_call(&chain, NULL, 0);
+}
+
 static void show_records(size_t text_length) {
     static uint16_t text[sizeof bytes];
     static uint8_t table[COBBLETWILL_TABLE_SIZE];
@@ -142,25 +205,45 @@ static void show_records(size_t text_length) {
     }
 }
 
-int main(int argc, char **argv) {
-    FILE *file = argc > 2 ? fopen(argv[2], "rb") : NULL;
+/* Reads a file; the number of its bytes. */
+static size_t read_bytes(const char *path) {
+    FILE *file = fopen(path, "rb");
     if (file == NULL) {
-        fputs("usage: show words|rules TABLE | show session|units TABLE PIECE | show text RULES\n", stderr);
-        return 2;
+        perror(path);
+        exit(2);
     }
     size_t length = fread(bytes, 1, sizeof bytes, file);
     fclose(file);
+    return length;
+}
+
+/* Compiles the table that was read. */
+static void compile(size_t length, uint16_t to[COBBLETWILL_WORDS_SIZE]) {
+    uint32_t answer = cobbletwill_compile(bytes, length, to, COBBLETWILL_WORDS_SIZE);
+    if (COBBLETWILL_IS_REFUSAL(answer)) {
+        printf("refused %" PRIu32 "\n", answer);
+        exit(1);
+    }
+}
+
+int main(int argc, char **argv) {
+    if (argc < 3) {
+        fputs("usage: show words|rules TABLE | show session|units TABLE PIECE | show chain TABLE PIECES SECOND | "
+              "show text RULES\n",
+              stderr);
+        return 2;
+    }
+    size_t length = read_bytes(argv[2]);
     if (strcmp(argv[1], "text") == 0) {
         show_records(length);
         return 0;
     }
-    uint32_t answer = cobbletwill_compile(bytes, length, words, COBBLETWILL_WORDS_SIZE);
-    if (COBBLETWILL_IS_REFUSAL(answer)) {
-        printf("refused %" PRIu32 "\n", answer);
-        return 1;
-    }
+    compile(length, words);
     uint16_t piece[PIECE];
-    if (argc == 4 && strcmp(argv[1], "units") == 0) {
+    if (argc == 5) {
+        compile(read_bytes(argv[4]), second_words);
+        show_chain(argv[3]);
+    } else if (argc == 4 && strcmp(argv[1], "units") == 0) {
         show_session(piece, read_units(argv[3], piece), true);
     } else if (argc == 4) {
         show_session(piece, read_text(argv[3], piece), false);

@@ -8,6 +8,8 @@ use Rattle.automaton.specs.Compile.{compile}
 use Rattle.automaton.specs.Sound.{sound}
 use Rattle.cobbletwill.specs.Face.{checkCode, codeOf, placeOf, writtenOf, soundCode}
 use Rattle.cobbletwill.specs.Sessions.{CalledFace, feed, finish, PreviewedFace, preview}
+use Rattle.cobbletwill.specs.Chains as Chain
+use Rattle.cobbletwill.specs.Chains.{ChainFace}
 use Rattle.cobbletwill.specs.declared.sessions.SessionNumbers.{SessionNumbers}
 
 -- the table check: table; answer
@@ -41,3 +43,14 @@ Finishes w n uses buffer found back = back ≡ finish w n uses buffer found
 -- preview: words, session in its two parts and piece; the later session in its two parts and the number written as found; what it came to
 abbrev pub Previews : List ℕ → SessionNumbers → List ℕ → List ℕ → SessionNumbers → List ℕ → ℕ → PreviewedFace → Type 0
 Previews w n uses piece later laterUses found back = back ≡ preview w n uses piece later laterUses found
+
+-- feed of a chain: words and session in its two parts of the first, then of the second, piece, middle buffer, output buffer, number written and
+-- first's status as found; what it came to
+abbrev pub ChainFeeds : List ℕ → SessionNumbers → List ℕ → List ℕ → SessionNumbers → List ℕ → List ℕ → List ℕ → List ℕ → ℕ → ℕ → ChainFace → Type 0
+ChainFeeds w₁ n₁ uses₁ w₂ n₂ uses₂ piece middle buffer written status₁ back =
+    back ≡ Chain.feed w₁ n₁ uses₁ w₂ n₂ uses₂ piece middle buffer written status₁
+
+-- finish of a chain, likewise
+abbrev pub ChainFinishes : List ℕ → SessionNumbers → List ℕ → List ℕ → SessionNumbers → List ℕ → List ℕ → List ℕ → ℕ → ℕ → ChainFace → Type 0
+ChainFinishes w₁ n₁ uses₁ w₂ n₂ uses₂ middle buffer written status₁ back =
+    back ≡ Chain.finish w₁ n₁ uses₁ w₂ n₂ uses₂ middle buffer written status₁

@@ -2,8 +2,11 @@ pub mod Face
 pub mod Witness
 pub mod Typed
 pub mod Sessions
+pub mod Chains
 pub mod Contracts
 pub mod Answers
 pub mod Caller
 pub mod Claims
+pub mod ChainCaller
+pub mod ChainClaims
 pub mod bridge

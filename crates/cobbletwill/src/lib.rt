@@ -1,5 +1,6 @@
-// The C face: each answer as a number; the place, the number of characters written, a length and an input that shows a rule through pointers. include/cobbletwill.h
-// declares these functions.
+// The C face: each answer as a number; the place, the number of characters written, the status of a chain's first machine, a length and an input that shows a
+// rule through pointers. include/cobbletwill.h declares these functions.
+pub mod chains;
 pub mod sessions;
 
 ghost use mathlib.Core.List.{_∷_};
@@ -21,12 +22,12 @@ use witness::check::Judgement;
 use witness::check::witness;
 use words::sound_words::is_sound;
 
-// The version of the library, 0.10.0 in one number: 65536 times the first, 256 times the second, and the third.
+// The version of the library, 0.11.0 in one number: 65536 times the first, 256 times the second, and the third.
 #[no_mangle]
 pub extern "C" fn cobbletwill_version() -> u32
-    ensures { λ r. ⌜ r ≡ 2560 ⌝ }
+    ensures { λ r. ⌜ r ≡ 2816 ⌝ }
 {
-    2560
+    2816
 }
 
 // 0 for a table that keeps the rules, else the number of its refusal, 1 to 7.

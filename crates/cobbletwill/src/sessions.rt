@@ -61,7 +61,7 @@ fn status_number(status: Status) -> u32
 }
 
 // A session's status as an accepted call answers it.
-fn status_code(status: Status) -> u32
+pub(crate) fn status_code(status: Status) -> u32
     ensures { λ r. ⌜ r ≡ Spec.statusCode (meantStatus status) ⌝ }
 {
     match status {
@@ -72,7 +72,7 @@ fn status_code(status: Status) -> u32
 }
 
 // What numbers with a status up to 2 keep.
-fn kept_from(numbers: SessionNumbers) -> Kept
+pub(crate) fn kept_from(numbers: SessionNumbers) -> Kept
     ensures { λ r. ⌜ Keeps numbers r ⌝ }
 {
     let held = numbers.held;
@@ -88,7 +88,7 @@ fn kept_from(numbers: SessionNumbers) -> Kept
 }
 
 // The numbers of a kept.
-fn numbers_of(kept: Kept) -> SessionNumbers
+pub(crate) fn numbers_of(kept: Kept) -> SessionNumbers
     ensures { λ r. ⌜ r ≡ Spec.numbersOf (sessionOf (together kept [])) ⌝ }
 {
     let status = kept.status;
@@ -108,7 +108,7 @@ fn numbers_of(kept: Kept) -> SessionNumbers
 }
 
 // The refusal of numbers that are no session's: "12 session not sound", after 11.
-fn no_session(words: &[u16]) -> u32
+pub(crate) fn no_session(words: &[u16]) -> u32
     ensures { λ r. ⌜ r ≡ Spec.noSession (sound (now (words .entry))) ⌝ }
 {
     if is_sound(words) {

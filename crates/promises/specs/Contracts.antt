@@ -18,9 +18,11 @@ use Rattle.machine.specs.Compiled.{compiledOf}
 use Rattle.witness.specs.Judged.{judged}
 use Rattle.session.specs.Keeping.{sessionOf, together}
 use Rattle.session.specs.Contracts.{Feeds, Finishes, Previews, Told, Said}
+use Rattle.chain.specs.Contracts as Chain
 use Rattle.station.specs.Two.{inTwo}
 use Rattle.station.specs.Progress.{turnOf}
 use Rattle.cobbletwill.specs.Sessions.{left, previewed}
+use Rattle.cobbletwill.specs.Chains as Chains
 use Rattle.cobbletwill.specs.Witness.{Witnessed}
 use Rattle.cobbletwill.specs.Typed.{TypedFace}
 use Rattle.cobbletwill.specs.Contracts as Face
@@ -40,6 +42,12 @@ use Rattle.session.proofs.call.preview_by_value as preview-by-value
 use Rattle.session.proofs.call.feed_kept as feed-kept
 use Rattle.session.proofs.call.finish_kept as finish-kept
 use Rattle.session.proofs.call.preview_kept as preview-kept
+use Rattle.chain.proofs.call.feed as chain-feed
+use Rattle.chain.proofs.call.finish as chain-finish
+use Rattle.chain.proofs.call.feed_by_value as chain-feed-by-value
+use Rattle.chain.proofs.call.finish_by_value as chain-finish-by-value
+use Rattle.chain.proofs.call.feed_kept as chain-feed-kept
+use Rattle.chain.proofs.call.finish_kept as chain-finish-kept
 use Rattle.station.proofs.two.convert_in_two as convert-in-two
 use Rattle.cobbletwill.proofs.cobbletwill_check as c-check
 use Rattle.cobbletwill.proofs.cobbletwill_convert as c-convert
@@ -51,6 +59,8 @@ use Rattle.cobbletwill.proofs.cobbletwill_version as c-version
 use Rattle.cobbletwill.proofs.sessions.cobbletwill_feed_parts as c-feed
 use Rattle.cobbletwill.proofs.sessions.cobbletwill_finish_parts as c-finish
 use Rattle.cobbletwill.proofs.sessions.cobbletwill_preview_parts as c-preview
+use Rattle.cobbletwill.proofs.chains.cobbletwill_chain_feed_parts as c-chain-feed
+use Rattle.cobbletwill.proofs.chains.cobbletwill_chain_finish_parts as c-chain-finish
 use Rattle.promises.specs.EntryPoint.{EntryPoint}
 
 -- Each function's arguments are named as in its source, and those that it may change once more, with a dash, as it leaves them.
@@ -123,6 +133,46 @@ pub record Contracts : Type 2 where
       Said went kept (now later) (now later′)
       ∷ Previews (now words) (together kept (now uses)) (now piece) (went .answer) (together (went .kept) (now later′))
       ∷ [])
+  -- chain::call::feed
+  pub chain-feed : EntryPoint chain-feed.ended chain-feed.Symbol.routine
+      (λ κs (words₁, (first, (words₂, (second, (piece, (middle, (output, _))))))) answer (_, (first′, (_, (second′, (_, (middle′, (output′, _))))))).
+      Chain.Feeds (now words₁) (now words₂) (now first) (now second) (now piece) (now middle) (now output)
+      (Chain.outcomeOf answer (now first′) (now second′) (now middle′) (now output′))
+      ∷ [])
+  -- chain::call::finish
+  pub chain-finish : EntryPoint chain-finish.ended chain-finish.Symbol.routine
+      (λ κs (words₁, (first, (words₂, (second, (middle, (output, _)))))) answer (_, (first′, (_, (second′, (middle′, (output′, _)))))).
+      Chain.Finishes (now words₁) (now words₂) (now first) (now second) (now middle) (now output)
+      (Chain.outcomeOf answer (now first′) (now second′) (now middle′) (now output′))
+      ∷ [])
+  -- chain::call::feed_by_value
+  pub chain-feed-by-value : EntryPoint chain-feed-by-value.ended chain-feed-by-value.Symbol.routine
+      (λ κs (words₁, (first, (words₂, (second, (piece, (middle, (output, _))))))) called (_, (_, (_, (_, (_, (middle′, (output′, _))))))).
+      Chain.Told called first second
+      ∷ Chain.Feeds (now words₁) (now words₂) first second (now piece) (now middle) (now output)
+      (Chain.outcomeOf (called .answer) (called .first) (called .second) (now middle′) (now output′))
+      ∷ [])
+  -- chain::call::finish_by_value
+  pub chain-finish-by-value : EntryPoint chain-finish-by-value.ended chain-finish-by-value.Symbol.routine
+      (λ κs (words₁, (first, (words₂, (second, (middle, (output, _)))))) called (_, (_, (_, (_, (middle′, (output′, _)))))).
+      Chain.Told called first second
+      ∷ Chain.Finishes (now words₁) (now words₂) first second (now middle) (now output)
+      (Chain.outcomeOf (called .answer) (called .first) (called .second) (now middle′) (now output′))
+      ∷ [])
+  -- chain::call::feed_kept
+  pub chain-feed-kept : EntryPoint chain-feed-kept.ended chain-feed-kept.Symbol.routine
+      (λ κs (words₁, (first, (uses₁, (words₂, (second, (uses₂, (piece, (middle, (output, _))))))))) went (_, (_, (uses₁′, (_, (_, (uses₂′, (_, (middle′, (output′, _))))))))).
+      Chain.Said went first second (now uses₁) (now uses₂) (now uses₁′) (now uses₂′)
+      ∷ Chain.Feeds (now words₁) (now words₂) (together first (now uses₁)) (together second (now uses₂)) (now piece) (now middle) (now output)
+      (Chain.outcomeOf (went .answer) (together (went .first) (now uses₁′)) (together (went .second) (now uses₂′)) (now middle′) (now output′))
+      ∷ [])
+  -- chain::call::finish_kept
+  pub chain-finish-kept : EntryPoint chain-finish-kept.ended chain-finish-kept.Symbol.routine
+      (λ κs (words₁, (first, (uses₁, (words₂, (second, (uses₂, (middle, (output, _)))))))) went (_, (_, (uses₁′, (_, (_, (uses₂′, (middle′, (output′, _)))))))).
+      Chain.Said went first second (now uses₁) (now uses₂) (now uses₁′) (now uses₂′)
+      ∷ Chain.Finishes (now words₁) (now words₂) (together first (now uses₁)) (together second (now uses₂)) (now middle) (now output)
+      (Chain.outcomeOf (went .answer) (together (went .first) (now uses₁′)) (together (went .second) (now uses₂′)) (now middle′) (now output′))
+      ∷ [])
   -- station::two::convert_in_two
   pub convert-in-two : EntryPoint convert-in-two.ended convert-in-two.Symbol.routine
       (λ κs (table, (first, (second, (words, (output, _))))) progress (_, (_, (_, (words′, (output′, _))))).
@@ -153,7 +203,7 @@ pub record Contracts : Type 2 where
       (λ κs (words, _) answer _. Face.TestsWords (now words) answer ∷ [])
   -- cobbletwill_version
   pub c-version : EntryPoint c-version.ended c-version.Symbol.routine
-      (λ κs _ answer _. (answer ≡ 2560) ∷ [])
+      (λ κs _ answer _. (answer ≡ 2816) ∷ [])
   -- cobbletwill_feed_parts
   pub c-feed : EntryPoint c-feed.ended c-feed.Symbol.routine
       (λ κs (words, (session, (uses, (piece, (output, (written, _)))))) answer (_, (session′, (uses′, (_, (output′, (written′, _)))))).
@@ -171,4 +221,18 @@ pub record Contracts : Type 2 where
       (λ κs (words, (session, (uses, (piece, (later, (counts, (written, _))))))) answer (_, (_, (_, (_, (later′, (counts′, (written′, _))))))).
       Face.Previews (now words) (now session) (now uses) (now piece) (now later) (now counts) (now written)
       (previewed answer (now later′) (now counts′) (now written′))
+      ∷ [])
+  -- cobbletwill_chain_feed_parts
+  pub c-chain-feed : EntryPoint c-chain-feed.ended c-chain-feed.Symbol.routine
+      (λ κs (words₁, (first, (uses₁, (words₂, (second, (uses₂, (piece, (middle, (output, (written, (status₁, _))))))))))) answer
+      (_, (first′, (uses₁′, (_, (second′, (uses₂′, (_, (middle′, (output′, (written′, (status₁′, _))))))))))).
+      Face.ChainFeeds (now words₁) (now first) (now uses₁) (now words₂) (now second) (now uses₂) (now piece) (now middle) (now output) (now written) (now status₁)
+      (Chains.left answer (now first′) (now uses₁′) (now second′) (now uses₂′) (now middle′) (now output′) (now written′) (now status₁′))
+      ∷ [])
+  -- cobbletwill_chain_finish_parts
+  pub c-chain-finish : EntryPoint c-chain-finish.ended c-chain-finish.Symbol.routine
+      (λ κs (words₁, (first, (uses₁, (words₂, (second, (uses₂, (middle, (output, (written, (status₁, _)))))))))) answer
+      (_, (first′, (uses₁′, (_, (second′, (uses₂′, (middle′, (output′, (written′, (status₁′, _)))))))))).
+      Face.ChainFinishes (now words₁) (now first) (now uses₁) (now words₂) (now second) (now uses₂) (now middle) (now output) (now written) (now status₁)
+      (Chains.left answer (now first′) (now uses₁′) (now second′) (now uses₂′) (now middle′) (now output′) (now written′) (now status₁′))
       ∷ [])

@@ -22,8 +22,10 @@ use Rattle.automaton.specs.AnyOrder.{CompiledAlike}
 use Rattle.automaton.specs.Pairs.{PairWords}
 use Rattle.reckoning.specs.Claims.{OutcomesAgree, CallsAnswer, CallsKeep, SoundAddsUp, RefusesOthers}
 use Rattle.reckoning.specs.Serves.{Demand3, UsesAddUp, NothingHeld, Serves}
-use Rattle.reckoning.specs.Answered.{callOrder}
+use Rattle.reckoning.specs.Answered.{callOrder, chainOrder}
 use Rattle.reckoning.specs.Append.{FeedsJoin, PartsAccepted, StopsJoin, FinishJoins}
+use Rattle.reckoning.specs.Chain.{ChainTests, ChainCallsAnswer, ChainsMade}
+use Rattle.reckoning.specs.ChainServes.{ChainsAgree, ChainLimited, ChainEnds, ChainServes}
 use Rattle.reckoning.specs.Preview.{LooksAhead}
 use Rattle.reckoning.specs.Examples.{holds, rows}
 use Rattle.reckoning.specs.Instances.{Instances, HeldInstances}
@@ -31,9 +33,12 @@ use Rattle.reckoning.specs.Pairs.{PairsRun}
 use Rattle.typed.specs.Claims.{TypedRules}
 use Rattle.session.specs.Caller as Code
 use Rattle.session.specs.Preview.{PreviewTells}
+use Rattle.chain.specs.Caller as CodeChain
 use Rattle.cobbletwill.specs.Answers.{ChecksAnswer, ConvertsAnswer, CompilesAnswer}
 use Rattle.cobbletwill.specs.Caller as Face
 use Rattle.cobbletwill.specs.Claims.{Faithful, FeedsAnswer, FinishesAnswer, OtherStatuses, FinishesEnd, PreviewsAnswer, PreviewsFeed}
+use Rattle.cobbletwill.specs.ChainCaller as FaceChain
+use Rattle.cobbletwill.specs.ChainClaims.{ChainsAnswer, ChainStatuses}
 use Rattle.cobbletwill.specs.Witness.{WitnessesTell}
 use Rattle.cobbletwill.specs.Typed.{TypedTextsAnswer, TypedTextsDetermined}
 use Rattle.station.specs.Claims.{InTwo, TextInTwo, Passes}
@@ -114,6 +119,8 @@ pub record Promises : Type 2 where
   pub compiling-in-order : T (allOf compileOrder)
   -- The same of feed, finish and preview
   pub calls-in-order : T (allOf callOrder)
+  -- The same of a chain, whose refusals 11 to 14 are each tested for the first and then the second, and then 18 and 15
+  pub chains-in-order : T (allOf chainOrder)
   -- # Request [1]: hexadecimal digits out
   -- Where the record of a digit may stand, what it writes and when it is refused
   pub digits-out : DigitsOut
@@ -167,6 +174,25 @@ pub record Promises : Type 2 where
   pub nothing-held : NothingHeld Code.caller × NothingHeld Face.caller
   -- No place of an input is both open so and decided
   pub never-both : NeverBoth
+  -- # Request [10]: two tables in a row
+  -- After any list of a chain's calls from fresh sessions, in Rattle or in C: the output and both sessions are those of the two plain machines, the second's over what the first wrote; once a finish is accepted or the second stops, the output is the second definition applied to the first one's text, where the first definition closes; where the first stops and the second doesn't, it is what feeding the second that text gives
+  pub chains-agree : ChainsAgree CodeChain.caller × ChainsAgree FaceChain.caller
+  -- Refusal 14 doesn't occur while the characters in all and the first's E times as many are within the limit
+  pub chain-limited : ChainLimited CodeChain.caller × ChainLimited FaceChain.caller
+  -- Once a finish was accepted, or either session has stopped, the next call is refused by 13
+  pub chain-ends : ChainEnds CodeChain.caller × ChainEnds FaceChain.caller
+  -- Whoever makes a chain's calls, in Rattle or in C, has all of this
+  pub chain-serves : ChainServes CodeChain.caller × ChainServes FaceChain.caller
+  -- An accepted call is the first's feed or finish into the middle buffer, the second's feed of what the first wrote and, where a finish closed the first and the second is open, the second's finish, whose text stands behind
+  pub chains-made : ChainsMade
+  -- A chain's call is accepted exactly when the words and sessions of both are sound, both are open, neither would receive too much, and the middle buffer and the output have the least lengths asked
+  pub chain-tests : ChainTests
+  -- A chain's call answers the second's count and both statuses, or refuses by number and changes nothing: sessions, middle buffer and output; what is beyond the texts stays as found
+  pub chain-calls-answer : ChainCallsAnswer
+  -- In C, a chain's feed and finish answer 0, 64, 65 or a refusal, by which nothing is changed
+  pub c-chains-answer : ChainsAnswer
+  -- In C, where either's numbers are no session's they are refused by 11 if the words of either are not sound, and else by 12
+  pub c-chain-statuses : ChainStatuses
   -- # The program
   -- For some input of as many bytes as were read, it hands to its writes what the list of turns prints, each from the session that the last one left, the first from a fresh one under compiling's words; or compiling's refusal, and reads nothing
   pub program : Program

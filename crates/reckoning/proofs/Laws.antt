@@ -20,4 +20,8 @@ pub mod Instances
 pub mod Keeping
 pub mod Admitting
 pub mod Append
+pub mod Chain
+pub mod Chained
+pub mod ChainServes
+pub mod Made
 pub mod Preview

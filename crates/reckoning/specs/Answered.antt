@@ -1,4 +1,5 @@
--- "Feed and finish 11 to 15": rows as those of the table check, for calls of T2's machine, and for a preview, which "is refused as feed is".
+-- "Feed and finish 11 to 15": rows as those of the table check, for calls of T2's machine, for a preview, which "is refused as feed is", and for a
+-- chain of two such machines (request [10]).
 use mathlib.Core.Bool.{Bool}
 use mathlib.Core.List.{List, [], _∷_}
 use Prim.Native.Nat.{ℕ}
@@ -13,6 +14,8 @@ use Rattle.reckoning.specs.Machine.{Status, Open, Closed}
 use Rattle.reckoning.specs.Uses.{useCounts}
 use Rattle.reckoning.specs.Session.{Session}
 use Rattle.reckoning.specs.Calls.{Answer, feed, finish}
+use Rattle.reckoning.specs.Reckoning.{ofFeed, ofFinish}
+use Rattle.reckoning.specs.Chain.{ChainAnswer, chained}
 use Rattle.reckoning.specs.Preview.{Seen, preview}
 
 abbrev words : List ℕ
@@ -58,4 +61,34 @@ callOrder =
     ∷ before 11 12 (previewed [] (left Open 0 1)) (previewed words (left Open 0 1))
     ∷ before 12 13 (previewed words (left Closed 0 1)) (previewed words (left Closed 0 0))
     ∷ before 13 14 (previewed words (left Closed limit 0)) (previewed words (left Open limit 0))
+    ∷ []
+
+-- a feed of one character through a chain, whose first may write one for it, and so may the second; there is no room in the output, and so much in
+-- the middle buffer
+abbrev chainFed : List ℕ → List ℕ → Session → Session → ℕ → Outcome ChainAnswer
+chainFed w₁ w₂ s₁ s₂ middle = chained w₁ w₂ s₁ s₂ (record { call = ofFeed (0 ∷ []) []; middle = pad middle [] }) .answer
+
+abbrev chainFinished : List ℕ → List ℕ → Session → Session → Outcome ChainAnswer
+chainFinished w₁ w₂ s₁ s₂ = chained w₁ w₂ s₁ s₂ (record { call = ofFinish []; middle = [] }) .answer
+
+-- "Each of 11 to 14 is tested for the first, then the second": each row has two faults that are tested one after the other; of 11 to 14, one of
+-- each machine
+unfoldable pub chainOrder : List Bool
+chainOrder =
+    -- no words of the second, and the first's session not sound
+    before 11 12 (chainFed words [] (left Open 0 1) (left Open 0 0) 0) (chainFed words words (left Open 0 1) (left Open 0 0) 0)
+    ∷ before 11 12 (chainFed [] words (left Open 0 0) (left Open 0 1) 0) (chainFed words words (left Open 0 0) (left Open 0 1) 0)
+    -- the second's session not sound, and the first closed
+    ∷ before 12 13 (chainFed words words (left Closed 0 0) (left Open 0 1) 0) (chainFed words words (left Closed 0 0) (left Open 0 0) 0)
+    ∷ before 12 13 (chainFed words words (left Open 0 1) (left Closed 0 0) 0) (chainFed words words (left Open 0 0) (left Closed 0 0) 0)
+    -- the second closed, and a character too many for the first
+    ∷ before 13 14 (chainFed words words (left Open limit 0) (left Closed 0 0) 0) (chainFed words words (left Open limit 0) (left Open 0 0) 0)
+    -- "Refusal 14 tests both sessions, the second with the least middle length as its piece"
+    ∷ before 13 14 (chainFed words words (left Closed 0 0) (left Open limit 0) 0) (chainFed words words (left Open 0 0) (left Open limit 0) 0)
+    -- "18: ...; tested after 14 and before 15"
+    ∷ before 14 18 (chainFed words words (left Open limit 0) (left Open 0 0) 0) (chainFed words words (left Open 0 0) (left Open 0 0) 0)
+    ∷ before 14 18 (chainFed words words (left Open 0 0) (left Open limit 0) 0) (chainFed words words (left Open 0 0) (left Open 0 0) 0)
+    ∷ before 18 15 (chainFed words words (left Open 0 0) (left Open 0 0) 0) (chainFed words words (left Open 0 0) (left Open 0 0) 1)
+    ∷ before 11 12 (chainFinished words [] (left Open 0 1) (left Open 0 0)) (chainFinished words words (left Open 0 1) (left Open 0 0))
+    ∷ before 12 13 (chainFinished words words (left Closed 0 0) (left Open 0 1)) (chainFinished words words (left Closed 0 0) (left Open 0 0))
     ∷ []

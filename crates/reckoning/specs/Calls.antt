@@ -78,3 +78,14 @@ feed w s piece buffer = callBy (admits w s (length piece) (length buffer)) (from
 
 unfoldable pub finish : List ℕ → Session → List ℕ → CallOutcome
 finish w s buffer = callBy (admits w s 0 (length buffer)) (fromWords w) s [] true buffer
+
+-- what a call over a piece, ended or not, runs to, writes and leaves where it is accepted
+module _ (w : List ℕ) (s : Session) (p : List ℕ) (e : Bool) where
+  abbrev pub ranOn : Ended
+  ranOn = resumed (fromWords w) s p e
+
+  abbrev pub textOn : List ℕ
+  textOn = textOf (fromWords w .write) (ranOn .final .log)
+
+  abbrev pub leftOn : Session
+  leftOn = later s (length p) (length textOn) ranOn

@@ -8,6 +8,8 @@ pub mod InTurn
 pub mod Needs
 pub mod Serves
 pub mod Append
+pub mod Chain
+pub mod ChainServes
 pub mod Preview
 pub mod Examples
 pub mod Answered

@@ -1,19 +1,20 @@
 -- "Demand 3 is a single claim about the whole list": a list of calls in turn, and the reckoning from the table and the calls alone.
-use mathlib.Core.Bool.{Bool, true, false, not}
+use mathlib.Core.Bool.{Bool, true, false, not, _||_}
 use mathlib.Core.List.{List, [], _∷_, _++_}
 use Prim.Native.Nat.{ℕ, _+_, _-_, _*_}
 use lib.Dec.{ltb}
 use lib.ListN.{length, take}
-use Rattle.lists.specs.Lists.{foldLeft}
+use Rattle.lists.specs.Lists.{foldLeft, pad}
 use Rattle.lists.specs.Decide.{select}
 use Rattle.meaning.specs.Refusal.{Outcome, refused, accepted}
 use Rattle.meaning.specs.Table.{Table, expansion}
-use Rattle.meaning.specs.Meaning.{textOf}
+use Rattle.meaning.specs.Meaning.{textOf, covered}
 use Rattle.meaning.specs.Direct.{limit}
 use Rattle.automaton.specs.Automaton.{fromTable}
 use Rattle.reckoning.specs.Machine.{Ended, start, run}
+use Rattle.reckoning.specs.Uses.{usesOf}
 use Rattle.reckoning.specs.Session.{Session, fresh, isOpen}
-use Rattle.reckoning.specs.Calls.{Answer, CallOutcome, feed, finish}
+use Rattle.reckoning.specs.Calls.{Answer, CallOutcome, receivedBy, feed, finish}
 
 -- a feed of a piece, or a finish, with the output buffer as found
 pub data Call : Type 0 where
@@ -78,12 +79,18 @@ serve w (c ∷ cs) v = serve w cs (serveCall w v c)
 abbrev pub seen : Session → List CallOutcome → Served
 seen s outcomes = foldLeft andThen outcomes (before s)
 
--- "The accepted pieces joined"
-abbrev pub acceptedPieces : List Call → List (Outcome Answer) → List ℕ
+-- "The accepted pieces joined", whatever else the calls answer, and whether a finish was accepted
+abbrev pub acceptedPieces : {A : Type 0} → List Call → List (Outcome A) → List ℕ
 acceptedPieces [] answers = []
 acceptedPieces (c ∷ cs) [] = []
 acceptedPieces (c ∷ cs) (refused n ∷ answers) = acceptedPieces cs answers
 acceptedPieces (c ∷ cs) (accepted a ∷ answers) = piece c ++ acceptedPieces cs answers
+
+abbrev pub acceptedEnd : {A : Type 0} → List Call → List (Outcome A) → Bool
+acceptedEnd [] answers = false
+acceptedEnd (c ∷ cs) [] = false
+acceptedEnd (c ∷ cs) (refused n ∷ answers) = acceptedEnd cs answers
+acceptedEnd (c ∷ cs) (accepted a ∷ answers) = ends c || acceptedEnd cs answers
 
 -- The reckoning: the calls' answers, the input so far, and whether it has its end.
 pub record Input : Type 0 where
@@ -103,6 +110,21 @@ ran t characters ended = run (fromTable t) ended (start [] characters 0)
 -- what it wrote over the input
 abbrev pub ranText : Table → Ended → List ℕ
 ranText t r = textOf (fromTable t .write) (r .final .log)
+
+-- "The session has its status (waiting is open), its state, the characters it holds and its steps; produced counts what it wrote, and
+-- consumed the characters that emits removed from its store. Received is the input's length, or consumed when stopped.": of n characters
+abbrev pub sessionBy : Table → Ended → ℕ → Session
+sessionBy t r n =
+    record {
+      status = r .status;
+      state = r .final .state;
+      held = pad 8 (r .final .store);
+      count = length (r .final .store);
+      received = receivedBy (r .status) n (covered (r .final .log));
+      produced = length (ranText t r);
+      steps = r .final .steps;
+      uses = usesOf (r .final .log);
+    }
 
 -- "If it closed or stopped, the call is refused by 13. Else 14 takes the input's length as received, and 15 the number of characters that
 -- the machine holds as held"

@@ -120,7 +120,7 @@ fn later(kept: Kept, size: usize, ran: Ran, held: [u16; 8]) -> Kept
 }
 
 // The machine goes on from an admitted session over the piece. Lent an output without places, it only counts.
-fn resume(
+pub fn resume(
     words: &[u16],
     kept: Kept,
     uses: &mut [u64; 34],

@@ -2,14 +2,8 @@
 //! from the document: direct, in one feed, in two pieces and one by one. Digits
 //! likewise, with answers from the source's Examples 2 and 3 or worked out by hand.
 
-use crate::tables::{four_digits, mixed, t1, t1_with, t2, t3, t3_with, two_digits, units};
+use crate::tables::{four_digits, mixed, splits, t1, t1_with, t2, t3, t3_with, two_digits, units};
 use cobbletwill::{check, convert, run, Ending, Machine, Refusal, Session, Status, MAX_EXPANSION};
-
-/// An input in every two pieces, and one by one.
-fn splits(input: &[u16]) -> Vec<Vec<&[u16]>> {
-    let pairs = (0..=input.len()).map(|place| vec![&input[..place], &input[place..]]);
-    pairs.chain([input.chunks(1).collect()]).collect()
-}
 
 /// Direct conversion gives a text and an ending at a place; so do all sessions,
 /// after so many steps.

@@ -1,10 +1,17 @@
-//! The example tables of document 01, and encoders that write digits.
+//! The example tables of document 01, encoders that write digits, and inputs cut into
+//! pieces.
 
 use cobbletwill::record::{digit, output, range, rule, term, Record, DEFAULT};
 
 /// The characters of a text.
 pub fn units(text: &str) -> Vec<u16> {
     text.encode_utf16().collect()
+}
+
+/// An input in every two pieces, and one by one.
+pub fn splits(input: &[u16]) -> Vec<Vec<&[u16]>> {
+    let pairs = (0..=input.len()).map(|place| vec![&input[..place], &input[place..]]);
+    pairs.chain([input.chunks(1).collect()]).collect()
 }
 
 /// One character at each position from 0.

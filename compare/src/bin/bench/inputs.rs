@@ -79,7 +79,7 @@ pub const DESCRIPTION: &str = "under T1, marked or not, and bytes as two digits"
 /// The inputs.
 pub fn inputs() -> [Input; 8] {
     [
-        Input::of_t1("plain text", repeated(PLAIN)),
+        Input::of_t1("plain text", plain()),
         Input::of_t1("`&#38;` repeated", repeated("&#38;")),
         Input::of_t1("`&#4` repeated", repeated("&#4")),
         Input::of_t1("a mix", mixed()),
@@ -89,7 +89,7 @@ pub fn inputs() -> [Input; 8] {
             text: bytes(),
             scanned: false,
         },
-        Input::of_marked_t1("plain text, marked", repeated(PLAIN)),
+        Input::of_marked_t1("plain text, marked", plain()),
         Input::of_marked_t1("pairs, marked", pairs()),
         Input::of_marked_t1(
             "a mix with pairs, marked",
@@ -97,9 +97,6 @@ pub fn inputs() -> [Input; 8] {
         ),
     ]
 }
-
-/// Text in which no pattern begins.
-const PLAIN: &str = "The water stands at 214 cm. ";
 
 /// Words, matches and beginnings of matches.
 const PARTS: [&str; 8] = [
@@ -124,6 +121,11 @@ fn pairs() -> Vec<u16> {
 fn bytes() -> Vec<u16> {
     let mut random = Random::new(2);
     (0..LENGTH).map(|_| random.below(256) as u16).collect()
+}
+
+/// Text in which no pattern begins.
+pub fn plain() -> Vec<u16> {
+    repeated("The water stands at 214 cm. ")
 }
 
 /// A text over and over.

@@ -1,10 +1,12 @@
 //! Times the proved library beside the build before and beside other versions, in one
 //! run, and prints the tables of docs/PERFORMANCE.md: the test of words, single calls,
 //! feeds beside a machine written for speed and scanners that flex generates, compiling
-//! and direct conversion beside the independent version, previews beside feeds, and
-//! live and dead rules and typed texts beside the independent version.
+//! and direct conversion beside the independent version, previews beside feeds, chains
+//! beside the feeds of both machines, and live and dead rules and typed texts beside the
+//! independent version.
 
 mod calls;
+mod chaining;
 mod compiling;
 mod converting;
 mod feeding;
@@ -18,13 +20,14 @@ mod versions;
 mod witnessing;
 
 /// What is timed.
-const SUBJECTS: [(&str, fn()); 8] = [
+const SUBJECTS: [(&str, fn()); 9] = [
     ("testing", testing::print),
     ("calls", calls::print),
     ("feeding", feeding::print),
     ("compiling", compiling::print),
     ("converting", converting::print),
     ("previewing", previewing::print),
+    ("chaining", chaining::print),
     ("witnessing", witnessing::print),
     ("typing", typing::print),
 ];

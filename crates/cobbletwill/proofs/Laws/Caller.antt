@@ -47,7 +47,7 @@ outcome-back w s c found =
     let answer = answer-back (o .answer) found (calls-answer w s c .numbered) in
     λ i. record { answer = answer i; session = faithful .sessions (o .session) i; output = o .output }
 
-status-small : (s : Status) → statusNumber s ≤ 2
+pub status-small : (s : Status) → statusNumber s ≤ 2
 status-small Open = omega arith
 status-small Closed = omega arith
 status-small Stopped = omega arith

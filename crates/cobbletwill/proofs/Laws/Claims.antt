@@ -33,7 +33,7 @@ use Rattle.cobbletwill.specs.Claims.{Faithful, FaceAnswers, FeedsAnswer,
 use Rattle.cobbletwill.specs.Claims.{FinishesEnd, PreviewAnswers, PreviewsAnswer, isRefusal, PreviewsFeed}
 use Rattle.cobbletwill.specs.declared.sessions.SessionNumbers.{SessionNumbers}
 
-status-same : (s : Status) → statusFrom (statusNumber s) ≡ s
+pub status-same : (s : Status) → statusFrom (statusNumber s) ≡ s
 status-same Open = refl
 status-same Closed = refl
 status-same Stopped = refl
@@ -86,7 +86,7 @@ status-numbered Closed = tt
 status-numbered Stopped = tt
 
 -- numbers that are no session's are refused by 11 or 12
-no-session-refused : (soundWords : Bool) (ks : List ℕ) → T (any (eqb (noSession soundWords)) (11 ∷ 12 ∷ ks))
+pub no-session-refused : (soundWords : Bool) (ks : List ℕ) → T (any (eqb (noSession soundWords)) (11 ∷ 12 ∷ ks))
 no-session-refused true ks = tt
 no-session-refused false ks = tt
 

@@ -17,7 +17,7 @@ use Rattle.lists.proofs.Laws.Tests.{or-cases}
 use Rattle.lists.proofs.Laws.Each.{each-getD}
 use Rattle.lists.proofs.Laws.Parts.{length-pad, getD-pad, getD-rows}
 use Rattle.lists.proofs.Laws.Sets.{tab-map}
-use Rattle.meaning.specs.Table.{Output, sum, digit, Group, isShift}
+use Rattle.meaning.specs.Table.{Output, sum, digit, Group, isShift, Characters}
 use Rattle.meaning.specs.Value.{dot, nibble, hexDigit, value, IsCharacter}
 use Rattle.meaning.specs.Meaning.{written}
 use Rattle.meaning.specs.Block.{word, bit, entry, block, at, wordSum, valueBy, entryValue, blockOutput, blockSize, entrySize}
@@ -237,3 +237,12 @@ block-writes g w b small few size within safe e =
     (subst (λ k. Within k (getD (g .outputs) i d)) (sym size) (each-getD (Within (g .size)) (g .outputs) i d within h))
     (each-getD (λ o. IsCharacter (value o w)) (g .outputs) i d safe h)
     (λ j k. e (n + j) (omega arith) ∙ block-entry g i j d few h k)))
+
+-- what a group writes where the values are characters
+pub written-characters : (g : Group) (w : List ℕ) → Each (λ o. IsCharacter (value o w)) (g .outputs) → Characters (written g w)
+unfolding written
+written-characters g w safe = each (g .outputs) safe
+  where
+    each : (os : List Output) → Each (λ o. IsCharacter (value o w)) os → Characters (map (λ o. natAbs (value o w)) os)
+    each [] a = tt
+    each (o ∷ os) a = (same-character (value o w) (a .0) .1, each os (a .1))

@@ -16,6 +16,12 @@ use Rattle.session.proofs.call.preview_by_value.Met as preview-by-value
 use Rattle.session.proofs.call.feed_kept.Met as feed-kept
 use Rattle.session.proofs.call.finish_kept.Met as finish-kept
 use Rattle.session.proofs.call.preview_kept.Met as preview-kept
+use Rattle.chain.proofs.call.feed.Met as chain-feed
+use Rattle.chain.proofs.call.finish.Met as chain-finish
+use Rattle.chain.proofs.call.feed_by_value.Met as chain-feed-by-value
+use Rattle.chain.proofs.call.finish_by_value.Met as chain-finish-by-value
+use Rattle.chain.proofs.call.feed_kept.Met as chain-feed-kept
+use Rattle.chain.proofs.call.finish_kept.Met as chain-finish-kept
 use Rattle.station.proofs.two.convert_in_two.Met as convert-in-two
 use Rattle.cobbletwill.proofs.cobbletwill_check.Met as c-check
 use Rattle.cobbletwill.proofs.cobbletwill_convert.Met as c-convert
@@ -27,6 +33,8 @@ use Rattle.cobbletwill.proofs.cobbletwill_version.Met as c-version
 use Rattle.cobbletwill.proofs.sessions.cobbletwill_feed_parts.Met as c-feed
 use Rattle.cobbletwill.proofs.sessions.cobbletwill_finish_parts.Met as c-finish
 use Rattle.cobbletwill.proofs.sessions.cobbletwill_preview_parts.Met as c-preview
+use Rattle.cobbletwill.proofs.chains.cobbletwill_chain_feed_parts.Met as c-chain-feed
+use Rattle.cobbletwill.proofs.chains.cobbletwill_chain_finish_parts.Met as c-chain-finish
 use Rattle.promises.specs.Contracts.{Contracts}
 
 pub contracts : Contracts
@@ -47,6 +55,12 @@ contracts = record {
   feed-kept = λ M. feed-kept.met;
   finish-kept = λ M. finish-kept.met;
   preview-kept = λ M. preview-kept.met;
+  chain-feed = λ M. chain-feed.met;
+  chain-finish = λ M. chain-finish.met;
+  chain-feed-by-value = λ M. chain-feed-by-value.met;
+  chain-finish-by-value = λ M. chain-finish-by-value.met;
+  chain-feed-kept = λ M. chain-feed-kept.met;
+  chain-finish-kept = λ M. chain-finish-kept.met;
   convert-in-two = λ M. convert-in-two.met;
   c-check = λ M. c-check.met;
   c-convert = λ M. c-convert.met;
@@ -58,4 +72,6 @@ contracts = record {
   c-feed = λ M. c-feed.met;
   c-finish = λ M. c-finish.met;
   c-preview = λ M. c-preview.met;
+  c-chain-feed = λ M. c-chain-feed.met;
+  c-chain-finish = λ M. c-chain-finish.met;
 }

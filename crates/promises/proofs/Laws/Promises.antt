@@ -17,9 +17,12 @@ use Rattle.automaton.proofs.Laws.SecondOfT3.{second-of-t3}
 use Rattle.automaton.proofs.Laws.AnyOrder.{compiled-alike}
 use Rattle.automaton.proofs.Laws.Pairs.{pair-words}
 use Rattle.reckoning.proofs.Laws.Answers.{calls-answer, calls-keep, sound-adds-up, refuses-others}
-use Rattle.reckoning.proofs.Laws.Answered.{calls-in-order}
+use Rattle.reckoning.proofs.Laws.Answered.{calls-in-order, chains-in-order}
 use Rattle.reckoning.proofs.Laws.Demand3.{outcomes-agree}
 use Rattle.reckoning.proofs.Laws.Append.{feeds-join, parts-accepted, stops-join, finish-joins}
+use Rattle.reckoning.proofs.Laws.Chain.{chain-tests}
+use Rattle.reckoning.proofs.Laws.Chained.{chain-calls-answer}
+use Rattle.reckoning.proofs.Laws.Made.{chains-made}
 use Rattle.reckoning.proofs.Laws.Preview.{looks-ahead}
 use Rattle.reckoning.proofs.Laws.Examples.{rows-hold}
 use Rattle.reckoning.proofs.Laws.Instances.{instances, held-instances}
@@ -27,9 +30,12 @@ use Rattle.reckoning.proofs.Laws.Pairs.{pairs-run}
 use Rattle.typed.proofs.Laws.Promised.{typed-rules}
 use Rattle.session.proofs.Laws.Caller.{code-serves}
 use Rattle.session.proofs.Laws.Foreseen.{preview-tells}
+use Rattle.chain.proofs.Laws.Caller.{code-chain-serves}
 use Rattle.cobbletwill.proofs.Laws.Answers.{checks-answer, converts-answer, compiles-answer}
 use Rattle.cobbletwill.proofs.Laws.Caller.{face-serves}
 use Rattle.cobbletwill.proofs.Laws.Claims.{faithful, feeds-answer, finishes-answer, other-statuses, finishes-end, previews-answer, previews-feed}
+use Rattle.cobbletwill.proofs.Laws.ChainCaller.{face-chain-serves}
+use Rattle.cobbletwill.proofs.Laws.ChainClaims.{chains-answer, chain-statuses}
 use Rattle.cobbletwill.proofs.Laws.Witness.{witnesses-tell}
 use Rattle.cobbletwill.proofs.Laws.Typed.{typed-texts-answer, typed-texts-determined}
 use Rattle.station.proofs.Laws.InTwo.{in-two}
@@ -75,6 +81,7 @@ promises = record {
   ends-apart = ends-apart;
   compiling-in-order = compiling-in-order;
   calls-in-order = calls-in-order;
+  chains-in-order = chains-in-order;
   digits-out = digits-out;
   digit-words = digit-words;
   uses-add-up = (code-serves .uses-add-up, face-serves .uses-add-up);
@@ -97,6 +104,15 @@ promises = record {
   pairs-run = pairs-run;
   nothing-held = (code-serves .nothing-held, face-serves .nothing-held);
   never-both = never-both;
+  chains-agree = (code-chain-serves .agree, face-chain-serves .agree);
+  chain-limited = (code-chain-serves .limited, face-chain-serves .limited);
+  chain-ends = (code-chain-serves .ends, face-chain-serves .ends);
+  chain-serves = (code-chain-serves, face-chain-serves);
+  chains-made = chains-made;
+  chain-tests = chain-tests;
+  chain-calls-answer = chain-calls-answer;
+  c-chains-answer = chains-answer;
+  c-chain-statuses = chain-statuses;
   program = program;
   prints-meaning = prints-meaning;
   rows = rows-hold;

@@ -37,6 +37,11 @@ called-by w s (ofFinish buffer) = refl
 abbrev pub Passed : Status → ℕ → ℕ → ℕ → Type 0
 Passed s total most room = (s ≡ Open) × (total ≤ limit) × (most ≤ room)
 
+pub is-open : (s : Status) → T (isOpen s) → s ≡ Open
+is-open Open t = refl
+is-open Closed t = absurd t
+is-open Stopped t = absurd t
+
 pub pass-cases : (P : Outcome (Unit {0}) → Type 0) (s : Status) (total most room : ℕ) →
     P (refused 13) → P (refused 14) → P (refused 15) → (Passed s total most room → P (accepted tt)) →
     Cases P ((not (isOpen s), refused 13) ∷ (ltb limit total, refused 14) ∷ (ltb room most, refused 15) ∷ []) (accepted tt)
@@ -44,11 +49,6 @@ pass-cases P s total most room a b c f = (
   λ _. a,
   λ x. (λ _. b, λ y. (λ _. c, λ z. f (is-open s (not-not (isOpen s) x), nltb→le limit total y, nltb→le room most z))),
 )
-  where
-    is-open : (s : Status) → T (isOpen s) → s ≡ Open
-    is-open Open t = refl
-    is-open Closed t = absurd t
-    is-open Stopped t = absurd t
 
 pub record Admitted (w : List ℕ) (s : Session) (n room : ℕ) : Type 0 where
   pub sound-words : T (sound w)

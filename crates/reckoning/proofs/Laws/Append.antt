@@ -23,7 +23,7 @@ use Rattle.automaton.proofs.Laws.Words.{sound-good, sound-longest}
 use Rattle.reckoning.specs.Machine.{Open, Stopped, Ended}
 use Rattle.reckoning.specs.Uses.{usesAfter}
 use Rattle.reckoning.specs.Session.{Session, consumed, store, isOpen, soundSession}
-use Rattle.reckoning.specs.Calls.{Answer, CallOutcome, admits, receivedBy, resumed, later, callBy, feed, finish}
+use Rattle.reckoning.specs.Calls.{Answer, CallOutcome, admits, receivedBy, later, callBy, feed, finish, ranOn, textOn, leftOn}
 use Rattle.reckoning.specs.Append.{wrote, Together, FeedsJoin, PartsAccepted, StopsJoin, FinishJoins}
 use Rattle.reckoning.proofs.Laws.Trace.{Trace, trace, logOf, heldOf, statusOf}
 use Rattle.reckoning.proofs.Laws.Rounds.{Joined, trace-graft, graft-open, Counted, bounded}
@@ -33,17 +33,6 @@ use Rattle.reckoning.proofs.Laws.Kept.{sound-facts, call-tells, kept-so
 use Rattle.reckoning.proofs.Laws.Demand3.{stopped-firm}
 use Rattle.reckoning.proofs.Laws.Admitting.{has-room, session-open}
 use Rattle.reckoning.proofs.Laws.Answers.{Admitted, Admits, admission}
-
--- what a call over more characters, ended or not, runs to, writes and leaves
-module _ (w : List ℕ) (s : Session) (p : List ℕ) (e : Bool) where
-  abbrev pub ranOn : Ended
-  ranOn = resumed (fromWords w) s p e
-
-  abbrev pub textOn : List ℕ
-  textOn = textOf (fromWords w .write) (ranOn .final .log)
-
-  abbrev pub leftOn : Session
-  leftOn = later s (length p) (length textOn) ranOn
 
 -- sound words, and a sound open session of eight places
 module _ (w : List ℕ) (W : T (sound w)) (s : Session) (sn : T (soundSession w s)) (o : s .status ≡ Open) (e8 : length (s .held) ≡ 8) where
@@ -89,7 +78,7 @@ module _ (w : List ℕ) (W : T (sound w)) (s : Session) (sn : T (soundSession w 
     pub left-store : store s₁ ≡ heldOf first
     left-store = (λ i. take (length (first-tells .store i)) (pad 8 (first-tells .store i))) ∙ take-pad 8 (heldOf first) held-few
 
-    counted : covered (logOf first) + length (heldOf first) ≡ s .count + length p
+    pub counted : covered (logOf first) + length (heldOf first) ≡ s .count + length p
     counted =
         let b : Counted (statusOf first) (length (store s ++ p)) (covered (logOf first)) (length (heldOf first)) = bounded A L n G false (store s ++ p) .counted in
         let z : statusOf first ≡ Open = sym (first-tells .status) ∙ open-after in
@@ -221,7 +210,7 @@ unfolding feed
 fed w s p buffer a z = did w s p false buffer a (admits w s (length p) (length buffer)) (admission w s (length p) (length buffer)) z
 
 -- a call that passes the tests is accepted
-admitted-accepts : (w : List ℕ) (s : Session) (n room : ℕ) → Admitted w s n room → admits w s n room ≡ accepted tt
+pub admitted-accepts : (w : List ℕ) (s : Session) (n room : ℕ) → Admitted w s n room → admits w s n room ≡ accepted tt
 admitted-accepts w s n room a =
     let W = of-T (sound w) (a .sound-words) in
     let S = of-T (soundSession w s) (a .sound-session) in

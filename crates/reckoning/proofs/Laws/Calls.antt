@@ -15,6 +15,7 @@ use Rattle.lists.proofs.Laws.Each.{each-append}
 use Rattle.lists.proofs.Laws.Parts.{length-pad, take-pad}
 use Rattle.meaning.specs.Refusal.{Outcome, refused, accepted}
 use Rattle.meaning.specs.Table.{Characters, Table, expansion, longest}
+use Rattle.meaning.specs.Value.{SafeTable}
 use Rattle.meaning.specs.Meaning.{textOf, covered}
 use Rattle.meaning.specs.Direct.{limit}
 use Rattle.meaning.proofs.Laws.Shape.{Shaped}
@@ -54,7 +55,7 @@ told B t m =
       uses = usesOf (logOf t);
     }
 
-fresh-told : (B : Automaton) → fresh ≡ told B (trace B false 0 []) 0
+pub fresh-told : (B : Automaton) → fresh ≡ told B (trace B false 0 []) 0
 unfolding fresh trace after statusOf heldOf logOf cost textOf covered pad
 fresh-told B = refl
 
@@ -84,13 +85,13 @@ module _ (B : Automaton) (L n : ℕ) (H : Good B L n) (small : L ≤ 8) (e : Boo
       let k = rests-open B (trace B false 0 u) (trace-rests B L n H 0 u) o in
       rw (take-pad 8 (heldOf (trace B false 0 u)) few) (run-tells B L n H small e (heldOf (trace B false 0 u)) p (stateOf B (trace B false 0 u)) (k .0))
 
-  text-later : textOf (B .write) (logOf before) ++ textOf (B .write) (ended-as .final .log) ≡ textOf (B .write) (logOf after-call)
+  pub text-later : textOf (B .write) (logOf before) ++ textOf (B .write) (ended-as .final .log) ≡ textOf (B .write) (logOf after-call)
   text-later =
       ap (λ l. textOf (B .write) (logOf before) ++ textOf (B .write) l) (tells .log)
       ∙ sym (text-append (B .write) (logOf before) (logOf rest))
       ∙ ap (textOf (B .write)) (sym (joined .log))
 
-  session-later : later session (length p) (length (textOf (B .write) (ended-as .final .log))) ended-as ≡ told B after-call (length (u ++ p))
+  pub session-later : later session (length p) (length (textOf (B .write) (ended-as .final .log))) ended-as ≡ told B after-call (length (u ++ p))
   session-later =
       let b : Counted (statusOf before) (length u) (covered (logOf before)) (length (heldOf before)) = bounded B L n H false u .counted in
       let k : covered (logOf before) + length (heldOf before) ≡ length u =
@@ -139,6 +140,7 @@ pub record Matched (t : Table) (w : List ℕ) : Type 0 where
   pub alike : Alike (fromTable t) (fromWords w)
   pub writes : Writes (fromTable t) (fromWords w) t
   pub expands : expansionWord w ≡ expansion t
+  pub safe : SafeTable t
 
 module _ (t : Table) (w : List ℕ) (K : Matched t w) where
   abbrev machine : Automaton

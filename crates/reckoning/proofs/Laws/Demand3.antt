@@ -30,7 +30,7 @@ use Rattle.reckoning.specs.Machine.{Status, Open, Closed, Stopped}
 use Rattle.reckoning.specs.Uses.{usesOf}
 use Rattle.reckoning.specs.Session.{Session, consumed}
 use Rattle.reckoning.specs.Calls.{Answer, receivedBy}
-use Rattle.reckoning.specs.Reckoning.{Call, piece, ends, Served, unserved, serve, acceptedPieces, Input, noInput, ran, ranText, reckoned, answerBy, inputBy, reckonCall, reckon}
+use Rattle.reckoning.specs.Reckoning.{Call, piece, ends, Served, unserved, serve, acceptedPieces, Input, noInput, ran, ranText, sessionBy, reckoned, answerBy, inputBy, reckonCall, reckon}
 use Rattle.reckoning.specs.Claims.{isStopped, Agrees, OutcomesAgree}
 use Rattle.reckoning.proofs.Laws.Trace.{trace, cost, logOf, heldOf, statusOf}
 use Rattle.reckoning.proofs.Laws.Rounds.{NotOpen, not-open, trace-covers, held-characters, trace-graft, graft-stopped, ended-empty, Counted, Bounded, bounded}
@@ -42,16 +42,16 @@ use Rattle.reckoning.proofs.Laws.Calls.{told, Matched, Standing, calls-
 pub stopped-firm : (A : Automaton) (u more : List ℕ) (e : Bool) → statusOf (trace A false 0 u) ≡ Stopped → trace A e 0 (u ++ more) ≡ trace A false 0 u
 stopped-firm A u more e s = trace-graft A e more 0 u (omega arith) ∙ graft-stopped (trace A false 0 u) (λ h. trace A e 0 (h ++ more)) (not-open _ (subst NotOpen (sym s) tt))
 
+pub is-stopped : (s : Status) → T (isStopped s) → s ≡ Stopped
+is-stopped Open t = absurd t
+is-stopped Closed t = absurd t
+is-stopped Stopped t = refl
+
 -- a trace that ended, or stopped, is the trace of the ended input
-over-trace : (A : Automaton) (u : List ℕ) (e : Bool) → T (e || isStopped (statusOf (trace A e 0 u))) → trace A e 0 u ≡ trace A true 0 u
+pub over-trace : (A : Automaton) (u : List ℕ) (e : Bool) → T (e || isStopped (statusOf (trace A e 0 u))) → trace A e 0 u ≡ trace A true 0 u
 over-trace A u true h = refl
 over-trace A u false h =
     sym (subst (λ v. trace A true 0 v ≡ trace A false 0 u) (append-nil u) (stopped-firm A u [] true (is-stopped (statusOf (trace A false 0 u)) h)))
-  where
-    is-stopped : (s : Status) → T (isStopped s) → s ≡ Stopped
-    is-stopped Open t = absurd t
-    is-stopped Closed t = absurd t
-    is-stopped Stopped t = refl
 
 -- closed and stopped, from the definition's flag
 Flag : Status → Bool
@@ -64,7 +64,7 @@ unfolding Flag
 flag-ending true = refl
 flag-ending false = refl
 
-closed-iff : (s : Status) (b : Bool) → s ≡ ending b → (s ≡ Closed) ↔ (b ≡ true)
+pub closed-iff : (s : Status) (b : Bool) → s ≡ ending b → (s ≡ Closed) ↔ (b ≡ true)
 unfolding Flag
 closed-iff s b p = (λ q. sym (flag-ending b) ∙ ap Flag (sym p ∙ q), λ q. p ∙ ap ending q)
 
@@ -106,35 +106,58 @@ module _ (t : Table) where
   input-pieces cs = let g = reckon-grown cs noInput in g .characters ∙ ap (acceptedPieces cs) (sym (g .answers))
 
 module _ (t : Table) (w : List ℕ) (K : Matched t w) where
-  text-is : (l : List Emission) → textOf (fromTable t .write) l ≡ textOf (λ n v. written (group t n) v) l
+  pub text-is : (l : List Emission) → textOf (fromTable t .write) l ≡ textOf (λ n v. written (group t n) v) l
   unfolding fromTable
   text-is l = refl
 
-  -- where the words number the states as the table's machine does, the session's state is reckoned too
-  agrees : SameNumbers (fromTable t) (fromWords w) (length (states t)) → (cs : List Call) (v : Served) (i : Input) →
-      i .characters ≡ acceptedPieces cs (i .answers) → Standing t w K v i → Agrees t cs v i (ran t (i .characters) (i .ended))
-  agrees N cs v i pieces S =
-      let u = i .characters in
-      let e = i .ended in
+  -- where the words number the states as the table's machine does, the session is the one reckoned
+  pub told-ran : SameNumbers (fromTable t) (fromWords w) (length (states t)) → (u : List ℕ) (e : Bool) → Characters u →
+      told (fromWords w) (trace (fromWords w) e 0 u) (length u) ≡ sessionBy t (ran t u e) (length u)
+  told-ran N u e c =
       let A = fromTable t in
       let M = fromWords w in
       let r = ran t u e in
       let x = trace A e 0 u in
       let y = trace M e 0 u in
       let tells = ran-tells t w K u e in
-      let p : x ≡ y = same-trace t w K u e (S .characters) in
-      let s : v .session ≡ told M x (length u) = S .session ∙ ap (λ z. told M z (length u)) (sym p) in
-      let steps-are : r .final .steps ≡ cost x = let a = tells .steps in omega arith in
-      let st : v .session .status ≡ statusOf x = ap (λ (z : Session). z .status) s in
-      let wrote : ranText t r ≡ textOf (M .write) (logOf y) = ran-text t w K u e (S .characters) in
-      let out : v .output ≡ ranText t r = S .output ∙ sym wrote in
-      let b : Bounded (longest t) u x = bounded A (longest t) (length (states t)) (K .good) e u in
-      let con : consumed (v .session) ≡ covered (logOf x) =
-      ap consumed s ∙ consumed-is (statusOf x) (length u) (covered (logOf x)) (length (heldOf x)) (b .counted) (λ n. ap length (ended-empty x n)) in
-      let over : T (e || isStopped (v .session .status)) → x ≡ trace A true 0 u = λ h. over-trace A u e (subst (λ z. T (e || isStopped z)) st h) in
+      let p : y ≡ x = sym (same-trace t w K u e c) in
       let after-is : after A 0 (heldOf x) ≡ after M 0 (heldOf x) =
       numbers-after A M (longest t) (length (states t)) (K .good) N 0 (heldOf x) (K .good .some-state)
-      (held-characters x u (trace-covers A (longest t) (length (states t)) (K .good) e 0 u (omega arith)) (S .characters)) in
+      (held-characters x u (trace-covers A (longest t) (length (states t)) (K .good) e 0 u (omega arith)) c) in
+      let st : statusOf y ≡ r .status = ap statusOf p ∙ sym (tells .status) in
+      let hd : heldOf y ≡ r .final .store = ap heldOf p ∙ sym (tells .store) in
+      let lg : logOf y ≡ r .final .log = ap logOf p ∙ sym (tells .log) in
+      let at : after M 0 (heldOf y) ≡ r .final .state = ap (λ z. after M 0 (heldOf z)) p ∙ sym after-is ∙ sym (tells .state) in
+      let sp : cost y ≡ r .final .steps = let a = ap cost p in let b = tells .steps in omega arith in
+      let wrote : textOf (M .write) (logOf y) ≡ ranText t r = sym (ran-text t w K u e c) in
+      λ i. record {
+        status = st i;
+        state = at i;
+        held = pad 8 (hd i);
+        count = length (hd i);
+        received = receivedBy (st i) (length u) (covered (lg i));
+        produced = length (wrote i);
+        steps = sp i;
+        uses = usesOf (lg i);
+      }
+
+  agrees : SameNumbers (fromTable t) (fromWords w) (length (states t)) → (cs : List Call) (v : Served) (i : Input) →
+      i .characters ≡ acceptedPieces cs (i .answers) → Standing t w K v i → Agrees t cs v i (ran t (i .characters) (i .ended))
+  agrees N cs v i pieces S =
+      let u = i .characters in
+      let e = i .ended in
+      let A = fromTable t in
+      let r = ran t u e in
+      let x = trace A e 0 u in
+      let tells = ran-tells t w K u e in
+      let s : v .session ≡ sessionBy t r (length u) = S .session ∙ told-ran N u e (S .characters) in
+      let st : v .session .status ≡ statusOf x = ap (λ (z : Session). z .status) s ∙ tells .status in
+      let out : v .output ≡ ranText t r = S .output ∙ sym (ran-text t w K u e (S .characters)) in
+      let b : Bounded (longest t) u x = bounded A (longest t) (length (states t)) (K .good) e u in
+      let con : consumed (v .session) ≡ covered (logOf x) =
+      ap consumed s ∙ (λ j. receivedBy (tells .status j) (length u) (covered (tells .log j)) - length (tells .store j))
+      ∙ consumed-is (statusOf x) (length u) (covered (logOf x)) (length (heldOf x)) (b .counted) (λ n. ap length (ended-empty x n)) in
+      let over : T (e || isStopped (v .session .status)) → x ≡ trace A true 0 u = λ h. over-trace A u e (subst (λ z. T (e || isStopped z)) st h) in
       let D = meaning-is t (K .shaped) u (S .characters) in
       let log-is : T (e || isStopped (v .session .status)) → logOf x ≡ convert t u .log = λ h. ap logOf (over h) ∙ D .0 in
       let end-is : T (e || isStopped (v .session .status)) → v .session .status ≡ ending (convert t u .closed) = λ h. st ∙ ap statusOf (over h) ∙ D .1 in
@@ -142,18 +165,17 @@ module _ (t : Table) (w : List ℕ) (K : Matched t w) where
         answers = S .answers;
         input = pieces ∙ ap (acceptedPieces cs) (sym (S .answers));
         output = out;
-        status = st ∙ sym (tells .status);
-        state = ap (λ (z : Session). z .state) s ∙ sym after-is ∙ sym (tells .state);
-        held = ap (λ (z : Session). z .held) s ∙ ap (pad 8) (sym (tells .store));
-        count = ap (λ (z : Session). z .count) s ∙ ap length (sym (tells .store));
-        steps = ap (λ (z : Session). z .steps) s ∙ sym steps-are;
-        produced = ap (λ (z : Session). z .produced) (S .session) ∙ ap length (sym wrote);
+        status = ap (λ (z : Session). z .status) s;
+        state = ap (λ (z : Session). z .state) s;
+        held = ap (λ (z : Session). z .held) s;
+        count = ap (λ (z : Session). z .count) s;
+        steps = ap (λ (z : Session). z .steps) s;
+        produced = ap (λ (z : Session). z .produced) s;
         consumes = con ∙ ap covered (sym (tells .log));
-        received =
-            ap (λ (z : Session). z .received) s ∙ (λ j. receivedBy (sym (tells .status) j) (length u) (covered (sym (tells .log) j)));
-        uses = ap (λ (z : Session). z .uses) s ∙ ap usesOf (sym (tells .log));
+        received = ap (λ (z : Session). z .received) s;
+        uses = ap (λ (z : Session). z .uses) s;
         waits = ran-waits t w K u e;
-        bound = rw s (b .whole);
+        bound = let k = b .whole in let j = tells .steps in rw s (omega arith);
         text = λ h. out ∙ ap (textOf (A .write)) (tells .log ∙ log-is h) ∙ text-is (convert t u .log);
         closed = λ h. closed-iff (v .session .status) (convert t u .closed) (end-is h);
         stopped = λ h c. (end-is h ∙ ap ending c, con ∙ ap covered (log-is h));
@@ -192,12 +214,13 @@ matched b t k rest =
       alike = numbers-alike (fromTable t) (fromWords (words t ++ rest)) (longest t) (length (states t)) good (words-numbers t rest (k .classes) (k .states));
       writes = words-write t rest s (k .keeps .values);
       expands = layout-expansion t rest;
+      safe = k .keeps .values;
     }
 
 pub compiled-matched : (t : Table) (w : List ℕ) → Compiled t w → Matched t w
 compiled-matched t w C = subst (Matched t) (sym (compiled-words t w C)) (matched (C .table) t (C .keeps) (drop wordCount (C .buffer)))
 
-compiled-numbers : (t : Table) (w : List ℕ) → Compiled t w → SameNumbers (fromTable t) (fromWords w) (length (states t))
+pub compiled-numbers : (t : Table) (w : List ℕ) → Compiled t w → SameNumbers (fromTable t) (fromWords w) (length (states t))
 compiled-numbers t w C =
     subst (λ z. SameNumbers (fromTable t) (fromWords z) (length (states t))) (sym (compiled-words t w C))
     (words-numbers t (drop wordCount (C .buffer)) (C .keeps .classes) (C .keeps .states))

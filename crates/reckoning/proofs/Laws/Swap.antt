@@ -9,11 +9,17 @@ use native.Mathlib.Omega.{arith}
 use lib.Dec.{T}
 use lib.ListN.{length, take}
 use lib.Seq.{take-append-seam}
-use Rattle.meaning.specs.Table.{Mode, Absent, Single, Paired, Table, Characters, present, isFirst, isSecond, defaultNumber, pairNumber}
-use Rattle.meaning.specs.Meaning.{textOf}
-use Rattle.automaton.specs.Automaton.{Automaton}
+use Rattle.lists.proofs.Laws.Each.{each-append}
+use Rattle.meaning.specs.Table.{Mode, Absent, Single, Paired, Table, Characters, present, isFirst, isSecond, ruleAt, group, defaultNumber, pairNumber}
+use Rattle.meaning.specs.Value.{SafeTable}
+use Rattle.meaning.specs.Meaning.{written, textOf}
+use Rattle.meaning.proofs.Laws.Shape.{Shaped}
+use Rattle.meaning.proofs.Laws.Groups.{group-rule, group-default, group-pair, written-pair, some-default}
+use Rattle.meaning.proofs.Laws.Exact.{written-characters}
+use Rattle.automaton.specs.Automaton.{Automaton, fromTable}
 use Rattle.automaton.proofs.Laws.Good.{after, Leads, Least, Done, Free, Reads, Alike, Bisimulation, Writes}
 use Rattle.automaton.proofs.Laws.Fitting.{accept-least, end-least}
+use Rattle.automaton.proofs.Laws.Write.{safe-rule, safe-default}
 use Rattle.automaton.proofs.Laws.Alike.{Reached, alike-bisimulation}
 use Rattle.reckoning.specs.Machine.{Fall, nowhere, taking, keeping, fallOne, fallTwo, fall}
 use Rattle.reckoning.specs.Session.{settled}
@@ -163,3 +169,31 @@ text-same A B t W closing m = refl
 text-same A B t W (stopping d) m = refl
 text-same A B t W (accepting r w o) m = ap₂ _++_ (W .of-rule r w (m .0)) (text-same A B t W o (m .1))
 text-same A B t W (defaulting d g w o) m = ap₂ _++_ (plain-same A B t W g w (m .0)) (text-same A B t W o (m .1))
+
+-- what a table whose values are characters writes for a default's emission is of characters
+plain-characters : (t : Table) → Shaped t → SafeTable t → (g : ℕ) (w : List ℕ) → Plain (fromTable t) g w → Characters (written (group t g) w)
+unfolding fromTable
+plain-characters t s safe g [] p = absurd p
+plain-characters t s safe g (x ∷ []) p =
+    let e = some-default (t .default) (t .mark) (p .1) in
+    subst (λ n. Characters (written (group t n) (x ∷ []))) (sym (p .0))
+    (subst (λ g. Characters (written g (x ∷ []))) (sym (group-default t (e .0) (e .1)))
+    (written-characters (e .0) (x ∷ []) (safe-default t (e .0) x s safe (e .1) (p .2))))
+plain-characters t s safe g (x ∷ (y ∷ [])) p =
+    subst (λ n. Characters (written (group t n) (x ∷ y ∷ []))) (sym (p .0))
+    (subst Characters (sym (ap (λ g. written g (x ∷ y ∷ [])) (group-pair t) ∙ written-pair x y)) (p .1, (p .2, tt)))
+plain-characters t s safe g (x ∷ (y ∷ (z ∷ w))) p = absurd p
+
+-- what a table whose values are characters writes for a trace is of characters
+pub text-characters : (t : Table) → Shaped t → SafeTable t → (o : Trace) → Emits (fromTable t) t o → Characters (textOf (fromTable t .write) (logOf o))
+unfolding textOf logOf fromTable
+text-characters t s safe (waiting h) m = tt
+text-characters t s safe closing m = tt
+text-characters t s safe (stopping d) m = tt
+text-characters t s safe (accepting r w o) m =
+    each-append (λ x. x < 65536) (written (group t r) w) (textOf (fromTable t .write) (logOf o))
+    (subst (λ g. Characters (written g w)) (sym (group-rule t r s (m .0 .rule))) (written-characters (ruleAt t r) w (safe-rule t w r s safe (m .0))))
+    (text-characters t s safe o (m .1))
+text-characters t s safe (defaulting d g w o) m =
+    each-append (λ x. x < 65536) (written (group t g) w) (textOf (fromTable t .write) (logOf o))
+    (plain-characters t s safe g w (m .0)) (text-characters t s safe o (m .1))

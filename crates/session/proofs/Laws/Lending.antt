@@ -16,7 +16,7 @@ use prog.Memory.{fieldOf}
 use prog.Wp.{Heap, Env, Calls, Loops, Spot, spotOf}
 use ghost.Atoms.{Atoms, sem}
 use contract.Monad.{fact, fact-mono, fact-use}
-use types.Kit.{Given, Item, Post, atRet, Seq, Step, step, runs, frees, prop, mean, ⋆, _⊛_, ‵, raw, some, later, _$_, move, drop, split, pick, await, use1, rewrite, fjoin, join, suffices, frame, done, qed, _∵_, ! }
+use types.Kit.{Given, Item, Post, atRet, Seq, Step, step, runs, lands, frees, prop, mean, ⋆, _⊛_, ‵, raw, some, later, _$_, move, drop, split, pick, await, use1, rewrite, fjoin, join, suffices, frame, done, qed, _∵_, ! }
 use types.Run.{Finds, Opd, Opds, Reads, Walks, look, look-raw, init, from, stop, hop, fld, load, of-opd, assigns, assigns-last, store-raw, first, branches, skips, exec, land, returns}
 use types.Part.{whole, sub, look-in}
 use types.SemTy as SemTy
@@ -34,19 +34,31 @@ use denote.Triple.Call.{calls-at}
 use denote.Triple.Walked.{says}
 use Rattle.lists.proofs.Laws.Tests.{of-T, of-not, of-cond}
 
-module _ {M : Type 1} (𝓤 : URA M) (D : Declared) (L : LL.Laws D) (κ : Lft) (q : Share) (γ : GName) (b o : ℕ) (h : D .D) (Γ : List (Item 𝓤)) where
-  -- the borrow, open at h and closed at h, before the rest of the context
-  abbrev pub Opened : List (Item 𝓤)
-  Opened =
-      ‵ (cellAt fullShare (row D .mir) (LL.vals D L h) b o) ∷ ‵ (row D .own h (LL.vals D L h)) ∷ ‵ (fobor κ q (SemTy.Body (mem (row D)) b o γ))
+module _ {M : Type 1} (𝓤 : URA M) (D : Declared) (L : LL.Laws D) (κ : Lft) (q : Share) (γ : GName) (b o : ℕ) (h : D .D) where
+  -- the borrow, open at h with another struct stored, open at h and closed at h, before the rest of the context
+  abbrev pub Written : D .D → List (Item 𝓤) → List (Item 𝓤)
+  Written new Γ =
+      ‵ (cellAt fullShare (row D .mir) (LL.vals D L new) b o) ∷ ‵ (row D .own h (LL.vals D L h)) ∷ ‵ (fobor κ q (SemTy.Body (mem (row D)) b o γ))
       ∷ ‵ (fobs γ (row D .coded .code h)) ∷ ‵ (fauth γ (row D .coded .code h)) ∷ Γ
 
-  abbrev pub Closed : List (Item 𝓤)
-  Closed = ‵ (fobs γ (row D .coded .code h)) ∷ ‵ (fbor κ (SemTy.Body (mem (row D)) b o γ)) ∷ ‵ (flft κ q) ∷ Γ
+  abbrev pub Opened : List (Item 𝓤) → List (Item 𝓤)
+  Opened = Written h
+
+  abbrev pub Closed : List (Item 𝓤) → List (Item 𝓤)
+  Closed Γ = ‵ (fobs γ (row D .coded .code h)) ∷ ‵ (fbor κ (SemTy.Body (mem (row D)) b o γ)) ∷ ‵ (flft κ q) ∷ Γ
 
 -- a shared borrow of a struct at h, with its token, before the rest of the context
 abbrev pub Shared : {M : Type 1} (𝓤 : URA M) (D : Declared) (κ : Lft) (q : Share) (b o : ℕ) (h : D .D) → List (Item 𝓤) → List (Item 𝓤)
 Shared 𝓤 D κ q b o h Γ = ‵ (fshr-bor κ (λ part. partAt (row D) part h b o)) ∷ ‵ (flft κ q) ∷ Γ
+
+-- the borrow is closed at the struct that was stored
+pub closes-written : {M : Type 1} {𝓤 : URA M} {H : Heap 𝓤} {A : Atoms 𝓤} {K : Type 0} {W : Given 𝓤 H A} {Γ : List (Item 𝓤)} → K
+    → (D : Declared) (L : LL.Laws D) → Plains (fields D) → {κ : Lft} {q : Share} {γ : GName} (b o : ℕ) (h new : D .D)
+    → {C : Calls 𝓤 H} {Λ : Loops 𝓤 H} {E : Env 𝓤 H} {Q : Post 𝓤 H} {rest : Body} → Is (row D) new (LL.vals D L new)
+    → Step K W (Closed 𝓤 D L κ q γ b o new Γ) (runs C Λ E rest Q) (Written 𝓤 D L κ q γ b o h new Γ) (runs C Λ E rest Q)
+closes-written {M} {𝓤} {H} {A} t D L plain b o h new is = step (λ k.
+    move t (1 ∷ []) $ drop t $ owned t (row D) (Is (row D)) (LL.makes D plain 𝓤 H A) new (LL.vals D L new) is $ move t (1 ∷ 0 ∷ []) $
+    closes t tt (row D) new (LL.vals D L new) b o $ k)
 
 -- the store, where the core says so: what is behind the borrow then is the new struct, and else the one found
 stores-accepted : {M : Type 1} {𝓤 : URA M} {H : Heap 𝓤} {A : Atoms 𝓤} {K : Type 0} {W : Given 𝓤 H A} {Γ : List (Item 𝓤)} → K
@@ -60,8 +72,7 @@ stores-accepted : {M : Type 1} {𝓤 : URA M} {H : Heap 𝓤} {A : Atoms 𝓤} {
 stores-accepted {M} {𝓤} {H} {A} {K} {W} {Γ} t D L plain {κ} {q} {γ} b o h new accepted {C} {Λ} {E} {Q} {test} {source} {target} {rest} is tests reads finds = step (λ k.
     first t $ branches t tests
     (λ y. assigns-last t (of-opd t reads) finds (store-raw t 0 refl (LL.lawful D L 𝓤 H A W .typed new _ is .0)) $ exec t C Λ E rest Q $
-    move t (1 ∷ []) $ drop t $ owned t (row D) (Is (row D)) (LL.makes D plain 𝓤 H A) new (LL.vals D L new) is $ move t (1 ∷ 0 ∷ []) $
-    closes t tt (row D) new (LL.vals D L new) b o $ leaves (of-T accepted y) k)
+    closes-written t D L plain b o h new is $ leaves (of-T accepted y) k)
     (λ z. skips t $ exec t C Λ E rest Q $ closes t tt (row D) h (LL.vals D L h) b o $ leaves (of-not accepted z) k))
   where
     leaves : {said : Bool} → accepted ≡ said → Seq K W (Closed 𝓤 D L κ q γ b o (choose accepted new h) Γ) (runs C Λ E rest Q)
@@ -119,7 +130,7 @@ module _ {M : Type 1} {𝓤 : URA M} (D : Declared) (L : LL.Laws D) {F : Declare
       ∷ ‵ (fat fullShare ν at-0 0 (R .value r)) ∷ Γ)
 
 -- two facts are one
-both-facts : {M : Type 1} (𝓤 : URA M) (φ ψ : Type 0) → ent 𝓤 (sep 𝓤 (fact 𝓤 φ) (fact 𝓤 ψ)) (fact 𝓤 (φ × ψ))
+pub both-facts : {M : Type 1} (𝓤 : URA M) (φ ψ : Type 0) → ent 𝓤 (sep 𝓤 (fact 𝓤 φ) (fact 𝓤 ψ)) (fact 𝓤 (φ × ψ))
 both-facts 𝓤 φ ψ =
     fact-use 𝓤 φ (fst∗ 𝓤 (fact 𝓤 φ) (fact 𝓤 ψ))
     (λ x. via 𝓤 (fact 𝓤 ψ) (snd∗ 𝓤 (fact 𝓤 φ) (fact 𝓤 ψ)) (fact-mono 𝓤 ψ (φ × ψ) (λ y. (x, y))))
@@ -131,10 +142,10 @@ says-both {𝓤 = 𝓤} t {φ} {ψ} {P} x y = step (λ s. suffices t _ (assoc∗
 
 module _ {M : Type 1} {𝓤 : URA M} {H : Heap 𝓤} {A : Atoms 𝓤} {K : Type 0} {W : Given 𝓤 H A} where
   -- a place within a local whose spot is known
-  from-at : {Γ : List (Item 𝓤)} {E : Env 𝓤 H} {i : ℕ} {st : List PStep} {sp sp′ : Spot 𝓤 H} → K → spotOf 𝓤 H E i ≡ sp → Walks K W Γ E sp st sp′ → Finds K W Γ E (place i st) sp′
+  pub from-at : {Γ : List (Item 𝓤)} {E : Env 𝓤 H} {i : ℕ} {st : List PStep} {sp sp′ : Spot 𝓤 H} → K → spotOf 𝓤 H E i ≡ sp → Walks K W Γ E sp st sp′ → Finds K W Γ E (place i st) sp′
   from-at {Γ} {E} {i} {st} {sp} {sp′} t e w = from t (subst (λ (x : Spot 𝓤 H). Walks K W Γ E x st sp′) (sym e) w)
 
-  returns-at : {Γ : List (Item 𝓤)} {C : Calls 𝓤 H} {Λ : Loops 𝓤 H} {E : Env 𝓤 H} {Kf : Val → SProp 𝓤} {ν : Ty} {l : ℕ} {v : Val} → K → spotOf 𝓤 H E 0 ≡ (ν, l, 0)
+  pub returns-at : {Γ : List (Item 𝓤)} {C : Calls 𝓤 H} {Λ : Loops 𝓤 H} {E : Env 𝓤 H} {Kf : Val → SProp 𝓤} {ν : Ty} {l : ℕ} {v : Val} → K → spotOf 𝓤 H E 0 ≡ (ν, l, 0)
       → Reads K W Γ ν l 0 v → Step K W Γ (frees E (prop (Kf v))) Γ (runs C Λ E return (atRet E Kf))
   returns-at {Γ} {v = v} t e reads = returns t (subst (λ (x : Spot 𝓤 H). Reads K W Γ (x .0) (x .1) zero v) (sym e) reads)
 
@@ -174,6 +185,17 @@ module _ {M : Type 1} {𝓤 : URA M} {H : Heap 𝓤} {A : Atoms 𝓤} {K : Type 
       assigns t (of-opd t (load t (from-at t e₁ (hop t (look t 4 refl) (stop t))) (look-raw t 0 refl))) (from-at t e₂ (stop t))
       (init t 5 refl (LL.lawful D L 𝓤 H A W .typed h _ g .0)) $ shuts t tt (row D) part h (LL.vals D L h) b o $ move t (1 ∷ 0 ∷ []) $ k g))
 
+  -- a core has come back: what it comes to is taken apart
+  pub comes-back : K → (toks : Item 𝓤) (F : Declared) {Z : Type 0} (last : Z → Fml) (ensured : F .D → Z → Item 𝓤) (Said : F .D → Z → Type 0)
+      → ((r : F .D) (z : Z) → ent 𝓤 (mean 𝓤 H A (ensured r z)) (fact 𝓤 (Said r z))) → (w : Val) {P : SProp 𝓤} → ent 𝓤 P (mean 𝓤 H A (Comes toks F last ensured w))
+      → {Γ : List (Item 𝓤)} {C : Calls 𝓤 H} {Λ : Loops 𝓤 H} {E : Env 𝓤 H} {Q : Post 𝓤 H} {rest : Body} {d : Place}
+      → ((r : F .D) (z : Z) → Said r z → Is (row F) r (w ∷ []) → Seq K W (toks ∷ ‵ (last z) ∷ Γ) (lands C Λ E d w rest Q)) → Seq K W (raw P ∷ Γ) (lands C Λ E d w rest Q)
+  comes-back t toks F last ensured Said hears w post k =
+      use1 W (Comes toks F last ensured w) post $
+      await t tt $ pick t (λ r. split t $ move t (1 ∷ []) $ pick t (λ z. split t $ move t (1 ∷ []) $
+      use1 W (raw (fact 𝓤 (Said r z))) (hears r z) $ heard t (Said r z) (λ e.
+      move t (1 ∷ []) $ split t $ move t (1 ∷ []) $ peeks t (row F) (Is (row F)) (shows 𝓤 H A (row F)) r (w ∷ []) (λ is. drop t $ k r z e is))))
+
   -- A core is called, and the code after it runs to the return.
   module _ (i : K) {C : Calls 𝓤 H} (fm : FmC 𝓤 H (W .laws) C) {name : Name} (core : Contract 𝓤) (known : Triple 𝓤 (C name) core) (g : core .Ghost)
       (D : Declared) (L : LL.Laws D) (plain : Plains (fields D)) {F : Declared} {G : LL.Laws F} {N : RattleType} {ν : Ty} (R : Returned D L F G N ν)
@@ -189,11 +211,7 @@ module _ {M : Type 1} {𝓤 : URA M} {H : Heap 𝓤} {A : Atoms 𝓤} {K : Type 
         → Seq K W (After D L R κ q γ b o σ at-s at-t at-c at-0 found Γ toks (last z) r (choose (R .accepted r) (R .struct r) h)) (frees E (prop (Kf (R .value r)))))
         → Seq K W (raw (core .pre g) ∷ Before D L R κ q γ b o σ at-s at-t at-c at-0 found Γ h) (runs C Λ E (Storing D name xs s c t) (atRet E Kf))
     calls-storing ensured Said hears post args k =
-        calls-at i fm core known g args (λ w.
-        use1 W (Comes toks F last ensured w) (post w) $
-        await i tt $ pick i (λ r. split i $ move i (1 ∷ []) $ pick i (λ z. split i $ move i (1 ∷ []) $
-        use1 W (raw (fact 𝓤 (Said r z))) (hears r z) $ heard i (Said r z) (λ e.
-        move i (1 ∷ []) $ split i $ move i (1 ∷ []) $ peeks i (row F) (Is (row F)) (shows 𝓤 H A (row F)) r (w ∷ []) (λ is. drop i $
+        calls-at i fm core known g args (λ w. comes-back i toks F last ensured Said hears w (post w) (λ r z e is.
         -- [the tokens; the last values; the open borrow's five; the locals s at 7, found, t at 9, c at 10, 0 at 11]
         move i (2 ∷ 3 ∷ 4 ∷ 5 ∷ 6 ∷ []) $ land i (from-at i e₂ (stop i)) (init i 10 refl (LL.lawful F G 𝓤 H A W .typed r _ is .0)) $
         rewrite i 10 (λ (u : Val). ‵ (fat fullShare (layout (shape F)) at-c 0 u)) (ap only (LL.tells F G r _ is) ∙ R .values r) refl $
@@ -202,7 +220,7 @@ module _ {M : Type 1} {𝓤 : URA M} {H : Heap 𝓤} {A : Atoms 𝓤} {K : Type 
         (load i (from-at i e₂ (fld i (R .struct-at) (stop i))) (look-in i 10 (sub i 2 (R .struct-at) (whole i)))) (from-at i e₁ (hop i (look i 7 refl) (stop i))) $
         assigns i (of-opd i (load i (from-at i e₂ (fld i (R .answer-at) (stop i))) (look-in i 8 (sub i 0 (R .answer-at) (whole i))))) (from-at i e₄ (stop i))
         (init i 9 refl (R .answer-typed 𝓤 H A W r _ is)) $
-        returns-at i e₄ (look i 9 refl) $ k r z e (R .answer-is r _ is))))))
+        returns-at i e₄ (look i 9 refl) $ k r z e (R .answer-is r _ is)))
 
     -- the same of a core whose first clause says that its struct is the one found where it says no: what is behind the borrow then is the core's struct
     pub calls-core : (Said : F .D → Z → Type 0) (Kept : F .D → Type 0) → ((r : F .D) → Kept r → R .accepted r ≡ false → R .struct r ≡ h)

@@ -1,0 +1,3 @@
+pub mod Contracts
+pub mod Caller
+pub mod bridge
