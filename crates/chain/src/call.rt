@@ -13,7 +13,7 @@ use session::call::resume;
 use session::kept::{Kept, Session, Status};
 
 // "Each call answers the second's output count and both statuses", or a refusal's number.
-#[derive(Drop)]
+#[derive(Clone, Copy)]
 pub enum Answer {
     Accepted {
         count: usize,
@@ -24,7 +24,7 @@ pub enum Answer {
 }
 
 // What a call that is lent the counts of uses comes to: its answer, whether it was accepted, and what it keeps of both machines.
-#[derive(Drop)]
+#[derive(Clone, Copy)]
 pub struct Went {
     pub answer: Answer,
     pub accepted: bool,
@@ -33,7 +33,7 @@ pub struct Went {
 }
 
 // What a call by value comes to: its answer, whether it was accepted, and both sessions as it leaves them.
-#[derive(Drop)]
+#[derive(Clone, Copy)]
 pub struct Called {
     pub answer: Answer,
     pub accepted: bool,

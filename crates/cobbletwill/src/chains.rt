@@ -14,7 +14,7 @@ use chain::call::{Answer, Went, feed_kept, finish_kept};
 use words::sound_words::is_sound;
 
 // What a call by value comes to: its answer as a number, whether it was accepted, and both sessions as it leaves them.
-#[derive(Drop)]
+#[derive(Clone, Copy)]
 pub struct ChainNumbers {
     pub answer: u32,
     pub accepted: bool,

@@ -1,5 +1,7 @@
 // The C face: each answer as a number; the place, the number of characters written, the status of a chain's first machine, a length and an input that shows a
 // rule through pointers. include/cobbletwill.h declares these functions.
+#![tactic(auto)]
+
 pub mod chains;
 pub mod sessions;
 

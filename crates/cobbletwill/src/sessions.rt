@@ -16,7 +16,7 @@ use words::sound_words::is_sound;
 
 // A session of plain numbers, so that no value of any field is undefined, without its counts of uses: 48 bytes without gaps. All 0 is fresh.
 #[repr(C)]
-#[derive(Drop)]
+#[derive(Clone, Copy)]
 pub struct SessionNumbers {
     pub received: u64,
     pub tally: Tally,
@@ -28,7 +28,7 @@ pub struct SessionNumbers {
 }
 
 // What a call by value comes to: its answer as a number, whether it was accepted, and the session as it leaves it.
-#[derive(Drop)]
+#[derive(Clone, Copy)]
 pub struct CalledNumbers {
     pub answer: u32,
     pub accepted: bool,

@@ -1,5 +1,7 @@
 // The program `convert`: compiles the table `rules.tab` of the current folder, feeds standard input to the machine, one character a byte,
 // and prints each output character as four hexadecimal digits on a line, then how the conversion ended.
+#![tactic(auto)]
+
 use program::run::run;
 use program::table::read_table;
 

@@ -1,4 +1,6 @@
 // Expressions typed at the station, and the symbols that they are made of.
+#![tactic(auto)]
+
 pub mod number;
 pub mod part;
 pub mod reader;

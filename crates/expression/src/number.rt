@@ -2,7 +2,7 @@
 ghost use Rattle.std.specs.Prelude.{◌≡◌, ◌≤◌, length};
 ghost use Rattle.expression.specs.bridge.Answers.{Counts};
 
-#[derive(Drop)]
+#[derive(Clone, Copy)]
 pub struct Number {
     pub refused: bool,
     pub next: usize,

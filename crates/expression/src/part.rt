@@ -5,7 +5,7 @@ ghost use Rattle.expression.specs.Parts.{flat as flatOf, broken as brokenPart, c
 ghost use Rattle.expression.specs.bridge.Forms.{Small};
 
 // A part brought to its constant (the first number) and its coefficients by position. Not fine: refusal 17 was met.
-#[derive(Drop)]
+#[derive(Clone, Copy)]
 pub struct Part {
     pub fine: bool,
     pub numbers: [i64; 9],

@@ -14,7 +14,7 @@ use crate::symbol::{code_at, sign, skip, star};
 const NESTING: usize = 16;
 
 // What a reader answers: the part read and the place behind it, or refused (refusal 16).
-#[derive(Drop)]
+#[derive(Clone, Copy)]
 pub struct Reading {
     pub refused: bool,
     pub next: usize,

@@ -5,7 +5,7 @@ ghost use Rattle.expression.specs.bridge.Text.{is_sign, is_star, first};
 ghost use Rattle.expression.specs.bridge.Answers.{Skipped, Operates};
 
 // An operator's character, 0 for none, and the place behind it.
-#[derive(Drop)]
+#[derive(Clone, Copy)]
 pub struct Operator {
     pub code: u16,
     pub next: usize,

@@ -19,7 +19,7 @@ use words::layout::{
     BLOCKS_FROM, CLASS_COUNT, DEFAULTED, EXPANSION, LONGEST, RULE_COUNT, STATE_COUNT, WORDS,
 };
 
-#[derive(Drop)]
+#[derive(Clone, Copy)]
 pub enum Compiled {
     Accepted,
     Refused(u8),

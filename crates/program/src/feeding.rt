@@ -14,7 +14,7 @@ use session::call::{Answer, Called, feed_by_value, finish_by_value};
 use session::kept::{Session, Status, fresh};
 
 // The session after a call, whether it waits for more, and how many bytes there are to print.
-#[derive(Drop)]
+#[derive(Clone, Copy)]
 struct Turn {
     session: Session,
     going: bool,
@@ -23,7 +23,7 @@ struct Turn {
 
 // What a piece came to: the session after it, whether that waits for more, whether the read or the write failed, and how many bytes
 // were read and handed to a write.
-#[derive(Drop)]
+#[derive(Clone, Copy)]
 struct Piece {
     session: Session,
     going: bool,
@@ -34,7 +34,7 @@ struct Piece {
 
 // How the conversion ended: the last session, whether it still waits for more, whether a read or a write failed, and how many bytes
 // were read and handed to writes in all.
-#[derive(Drop)]
+#[derive(Clone, Copy)]
 pub struct Ending {
     pub session: Session,
     pub going: bool,

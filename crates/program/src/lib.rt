@@ -1,5 +1,7 @@
 // What the program `convert` does: reads the table's file, compiles it, feeds standard input to the machine and prints what each call came to. The
 // program itself is the crate `convert`.
+#![tactic(auto)]
+
 pub mod feeding;
 pub mod print;
 pub mod report;

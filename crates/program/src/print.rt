@@ -4,7 +4,7 @@ ghost use Rattle.std.specs.Prelude.{◌≡◌, length};
 use libc::STDOUT_FILENO;
 
 // How many bytes were handed to a write, and whether it failed.
-#[derive(Drop)]
+#[derive(Clone, Copy)]
 pub struct Handed {
     pub size: usize,
     pub failed: bool,

@@ -17,7 +17,7 @@ use crate::pattern::Choice;
 use crate::plain::{choose_marked, mark_plain};
 
 // The place where a conversion ended and the characters written, or the refusal.
-#[derive(Drop)]
+#[derive(Clone, Copy)]
 pub enum Conversion {
     Closed { place: usize, count: usize },
     Stopped { place: usize, count: usize },
@@ -25,7 +25,7 @@ pub enum Conversion {
 }
 
 // The table check's answer.
-#[derive(Drop)]
+#[derive(Clone, Copy)]
 pub enum Verdict {
     Accepted,
     Refused(u8),

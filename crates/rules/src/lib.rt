@@ -1,4 +1,6 @@
 // Tables of rules: the table check and direct conversion.
+#![tactic(auto)]
+
 pub mod convert;
 pub mod layout;
 pub mod load;

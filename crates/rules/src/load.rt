@@ -12,7 +12,7 @@ use crate::reader::{Reader, Step, has_gap, start, take_record};
 use crate::record::record_at;
 use crate::safe::all_safe;
 
-#[derive(Drop)]
+#[derive(Clone, Copy)]
 pub enum Load {
     Accepted { rules: usize, mode: Mode },
     Refused(u8),

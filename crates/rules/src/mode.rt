@@ -5,7 +5,7 @@ ghost use Rattle.meaning.specs.Record.{mark_of};
 ghost use Rattle.rules.specs.bridge.Modes.{the_mode, marked_mode};
 
 // Where no rule fits: nothing is chosen; the default takes one unit; under the mark it takes a pair where one comes next, else one unit.
-#[derive(Drop)]
+#[derive(Clone, Copy)]
 pub enum Mode {
     Absent,
     Single,

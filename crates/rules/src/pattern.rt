@@ -14,7 +14,7 @@ use crate::layout::{BLOCK, DEFAULT_GROUP, PAIR_GROUP, RANGES_FROM, SLOTS_FROM};
 use crate::mode::{Mode, is_pair};
 
 // The number of the group chosen, or nothing where no rule fits and there is no default.
-#[derive(Drop)]
+#[derive(Clone, Copy)]
 pub enum Choice {
     Group(usize),
     Nothing,

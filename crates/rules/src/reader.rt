@@ -15,7 +15,7 @@ use crate::record::Record;
 
 // What is kept of the group read last: its length, the positions that have a range, the last position's ranges and the highest character of the
 // last of them, the output characters, and the positions that the terms of the last one have named, position p by bit p.
-#[derive(Drop)]
+#[derive(Clone, Copy)]
 pub struct Last {
     pub size: usize,
     pub positions: usize,
@@ -26,7 +26,7 @@ pub struct Last {
 }
 
 // A summary of the table read so far: its last record's kind (0 for none), its rules, its default's mode, and its last group.
-#[derive(Drop)]
+#[derive(Clone, Copy)]
 pub struct Reader {
     pub kind: u8,
     pub rules: usize,
@@ -34,7 +34,7 @@ pub struct Reader {
     pub last: Last,
 }
 
-#[derive(Drop)]
+#[derive(Clone, Copy)]
 pub enum Step {
     Next(Reader),
     Refused(u8),

@@ -3,7 +3,7 @@ ghost use Rattle.std.specs.Prelude.{◌≡◌, ◌+◌, ◌*◌, ◌≤◌, [], 
 ghost use Rattle.meaning.specs.Record.{zeros, decode};
 ghost use Rattle.rules.specs.bridge.Readings.{record_of};
 
-#[derive(Drop)]
+#[derive(Clone, Copy)]
 pub enum Record {
     Rule {
         size: u8,

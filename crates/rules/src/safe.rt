@@ -13,7 +13,7 @@ use crate::layout::{BLOCK, ENTRY, HIGHS_FROM, RANGES_FROM, SLOTS_FROM};
 use crate::mode::{Mode, is_present};
 
 // A number that may be negative: `plus` less `minus`.
-#[derive(Drop)]
+#[derive(Clone, Copy)]
 pub struct Difference {
     pub plus: u64,
     pub minus: u64,

@@ -18,14 +18,14 @@ use words::read::expansion;
 use words::sound_words::is_sound;
 
 // "Feed and finish write output from the buffer's start and answer its count and the status", or a refusal's number.
-#[derive(Drop)]
+#[derive(Clone, Copy)]
 pub enum Answer {
     Accepted { count: usize, status: Status },
     Refused(u8),
 }
 
 // What a call that is lent the counts of uses comes to: its answer, whether it was accepted, and what it keeps of the machine.
-#[derive(Drop)]
+#[derive(Clone, Copy)]
 pub struct Went {
     pub answer: Answer,
     pub accepted: bool,
@@ -33,7 +33,7 @@ pub struct Went {
 }
 
 // What a call by value comes to, and a preview: its answer, whether it was accepted, and the session as it leaves it.
-#[derive(Drop)]
+#[derive(Clone, Copy)]
 pub struct Called {
     pub answer: Answer,
     pub accepted: bool,

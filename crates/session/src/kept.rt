@@ -17,7 +17,7 @@ use rules::mode::{Mode, is_first};
 use words::numbers::StateNo;
 use words::read::{Next, class_of, default_mode, expansion, longest, settled, target};
 
-#[derive(Drop)]
+#[derive(Clone, Copy)]
 pub enum Status {
     Open,
     Closed,
@@ -25,7 +25,7 @@ pub enum Status {
 }
 
 // What a session keeps of the machine. "held characters (the store, others 0)": eight places, and how many of them are in use.
-#[derive(Drop)]
+#[derive(Clone, Copy)]
 pub struct Kept {
     pub status: Status,
     pub state: StateNo,
@@ -37,14 +37,14 @@ pub struct Kept {
 
 // "The session gains 33 counts, one a rule and one for the default": how often each was used, a rule by its number, the default as 32; and
 // "pairs have a count of their own", at 33. They stand apart, so that a run is lent them and changes them in place.
-#[derive(Drop)]
+#[derive(Clone, Copy)]
 pub struct Session {
     pub kept: Kept,
     pub uses: [u64; 34],
 }
 
 // Where characters lead from state 0 by targets, "neither through nor to a state whose go equals its end".
-#[derive(Drop)]
+#[derive(Clone, Copy)]
 pub enum Path {
     To(StateNo),
     Nowhere,

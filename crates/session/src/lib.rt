@@ -1,4 +1,6 @@
 // Sessions over machine words: what is kept between calls, the rollback machine's run, and feed, finish and preview.
+#![tactic(auto)]
+
 pub mod call;
 pub mod kept;
 pub mod run;

@@ -24,7 +24,7 @@ use words::read::{
 };
 
 // A run: the store is the text from `from` on and below `at`; whether it is done, and how.
-#[derive(Drop)]
+#[derive(Clone, Copy)]
 pub struct Ran {
     pub done: bool,
     pub status: Status,
@@ -179,7 +179,7 @@ fn class_between(words: &[u16], classes: &[u16], c: u16) -> ClassNo
 }
 
 // How far the machine read on, and whether it is stuck there before a character that has no target.
-#[derive(Drop)]
+#[derive(Clone, Copy)]
 pub struct Ahead {
     pub state: StateNo,
     pub at: usize,
@@ -480,7 +480,7 @@ fn leaving(run: Ran) -> Ran
 }
 
 // What a roll-back leads to: nothing is taken, one unit is, a pair is, or a first unit waits.
-#[derive(Drop)]
+#[derive(Clone, Copy)]
 pub enum Fall {
     Nowhere,
     One,

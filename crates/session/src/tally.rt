@@ -6,7 +6,7 @@ use crate::run::Ran;
 
 // "produced, steps": characters written and steps made. C has it within a session, in this order.
 #[repr(C)]
-#[derive(Drop)]
+#[derive(Clone, Copy)]
 pub struct Tally {
     pub produced: u64,
     pub steps: u64,

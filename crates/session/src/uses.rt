@@ -39,7 +39,7 @@ fn others_unused(uses: &[u64; 34], rules: usize) -> bool
 }
 
 // What is left of a number of characters without those that were taken, if they were as many.
-#[derive(Drop)]
+#[derive(Clone, Copy)]
 pub enum Rest {
     Left(u64),
     TooMany,

@@ -1,2 +1,4 @@
 // A station's way to use the engine: a table and an input in two pieces, with what the promises say of it.
+#![tactic(auto)]
+
 pub mod two;

@@ -12,7 +12,7 @@ use session::call::{Answer, Called, feed_by_value, finish_by_value};
 use session::kept::{Session, fresh};
 
 // How far a conversion has come: the refusal that ended it, if any, the session, and how many characters of the output are written.
-#[derive(Drop)]
+#[derive(Clone, Copy)]
 pub struct Progress {
     pub verdict: Verdict,
     pub session: Session,

@@ -12,7 +12,7 @@ use expression::symbol::code_at;
 use rules::reader::Step;
 
 // A character of a pattern and the place behind it, or refused.
-#[derive(Drop)]
+#[derive(Clone, Copy)]
 pub struct Found {
     pub refused: bool,
     pub next: usize,
@@ -20,7 +20,7 @@ pub struct Found {
 }
 
 // A single character or a range in brackets.
-#[derive(Drop)]
+#[derive(Clone, Copy)]
 pub struct Between {
     pub refused: bool,
     pub next: usize,
@@ -29,14 +29,14 @@ pub struct Between {
 }
 
 // A pattern's items, read and counted; the place behind them, or refused.
-#[derive(Drop)]
+#[derive(Clone, Copy)]
 pub struct Counted {
     pub items: u8,
     pub streamed: Streamed,
 }
 
 // The end of a pattern: whether it is anchored, and the place behind it, or refused.
-#[derive(Drop)]
+#[derive(Clone, Copy)]
 pub struct PatternEnd {
     pub refused: bool,
     pub next: usize,

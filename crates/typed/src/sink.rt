@@ -7,7 +7,7 @@ use rules::load::load_records;
 use rules::reader::Step;
 
 // What is kept by value: whether refusal 17 met nothing so far, the table check's summary or refusal, and the bytes of the records that it took.
-#[derive(Drop)]
+#[derive(Clone, Copy)]
 pub struct Sink {
     pub fine: bool,
     pub step: Step,
@@ -15,7 +15,7 @@ pub struct Sink {
 }
 
 // What the readers answer that feed records: the place behind what was read and the sink, or refused (refusal 16).
-#[derive(Drop)]
+#[derive(Clone, Copy)]
 pub struct Streamed {
     pub refused: bool,
     pub next: usize,

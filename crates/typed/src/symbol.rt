@@ -9,7 +9,7 @@ ghost use Rattle.typed.specs.bridge.Answers.{Marks, mark_of};
 use expression::symbol::{Operator, code_at, skip};
 
 // The place behind what was read, or refused.
-#[derive(Drop)]
+#[derive(Clone, Copy)]
 pub struct Mark {
     pub refused: bool,
     pub next: usize,

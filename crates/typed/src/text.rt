@@ -13,7 +13,7 @@ use rules::load::{Load, finish_load};
 use rules::reader::{Step, start};
 
 // The length in bytes of the records, or the refusal.
-#[derive(Drop)]
+#[derive(Clone, Copy)]
 pub enum Typed {
     Accepted(usize),
     Refused(u8),

@@ -13,7 +13,7 @@ use words::numbers::StateNo;
 use words::read::{accept_at_end_word, state_count};
 
 // What the check says of a rule number, or the refusal of the table.
-#[derive(Drop)]
+#[derive(Clone, Copy)]
 pub enum Judgement {
     Live,
     Dead,
@@ -21,14 +21,14 @@ pub enum Judgement {
 }
 
 // An input of up to nine characters; places that are not in use are 0.
-#[derive(Drop)]
+#[derive(Clone, Copy)]
 pub struct Input {
     pub length: u16,
     pub characters: [u16; 9],
 }
 
 // The answer: the judgement, and for a live rule an input on which it is the first choice, else none.
-#[derive(Drop)]
+#[derive(Clone, Copy)]
 pub struct Judged {
     pub judgement: Judgement,
     pub input: Input,

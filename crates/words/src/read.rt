@@ -16,14 +16,14 @@ use rules::layout::BLOCK;
 use rules::mode::Mode;
 
 // The rule that a state accepts, or nothing.
-#[derive(Drop)]
+#[derive(Clone, Copy)]
 pub enum Accept {
     Rule(RuleNo),
     Nothing,
 }
 
 // The state that a class leads to from a state, if it leads to one.
-#[derive(Drop)]
+#[derive(Clone, Copy)]
 pub enum Next {
     To(StateNo),
     Nowhere,

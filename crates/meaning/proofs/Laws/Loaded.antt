@@ -101,10 +101,10 @@ sized_stores sized (c ∷ cs) = sized_stores (sized_block sized c.0 c.1) cs
 
 pub stores_high : {b s r h : List ℕ} → Sized b s r h → (k : ℕ) (cs : List (ℕ × ℕ)) →
     stores (joined_words b s r h) (shift (highs_from + k) cs) ≡ joined_words b s r (stores h (shift k cs))
-stores_high sized k [] = refl
-stores_high sized k (c ∷ cs) =
+stores_high {b = b} {s = s} {r = r} {h = h} sized k [] = refl
+stores_high {b = b} {s = s} {r = r} {h = h} sized k (c ∷ cs) =
     ap (λ l. stores l (shift (highs_from + k) cs)) (set_high sized (highs_from + k + c.0) (k + c.0) c.1 (omega arith))
-    ∙ stores_high (sized_high sized (k + c.0) c.1) k cs
+    ∙ stores_high {b = b} {s = s} {r = r} {h = set {A = ℕ} h (k + c.0) c.1} (sized_high sized (k + c.0) c.1) k cs
 
 pub joined_same : {b b' s s' r r' h h' : List ℕ} → b ≡ b' → s ≡ s' → r ≡ r' → h ≡ h' → joined_words b s r h ≡ joined_words b' s' r' h'
 joined_same p q u v = λ i. joined_words (p i) (q i) (u i) (v i)
