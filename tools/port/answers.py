@@ -46,6 +46,8 @@ class Function:
         self.places_used, self.negated = set(), False
         # where a path goes up more places than there are now, by how many
         self.skew, self.skews = 0, []
+        # the place that each helper takes first
+        self.firsts = {}
 
     def left(self, what):
         self.said.append(f"left: {self.path}: {what}")
@@ -95,7 +97,7 @@ class Function:
         if not rest:
             at = self.whole(at)
             self.places_used.add(at.new)
-            if at is place and not top:
+            if at is place:
                 return root, ("place", at)
             return f"(goal.at.{top or place.new} {root}).{at.new}", ("place", at)
         field = rest.pop(0)
@@ -138,6 +140,19 @@ class Function:
 
     def fields(self, base, kind, rest):
         rest = list(rest)
+        if kind[0] == "step" and len(rest) > 1 and rest[0] in ("new", "last", "auto", "kept") and rest[1].isdigit():
+            params = self.names["params"].get(kind[1].callee or "", [])
+            base += "." + {"last": "new", "kept": "auto"}.get(rest[0], rest[0])
+            rest.pop(0)
+            i = 0
+            while rest and rest[0] == "1" and i < len(params) - 1:
+                rest.pop(0)
+                i += 1
+            if rest and rest[0] == "0":
+                rest.pop(0)
+            if i < len(params):
+                return self.fields(base + "." + params[i], ("plain",), rest)
+            self.left(f"buffer {i} of {params} at {base}")
         if kind[0] == "step" and rest and rest[0] == "ensures":
             clause = self.names["clauses"][kind[1].i]
             base += ".ensures"
@@ -290,13 +305,28 @@ class Body:
                         continue
             m = PATH.match(text, i)
             if m and (i == 0 or re.match(r"[\s(){}\[\],;|]", text[i - 1])):
-                new, _ = self.path(m[0])
+                new, kind = self.path(m[0])
+                before = re.search(rf"({NAME}) +$", text[:i])
+                wanted = before and self.fn.firsts.get(before[1])
+                if wanted is not None and kind is not None and kind[0] == "place":
+                    new = self.at(m[0], wanted)
                 out.append(new)
                 i = m.end()
                 continue
             out.append(text[i])
             i += 1
         return "".join(out)
+
+    def at(self, path, wanted):
+        """The record of the place that a helper wants, from the root that the path begins with."""
+        root, *rest = path.split(".")
+        while self.env[root][0] == "alias":
+            root = self.env[root][4].split(".")[0]
+        _, place, top = self.env[root]
+        self.fn.places_used.add(wanted.new)
+        if wanted is place:
+            return root
+        return f"(goal.at.{top or place.new} {root}).{wanted.new}"
 
     def top_of(self, root):
         e = self.env.get(root)
@@ -476,6 +506,11 @@ def convert(fn):
                 k += len(others.split())
             else:
                 k += 1
+        first = next(iter(order), None)
+        if first and (first[1] or first[2]):
+            typ = fn.by_old.get(plain(first[1] or first[2]))
+            if typ is not None:
+                fn.firsts[name] = fn.whole(typ)
         # signature: the bound places' paths
         bound_env = {b: ("place", fn.whole(fn.by_old[plain(t)]), False) for b, t, *_ in order if b and plain(t) in fn.by_old}
         simple = re.fullmatch(rf"({NAME})((?:\.before)*)", rest.strip())
