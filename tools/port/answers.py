@@ -176,6 +176,8 @@ class Function:
                 return base, kind if len(fields) == len(kind[1]) else ("clauses", fields)
         if kind[0] == "step" and rest in (["left"], ["taken"]) and kind[1].old.startswith(("Then", "Else")):
             rest = ["false" if rest == ["left"] else "true"]
+        if kind[0] == "step" and rest and rest[0] == "inv" and kind[1].old.startswith("At-"):
+            rest[0] = "invariant"
         if rest == ["branch"]:
             rest = ["branch-raw"]
         out = [re.sub(r"-(?!(?:is|bits|fits|end)$)", "_", s) if not s.startswith("in-") and s not in ("branch-raw",) else s for s in rest]
@@ -393,9 +395,11 @@ def convert(fn):
     wanted, queue = set(), list(inv_names)
     while queue:
         n = queue.pop()
+        own = re.match(rf"{re.escape(n)}((?:\s+(?!=\s){NAME})*)\s*=\s", bodies[n].split("\n", bodies[n].count("\n") and 1)[-1])
+        bound = set(own[1].split()) if own else set()
         for w in re.findall(NAME, bodies[n]):
             w = w.split(".")[0]
-            if w in defined and w not in wanted and w not in inv_names:
+            if w in defined and w not in wanted and w not in inv_names and w not in bound and "tie." not in bodies[w].split("\n")[0]:
                 wanted.add(w)
                 queue.append(w)
 
