@@ -1,6 +1,5 @@
 -- `compile::longest_of` meets its contract: after each group the greatest length so far is that of the groups passed.
 -- The measure is what is left of the groups.
-use mathlib.Core.Logic.{⊎_elim}
 use mathlib.Core.Path.{◌≡◌, refl, ap, ◌∙◌}
 use Prim.Native.Nat.{◌*◌, ◌≤◌, ◌<◌}
 use native.Mathlib.Numerals.{add-one}

@@ -1,7 +1,6 @@
 -- `sets::longer_rules` meets its contract. The invariant: what is built, with bits that fit what is left of the set, is the set filtered.
 -- The measure is what is left, which each turn halves. Assumes nothing.
 use mathlib.Core.Bool.{Bool}
-use mathlib.Core.Logic.{⊎_elim}
 use mathlib.Core.Path.{◌≡◌, sym, subst, ◌∙◌}
 use Prim.Native.Nat.{ℕ, ◌^◌, ◌≤◌, ◌<◌}
 use native.Mathlib.Omega.{arith}

@@ -1,7 +1,6 @@
 -- `sets::lowest_ending` meets its contract. The invariant: the first rule that ends there is the first of what is left of the set.
 -- The measure is what is left, which each turn halves. Assumes nothing.
-use mathlib.Core.Bool.{Bool, false}
-use mathlib.Core.Logic.{⊎_elim, ◌⊎◌}
+use mathlib.Core.Bool.{Bool}
 use mathlib.Core.Path.{◌≡◌, sym, subst, ◌∙◌}
 use Prim.Native.Nat.{ℕ, ◌<◌}
 use native.Mathlib.Omega.{arith}

@@ -2,7 +2,6 @@
 -- The measure is what is left of them. Assumes nothing.
 use Rattle.std.proofs.Common.{◌≡◌, ◌+◌, ◌||◌, sym, ◌∙◌, arith}
 use Rattle.meaning.specs.Table.{in_ranges}
-use Rattle.meaning.specs.Block.{at}
 use Rattle.meaning.specs.bridge.Flat.{ranges_at}
 use Rattle.meaning.proofs.Laws.Choosing.{in_from, in_from_start, in_from_next, in_from_end, one_range}
 use Rattle.rules.proofs.pattern.in_ranges.Goals as goal

@@ -1,6 +1,6 @@
 -- `all_safe` meets its contract: the loop keeps that each rule before has passed, and the default is tested last.
 -- The measure is the number of the rules left.
-use Rattle.std.proofs.Common.{◌≡◌, ℕ, Bool, sym, refl, ◌∙◌, arith, rules, not, ap}
+use Rattle.std.proofs.Common.{◌≡◌, ℕ, Bool, sym, refl, ◌∙◌, arith, not, ap}
 use Rattle.meaning.specs.bridge.Flat.{safe_group_at, safe_at}
 use Rattle.meaning.proofs.Laws.Extremes.{none_below, below_again, below_fails}
 use Rattle.rules.proofs.safe.all_safe.Goals as goal
