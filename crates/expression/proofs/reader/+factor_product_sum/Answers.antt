@@ -1,6 +1,6 @@
 -- The factor, product and sum that are read are those of the definitions: by the ways through a factor, and by a turn of a chain and its end.
 -- A reading behind a symbol begins further on, so each call's measure is smaller.
-use mathlib.Core.Path.{◌≡◌, refl, sym, ap, ◌∙◌}
+use mathlib.Core.Path.{refl, sym, ap, ◌∙◌}
 use Prim.Native.Nat.{◌+◌}
 use native.Mathlib.Omega.{arith}
 use lib.ListN.{drop}
