@@ -1,15 +1,12 @@
--- `expression::number::digits` meets its contract. The invariant: the number so far, read on, is the number.
--- The measure is what is unread. Assumes nothing.
-use mathlib.Core.Path.{refl, ap, ◌∙◌}
+-- What is read so far is the number that stands there, or it passes 65535 and is refused.
+-- A step reads one digit as the definition does; a character that is no digit ends it.
+use mathlib.Core.Path.{ap, ◌∙◌}
 use Prim.Native.Nat.{◌+◌, ◌*◌}
 use native.Mathlib.Omega.{arith}
 use lib.ListN.{drop}
 use Rattle.expression.specs.bridge.Text.{digits}
 use Rattle.expression.proofs.Laws.Symbols.{digits_end, digits_stop, digits_more, digits_over, digit_low, digit_high, digit_yes}
 use Rattle.expression.proofs.number.digits.Goals as goal
-
-pub loop-i-init : goal.loop-i-init
-loop-i-init c = (omega arith, c.requires, omega arith, refl)
 
 pub returns-then-c-lt48 : goal.returns-then-c-lt48
 returns-then-c-lt48 c =

@@ -1,5 +1,5 @@
--- `expression::number::digits` meets its contract. The invariant: the number so far, read on, is the number.
--- The measure is what is unread. Assumes nothing.
+-- The invariant: the number so far, read on, is the number.
+-- The measure is what is unread.
 use mathlib.Core.Path.{◌≡◌}
 use Prim.Native.Nat.{◌≤◌, ◌-◌}
 use lib.ListN.{length, drop}

@@ -1,5 +1,5 @@
--- `expression::part::broken` meets its contract.
--- An array of zeros is the definition's list. Assumes nothing.
+-- What is returned is the broken part.
+-- An array of zeros is the definition's list.
 use mathlib.Core.Path.{refl}
 use Rattle.expression.specs.Parts.{broken}
 use Rattle.expression.proofs.part.broken.Goals as goal

@@ -1,5 +1,5 @@
--- `expression::part::constant` meets its contract.
--- The store at 0 is the definition's. Assumes nothing.
+-- What is returned is the part of a number.
+-- The store at 0 is the definition's, and the number fits 64 signed bits.
 use borrow.Author.Tests.{lt-ltb}
 use Prim.Native.Nat.{◌^◌}
 use native.Mathlib.Omega.{arith}

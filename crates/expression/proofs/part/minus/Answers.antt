@@ -1,23 +1,13 @@
--- `expression::part::minus` meets its contract. The invariant: z holds the differences before i.
--- The measure is the numbers left; a difference of numbers of 32 bits fits 64. Assumes nothing.
-use mathlib.Core.Path.{refl, ap, ◌∙◌}
+-- What is returned is the difference of two parts.
+-- A difference of numbers of 32 bits fits 64, so what is stored is the difference.
+use mathlib.Core.Path.{ap, ◌∙◌}
 use native.Mathlib.Omega.{arith}
 use lib.ListN.{get_or}
 use lib.IntN.{pos, ◌-ℤ◌}
 use Rattle.expression.specs.Parts.{minus_part, checked, zip}
-use Rattle.expression.proofs.Laws.Numbers.{filled_more, filled_all, zip_length, zip_at, difference_fits, difference_stored}
+use Rattle.expression.proofs.Laws.Numbers.{filled_more, filled_all, zip_length, zip_at, difference_stored}
 use mathlib.Core.Bool.{◌&&◌}
 use Rattle.expression.proofs.part.minus.Goals as goal
-
-pub loop-i-init : goal.loop-i-init
-loop-i-init c = (omega arith, record { count = refl; each = λ k h. absurd (omega arith) })
-
-pub overflow_sub-z : goal.overflow_sub-z
-overflow_sub-z c =
-    let p = c.requires in
-    let a = c.args in
-    let i = c.loop-i.i in
-    difference_fits (get_or a.a.numbers i (pos 0)) (get_or a.b.numbers i (pos 0)) (p.0.each i) (p.1.each i)
 
 pub loop-i-preserved : goal.loop-i-preserved
 loop-i-preserved c =
@@ -26,9 +16,6 @@ loop-i-preserved c =
     let a = c.args in
     let l = c.loop-i-test.true in
     (omega arith, filled_more (λ k. get_or a.a.numbers k (pos 0) -ℤ get_or a.b.numbers k (pos 0)) i.i i.z _ l (difference_stored (get_or a.a.numbers i.i (pos 0)) (get_or a.b.numbers i.i (pos 0)) (p.0.each i.i) (p.1.each i.i)) i.invariant.1)
-
-pub checked-requires : goal.checked-requires
-checked-requires c = c.loop-i.invariant.1.count
 
 pub returns : goal.returns
 unfolding minus_part

@@ -1,5 +1,5 @@
--- `expression::part::minus` meets its contract. The invariant: z holds the differences before i.
--- The measure is the numbers left; a difference of numbers of 32 bits fits 64. Assumes nothing.
+-- The invariant: z holds the differences before i.
+-- The measure is the numbers left.
 use Prim.Native.Nat.{◌≤◌, ◌-◌}
 use lib.ListN.{get_or}
 use lib.IntN.{pos, ◌-ℤ◌}

@@ -1,5 +1,5 @@
--- `expression::part::place` meets its contract.
--- The store behind the constant is the definition's. Assumes nothing.
+-- What is returned is the part of a position.
+-- The store behind the constant is the definition's.
 use mathlib.Core.Path.{refl}
 use Rattle.expression.specs.Parts.{place_part}
 use Rattle.expression.proofs.part.place.Goals as goal

@@ -1,5 +1,5 @@
--- `expression::part::plus` meets its contract. The invariant: z holds the sums before i.
--- The measure is the numbers left; a sum of numbers of 32 bits fits 64. Assumes nothing.
+-- The invariant: z holds the sums before i.
+-- The measure is the numbers left.
 use Prim.Native.Nat.{◌≤◌, ◌-◌}
 use lib.ListN.{get_or}
 use lib.IntN.{pos, ◌+ℤ◌}

@@ -1,26 +1,15 @@
--- `expression::part::times` meets its contract.
--- The three ways through it are those through the definition. Assumes nothing.
-use mathlib.Core.Path.{sym, ap, subst, ◌∙◌}
+-- What is returned is the product of two parts.
+-- The three ways through it are those through the definition.
+use mathlib.Core.Path.{sym, ap, ◌∙◌}
 use mathlib.Core.Bool.{◌&&◌}
-use Prim.Native.Nat.{◌<◌}
 use native.Mathlib.Omega.{arith}
 use lib.ListN.{get_or}
-use lib.IntN.{ℤ, pos}
-use lib.Signed.{mag}
+use lib.IntN.{pos}
 use mir.Syntax.{w64}
 use mir.Val.{to_z, of_z}
 use Rattle.expression.specs.Parts.{scaled}
 use Rattle.expression.proofs.Laws.Numbers.{back, times_right, times_left, times_broken}
 use Rattle.expression.proofs.part.times.Goals as goal
-
-pub flat-requires : goal.flat-requires
-flat-requires c = c.requires.1.count
-
-pub scaled-requires : goal.scaled-requires
-scaled-requires c =
-    let y = get_or c.args.b.numbers 0 (pos 0) in
-    let h = c.requires.1.each 0 in
-    (c.requires.0, subst (λ (z : ℤ). mag z < 2147483648) (sym (back y (omega arith))) h)
 
 pub returns-then-flat : goal.returns-then-flat
 returns-then-flat c =
@@ -30,15 +19,6 @@ returns-then-flat c =
     ∙ ap (λ f. scaled f c.args.a.numbers (to_z w64 (of_z w64 y))) c.both-fine.ensures
     ∙ ap (scaled (c.args.a.fine && c.args.b.fine) c.args.a.numbers) (back y (omega arith))
     ∙ sym (times_right c.args.a c.args.b (sym c.flat.ensures ∙ c.if-flat.true))
-
-pub flat-requires-2 : goal.flat-requires-2
-flat-requires-2 c = c.requires.0.count
-
-pub scaled-requires-then-flat-2 : goal.scaled-requires-then-flat-2
-scaled-requires-then-flat-2 c =
-    let x = get_or c.args.a.numbers 0 (pos 0) in
-    let h = c.requires.0.each 0 in
-    (c.requires.1, subst (λ (z : ℤ). mag z < 2147483648) (sym (back x (omega arith))) h)
 
 pub returns-then-flat-2 : goal.returns-then-flat-2
 returns-then-flat-2 c =

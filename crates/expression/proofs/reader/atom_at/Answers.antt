@@ -1,6 +1,6 @@
--- `expression::reader::atom_at` meets its contract.
--- The first character tells a number, a position and neither. Assumes nothing.
-use mathlib.Core.Path.{◌≡◌, sym, ap, subst, ◌∙◌}
+-- What is read is a number, or a position behind `x`, or it is refused.
+-- The first character tells which, as in the definition.
+use mathlib.Core.Path.{sym, ap, subst, ◌∙◌}
 use Prim.Native.Nat.{ℕ, ◌≤◌, ◌<◌}
 use native.Mathlib.Omega.{arith}
 use lib.ListN.{drop}
@@ -8,24 +8,9 @@ use native.Mathlib.Nat.{le_refl}
 use Rattle.expression.specs.Parts.{parts, place_part}
 use Rattle.expression.specs.bridge.Text.{first, map_read, place_digit}
 use Rattle.expression.proofs.Laws.Steps.{refuses}
-use Rattle.expression.proofs.Laws.Places.{there, behind_at}
+use Rattle.expression.proofs.Laws.Places.{behind_at}
 use Rattle.expression.proofs.Laws.Symbols.{atom_place, atom_number, atom_other, digit_low, digit_high}
 use Rattle.expression.proofs.reader.atom_at.Goals as goal
-
-pub overflow_add-at : goal.overflow_add-at
-overflow_add-at c =
-    let a = c.args in
-    let e = c.code_at-c.ensures in
-    let l = there a.s.now a.at (λ z. let w : ◌≡◌ {A = ℕ} 120 0 = sym c.if-c-eq120.true ∙ e ∙ z in omega arith) in
-    let g = c.well_formed.0.0 in
-    omega arith
-
-pub place_at-requires : goal.place_at-requires
-place_at-requires c =
-    let a = c.args in
-    let e = c.code_at-c.ensures in
-    let l = there a.s.now a.at (λ z. let w : ◌≡◌ {A = ℕ} 120 0 = sym c.if-c-eq120.true ∙ e ∙ z in omega arith) in
-    omega arith
 
 pub returns-then-c-eq120 : goal.returns-then-c-eq120
 returns-then-c-eq120 c =

@@ -1,5 +1,5 @@
--- `expression::reader::closing` meets its contract.
--- The next symbol is the closing parenthesis, or the reading is refused. Assumes nothing.
+-- What is read is the reading with its closing parenthesis behind it, or it is refused.
+-- The next symbol is the parenthesis or it is not, as in the definition.
 use mathlib.Core.Path.{◌≡◌, sym, ap, ◌∙◌}
 use Prim.Native.Nat.{ℕ}
 use native.Mathlib.Omega.{arith}
@@ -16,15 +16,6 @@ returns-then-inner c =
     let q = c.requires in
     let e = read_refused a.s.now a.inner c.if-inner.true in
     record { from = le_refl _; to = q.0; small = q.1; same = e ∙ sym (ap closed e ∙ closed_refused 41) }
-
-pub overflow_add-result : goal.overflow_add-result
-overflow_add-result c =
-    let a = c.args in
-    let k = c.skip-j in
-    let e = c.code_at-c.ensures in
-    let l = there a.s.now k.result (λ z. let w : ◌≡◌ {A = ℕ} 41 0 = sym c.if-c-eq41.true ∙ e ∙ z in omega arith) in
-    let g = c.well_formed.0.0 in
-    omega arith
 
 pub returns-then-c-eq41 : goal.returns-then-c-eq41
 returns-then-c-eq41 c =

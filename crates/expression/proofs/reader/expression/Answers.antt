@@ -1,5 +1,5 @@
--- `expression::reader::expression` meets its contract: the part of the sum that is read is that of the tree.
--- Assumes nothing.
+-- The part that is read is that of the tree that stands in the text.
+-- A sum read as a part is the sum read as a tree, brought to a part.
 use mathlib.Core.Path.{◌∙◌}
 use lib.ListN.{drop}
 use Rattle.expression.proofs.Laws.Folds.{by_tree}

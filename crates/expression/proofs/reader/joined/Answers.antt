@@ -1,5 +1,5 @@
--- `expression::reader::joined` meets its contract.
--- The operator's character tells which parts are made. Assumes nothing.
+-- The part of two readings is that of the operator between them.
+-- The operator's character tells which; each is small.
 use mathlib.Core.Path.{◌≡◌, refl, sym, subst, ◌∙◌}
 use Prim.Native.Nat.{ℕ}
 use borrow.Author.Tests.{eq-eqb, ne_eqb}

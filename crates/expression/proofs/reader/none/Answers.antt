@@ -1,5 +1,5 @@
--- `expression::reader::none` meets its contract.
--- A broken part is small. Assumes nothing.
+-- What is returned is refused, and its part is small.
+-- Its part is broken, and a broken part is small.
 use mathlib.Core.Path.{refl, sym, subst}
 use Rattle.expression.specs.declared.part.Part.{Part}
 use Rattle.expression.specs.bridge.Forms.{Small}

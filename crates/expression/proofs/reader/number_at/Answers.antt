@@ -1,5 +1,5 @@
--- `expression::reader::number_at` meets its contract.
--- The digits that are read make the part, or are refused. Assumes nothing.
+-- What is read is the part of a number, or it is refused.
+-- The digits that are read make the part.
 use mathlib.Core.Path.{sym, ap, subst, ◌∙◌}
 use lib.ListN.{drop}
 use Rattle.expression.specs.declared.part.Part.{Part}

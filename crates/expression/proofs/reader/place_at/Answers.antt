@@ -1,5 +1,5 @@
--- `expression::reader::place_at` meets its contract.
--- The character behind `x` is a digit up to 7, or it is refused. Assumes nothing.
+-- What is read is the part of a position, or it is refused.
+-- The character behind `x` is a digit up to 7, or it is not.
 use mathlib.Core.Path.{◌≡◌, sym, ap, subst, ◌∙◌}
 use Prim.Native.Nat.{ℕ, ◌≤◌, ◌<◌, ◌+◌, ◌-◌}
 use native.Mathlib.Omega.{arith}
@@ -32,9 +32,6 @@ returns-then-c-gt55 c =
     let t = drop a.at a.s.now in
     let h : 55 < first t = subst (λ (n : ℕ). 55 < n) e c.if-c-gt55.true in
     refuses a.s.now a.at a.at _ _ c.none-then-c-gt55.ensures (le_refl a.at) c.requires (ap (map_read place_part) (place_high t h))
-
-pub overflow_add-result : goal.overflow_add-result
-overflow_add-result c = omega (arith, c.well_formed.0.0)
 
 pub returns : goal.returns
 unfolding map_read

@@ -1,5 +1,5 @@
--- `expression::symbol::skip` meets its contract. The invariant: what is left from the place has the same next symbol.
--- The place moves on while a blank stands there. Assumes nothing.
+-- The invariant: what is left from the place has the same next symbol.
+-- The measure is what is unread.
 use mathlib.Core.Path.{◌≡◌}
 use Prim.Native.Nat.{◌≤◌, ◌-◌}
 use lib.ListN.{length, drop}
