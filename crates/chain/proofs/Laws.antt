@@ -2,5 +2,3 @@ pub mod Admitting
 pub mod Going
 pub mod Calling
 pub mod Caller
-pub mod Lending
-pub mod Lent

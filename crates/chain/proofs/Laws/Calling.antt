@@ -1,6 +1,6 @@
 -- What a chain's call comes to by the answer of its tests: a refused one changes nothing, and an accepted one is what is defined; and what it says
 -- where the counts of uses are joined to what is kept. By the answer, and field by field.
-use mathlib.Core.Bool.{true, false, true≢false}
+use mathlib.Core.Bool.{true, true≢false}
 use mathlib.Core.List.{List}
 use mathlib.Core.Path.{◌≡◌, refl, sym, ap, subst, ◌∙◌}
 use Prim.Native.Nat.{ℕ}
