@@ -44,11 +44,24 @@ class Function:
         self.needs = {plain(a): (b, plain(at[0])) for (a, b), at in zip(names["needs"], names["asked_at"])}
         self.asked = {plain(k): v for k, v in names["asked"].items()}
         self.places_used, self.negated = set(), False
+        # where a path goes up more places than there are now, by how many
+        self.skew, self.skews = 0, []
+        # the place that each helper takes first
+        self.firsts = {}
 
     def left(self, what):
         self.said.append(f"left: {self.path}: {what}")
 
     # places
+    def whole(self, place):
+        """Of a match's arm the record that has its names: In-X for In-X-1 and In-X-2."""
+        m = re.fullmatch(r"(In[-_].*)-\d+", place.new)
+        for p in self.places if m else []:
+            above = self.up(p), self.up(self.up(p)) if self.up(p) else None
+            if p.new == m[1] and place in above:
+                return p
+        return place
+
     def up(self, place):
         return self.by_old.get(plain(place.parent)) if place.parent else None
 
@@ -71,12 +84,20 @@ class Function:
         """The new text of root.segments, where root is at `place`; `top` if root is a goal's own `c`."""
         at = place
         rest = list(segments)
+        steps = 0
         while rest and rest[0] == "before":
-            at = self.up(at) or at
+            steps += 1
             rest.pop(0)
+        if rest:
+            here = self.step(place, rest[0])
+            if here is not None:
+                self.skews.append(steps - self.depth(place, here))
+        for _ in range(max(0, steps - self.skew)):
+            at = self.up(at) or at
         if not rest:
+            at = self.whole(at)
             self.places_used.add(at.new)
-            if at is place and not top:
+            if at is place:
                 return root, ("place", at)
             return f"(goal.at.{top or place.new} {root}).{at.new}", ("place", at)
         field = rest.pop(0)
@@ -119,6 +140,19 @@ class Function:
 
     def fields(self, base, kind, rest):
         rest = list(rest)
+        if kind[0] == "step" and len(rest) > 1 and rest[0] in ("new", "last", "auto", "kept") and rest[1].isdigit():
+            params = self.names["params"].get(kind[1].callee or "", [])
+            base += "." + {"last": "new", "kept": "auto"}.get(rest[0], rest[0])
+            rest.pop(0)
+            i = 0
+            while rest and rest[0] == "1" and i < len(params) - 1:
+                rest.pop(0)
+                i += 1
+            if rest and rest[0] == "0":
+                rest.pop(0)
+            if i < len(params):
+                return self.fields(base + "." + params[i], ("plain",), rest)
+            self.left(f"buffer {i} of {params} at {base}")
         if kind[0] == "step" and rest and rest[0] == "ensures":
             clause = self.names["clauses"][kind[1].i]
             base += ".ensures"
@@ -140,6 +174,10 @@ class Function:
                 break
             if not rest:
                 return base, kind if len(fields) == len(kind[1]) else ("clauses", fields)
+        if kind[0] == "step" and rest in (["left"], ["taken"]) and kind[1].old.startswith(("Then", "Else")):
+            rest = ["false" if rest == ["left"] else "true"]
+        if kind[0] == "step" and rest and rest[0] == "inv" and kind[1].old.startswith("At-"):
+            rest[0] = "invariant"
         if rest == ["branch"]:
             rest = ["branch-raw"]
         out = [re.sub(r"-(?!(?:is|bits|fits|end)$)", "_", s) if not s.startswith("in-") and s not in ("branch-raw",) else s for s in rest]
@@ -215,9 +253,17 @@ class Body:
         self.fn, self.env, self.aliases = fn, dict(env), aliases
 
     def value(self, text):
-        for name, (place, target) in self.aliases.items():
-            # (helper x).path, where helper gives a place above x's
-            text = re.sub(rf"\({re.escape(name)} ({NAME}(?:\.before)*)\)", lambda m: self.jump(m[1], place, target), text)
+        for _ in range(4):
+            before = text
+            for name, (place, target) in self.aliases.items():
+                # helper x, where helper gives a place above x's
+                word = re.escape(name)
+                path = rf"{NAME}(?:\.before)*"
+                text = re.sub(rf"\({word} ({path})\)", lambda m: self.jump(m[1], place, target), text)
+                text = re.sub(rf"= {word} ({path}) in\b", lambda m: "= " + self.jump(m[1], place, target) + " in", text)
+                text = re.sub(rf"\(({NAME}) ({word}) ({path})\)", lambda m: m[0], text)
+            if text == before:
+                break
         return text
 
     def jump(self, path, place, target):
@@ -225,6 +271,18 @@ class Body:
         return path + ".before" * n
 
     def turn(self, text):
+        """Once to see how far the old paths go beyond today's, and once for good."""
+        kept = dict(self.env), set(self.fn.places_used), list(self.fn.said), self.fn.negated
+        self.fn.skews, self.fn.skew = [], 0
+        self.turned(text)
+        found = [k for k in self.fn.skews if k > 0]
+        self.env, self.fn.places_used, self.fn.said[:], self.fn.negated = dict(kept[0]), set(kept[1]), kept[2], kept[3]
+        self.fn.skew = max(set(found), key=found.count) if found else 0
+        out = self.turned(text)
+        self.fn.skew = 0
+        return out
+
+    def turned(self, text):
         text = self.value(text)
         out, i = [], 0
         while i < len(text):
@@ -233,6 +291,10 @@ class Body:
                 if got:
                     name, value, end = got
                     new, kind = self.path(value)
+                    if value.endswith(".given") and kind is not None:
+                        self.env[name] = ("alias", new, None, False, value)
+                        i = end
+                        continue
                     if kind is not None and kind[0] == "place":
                         root = value.split(".")[0]
                         self.env[name] = ("alias", new, kind[1], self.top_of(root), value)
@@ -245,13 +307,28 @@ class Body:
                         continue
             m = PATH.match(text, i)
             if m and (i == 0 or re.match(r"[\s(){}\[\],;|]", text[i - 1])):
-                new, _ = self.path(m[0])
+                new, kind = self.path(m[0])
+                before = re.search(rf"({NAME}) +$", text[:i])
+                wanted = before and self.fn.firsts.get(before[1])
+                if wanted is not None and kind is not None and kind[0] == "place":
+                    new = self.at(m[0], wanted)
                 out.append(new)
                 i = m.end()
                 continue
             out.append(text[i])
             i += 1
         return "".join(out)
+
+    def at(self, path, wanted):
+        """The record of the place that a helper wants, from the root that the path begins with."""
+        root, *rest = path.split(".")
+        while self.env[root][0] == "alias":
+            root = self.env[root][4].split(".")[0]
+        _, place, top = self.env[root]
+        self.fn.places_used.add(wanted.new)
+        if wanted is place:
+            return root
+        return f"(goal.at.{top or place.new} {root}).{wanted.new}"
 
     def top_of(self, root):
         e = self.env.get(root)
@@ -266,7 +343,7 @@ class Body:
             return self.fn.walk(root, e[1], rest, e[2])
         if e[0] == "alias":
             _, new, place, _, value = e
-            if not rest:
+            if not rest and place is not None:
                 return new, ("place", place)
             # go on from the root that the alias began with
             first, *more = value.split(".")
@@ -318,9 +395,11 @@ def convert(fn):
     wanted, queue = set(), list(inv_names)
     while queue:
         n = queue.pop()
+        own = re.match(rf"{re.escape(n)}((?:\s+(?!=\s){NAME})*)\s*=\s", bodies[n].split("\n", bodies[n].count("\n") and 1)[-1])
+        bound = set(own[1].split()) if own else set()
         for w in re.findall(NAME, bodies[n]):
             w = w.split(".")[0]
-            if w in defined and w not in wanted and w not in inv_names:
+            if w in defined and w not in wanted and w not in inv_names and w not in bound and "tie." not in bodies[w].split("\n")[0]:
                 wanted.add(w)
                 queue.append(w)
 
@@ -330,6 +409,7 @@ def convert(fn):
             if p is None:
                 fn.left(f"place {m[1]}")
                 return m[0]
+            p = fn.whole(p)
             fn.places_used.add(p.new)
             return p.new
         for n in inv_names:
@@ -394,7 +474,7 @@ def convert(fn):
             rest = b.turn(rest).strip()
             fields = fn.asked.get(key)
             if fields:
-                rest = as_record(rest, fields)
+                rest = by_tactic(fn, rest, fields) or as_record(rest, fields)
             answers.append((name, comments + [f"pub {new} : goal.{new}"] + unfolding + [f"{new} {' '.join(args)} ={gap(rest)}{rest}"], new))
             continue
         # a helper, perhaps over places
@@ -403,12 +483,13 @@ def convert(fn):
             answers.append((name, comments + [sig] + unfolding + clauses, None))
             continue
         body = "\n".join(clauses)
-        m = re.match(rf"{re.escape(name)}((?:\s+(?!=\s){NAME})*)\s*=\s+", body)
+        m = re.match(rf"{re.escape(name)}((?:\s+(?!=\s)(?:{NAME}|\{{[^}}]*\}}))*)\s*=\s+", body)
         if not m:
             fn.left(f"helper {name}")
             answers.append((name, comments + [place_types(sig)] + unfolding + clauses, None))
             continue
-        args = m[1].split()
+        written = m[1].split()
+        args = [a for a in written if not a.startswith("{")]
         rest = body[m.end() :]
         # explicit places in the signature, in order: (c : tie.X ..) or tie.X → ..
         sigtext = sig.split(":", 1)[1]
@@ -416,12 +497,12 @@ def convert(fn):
         env, k = {}, 0
         for bound, typ, bare, others, plain_type in order:
             if bound:
-                p = fn.by_old.get(plain(typ))
+                p = fn.by_old.get(plain(typ)) and fn.whole(fn.by_old[plain(typ)])
                 if k < len(args) and p:
                     env[args[k]] = ("place", p, False)
                 k += 1
             elif bare:
-                p = fn.by_old.get(plain(bare))
+                p = fn.by_old.get(plain(bare)) and fn.whole(fn.by_old[plain(bare)])
                 if k < len(args) and p:
                     env[args[k]] = ("place", p, False)
                 k += 1
@@ -429,8 +510,13 @@ def convert(fn):
                 k += len(others.split())
             else:
                 k += 1
+        first = next(iter(order), None)
+        if first and (first[1] or first[2]):
+            typ = fn.by_old.get(plain(first[1] or first[2]))
+            if typ is not None:
+                fn.firsts[name] = fn.whole(typ)
         # signature: the bound places' paths
-        bound_env = {b: ("place", fn.by_old[plain(t)], False) for b, t, *_ in order if b and plain(t) in fn.by_old}
+        bound_env = {b: ("place", fn.whole(fn.by_old[plain(t)]), False) for b, t, *_ in order if b and plain(t) in fn.by_old}
         simple = re.fullmatch(rf"({NAME})((?:\.before)*)", rest.strip())
         last = re.search(rf"→\s*tie\.({NAME})[^→]*$", sigtext)
         if simple and last and len(args) == 1 and args[0] in env and simple[1] == args[0]:
@@ -444,7 +530,7 @@ def convert(fn):
         head_part, tail_part = sig.split(":", 1)
         sb = Body(fn, bound_env, aliases)
         new_sig = head_part + ":" + place_types(sb.turn(tail_part))
-        answers.append((name, comments + [new_sig] + unfolding + [f"{name} {' '.join(args)} = {rest}"], None))
+        answers.append((name, comments + [new_sig] + unfolding + [f"{name} {' '.join(written)} = {rest}"], None))
 
     # what nothing cites goes
     def cited(name, texts):
@@ -478,10 +564,19 @@ def convert(fn):
             u.append(f"use {base}.Goals.{{{', '.join(typed)}}}")
         if fn.negated:
             u = with_common(u)
+        own = {n for n, b, new in answers if new is None}
+        u = [without(x, own) for x in u]
         write(fn.folder / "Answers.antt", head, u, body)
         out.append("Answers")
     old.rename(fn.folder / "Proof.antt.old")
     return out
+
+
+def without(use, own):
+    m = re.match(r"use (\S+?)\.\{(.*)\}$", use)
+    if not m:
+        return use
+    return f"use {m[1]}.{{{', '.join(n for n in m[2].split(', ') if n not in own)}}}"
 
 
 def gap(rest):
@@ -498,6 +593,18 @@ def with_common(uses):
     return ["use Rattle.std.proofs.Common.{not, ap}"] + uses
 
 
+def by_tactic(fn, rest, fields):
+    """`simp e t`, where t is what a call ensures: clause by clause."""
+    m = re.fullmatch(r"((?:let .*? in\s+)*)(simp|rw) (\((?:[^()]|\((?:[^()]|\([^()]*\))*\))*\)|\S+) (c\.(\S+)\.ensures)", rest, re.S)
+    if not m:
+        return None
+    theirs = next((fn.names["clauses"][p.i]["fields"] for p in fn.places if p.new_field == m[5] and fn.names["clauses"][p.i]), None)
+    if not theirs or len(theirs) != len(fields):
+        return None
+    rec = "; ".join(f"{f} = {m[2]} {m[3]} {m[4]}.{t}" for f, t in zip(fields, theirs))
+    return f"{m[1]}record {{ {rec} }}"
+
+
 def as_record(rest, fields):
     """The answer as a record of the clauses: the parts of its last pair, or the fields of its value."""
     m = re.search(r"\((?=[^()]*(?:\([^()]*(?:\([^()]*(?:\([^()]*(?:\([^()]*\)[^()]*)*\)[^()]*)*\)[^()]*)*\)[^()]*)*,)", rest)
@@ -511,10 +618,10 @@ def as_record(rest, fields):
             i -= 1
         before = rest[:i].rstrip()
         if before == "" or before.endswith(" in") or before.endswith("\nin"):
-            parts = parts_of(rest[i + 1 : -1])
+            parts = [x for x in parts_of(rest[i + 1 : -1]) if x.strip()]
             while len(parts) == 2 and len(fields) > 2 and parts[1].strip().startswith("("):
                 inner = parts[1].strip()[1:-1]
-                more = parts_of(inner)
+                more = [x for x in parts_of(inner) if x.strip()]
                 parts = [parts[0]] + more
                 if len(parts) >= len(fields):
                     break

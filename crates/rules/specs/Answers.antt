@@ -3,9 +3,7 @@ use Rattle.std.specs.Prelude.{true, false}
 use Rattle.meaning.specs.Refusal.{Outcome, refused, accepted}
 use Rattle.meaning.specs.Direct.{Converted}
 use Rattle.rules.specs.declared.convert.Conversion.{Conversion}
-use Rattle.rules.specs.declared.convert.Conversion.TheVariants as Conversion
 use Rattle.rules.specs.declared.convert.Verdict.{Verdict}
-use Rattle.rules.specs.declared.convert.Verdict.TheVariants as Verdict
 
 -- "answers closed or stopped, the place and the output count"; "A refusal answers its number"
 abbrev pub conversionOf : Conversion → Outcome Converted

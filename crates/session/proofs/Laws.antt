@@ -4,8 +4,6 @@ pub mod Reading
 pub mod Turning
 pub mod Caller
 pub mod Resuming
-pub mod Lending
-pub mod Lent
 pub mod Foreseen
 pub mod Beginning
 pub mod Falling

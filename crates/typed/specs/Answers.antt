@@ -2,7 +2,6 @@
 use Rattle.std.specs.Prelude.{ℕ}
 use Rattle.meaning.specs.Refusal.{Outcome, refused, accepted}
 use Rattle.typed.specs.declared.text.Typed.{Typed}
-use Rattle.typed.specs.declared.text.Typed.TheVariants as Typed
 
 -- "the answer is their length in bytes"; "A refusal answers its number"
 abbrev pub typed_of : Typed → Outcome ℕ

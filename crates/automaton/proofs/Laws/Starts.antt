@@ -10,7 +10,7 @@ use lib.ListN.{length, take, drop, take-append-drop}
 use Rattle.lists.specs.Lists.{flat_map}
 use Rattle.lists.proofs.Laws.Folds.{fold_left_append}
 use Rattle.meaning.specs.Table.{Range}
-use Rattle.automaton.specs.Classes.{insert, edges, starts}
+use Rattle.automaton.specs.Classes.{insert, edges}
 use Rattle.automaton.specs.Layout.{word_count}
 use Rattle.automaton.specs.Starts.{ranges_of, Gathering, holding, meet_range, meet_ranges, IsStart, StartsMet, InPlace, StartsInPlace}
 use Rattle.automaton.proofs.Laws.Classes.{edge_met, met_edge}

@@ -1,7 +1,7 @@
 -- Laws of whole numbers that the library leaves out.
 -- By one more and one less, from 0. Assumes nothing.
 use mathlib.Core.Path.{◌≡◌, refl, sym, ap, ◌∙◌}
-use Prim.Native.Nat.{zero, suc, ◌+◌, ◌*◌}
+use Prim.Native.Nat.{zero, suc, ◌*◌}
 use lib.IntN.{ℤ, pos, negsuc, neg_ℤ, suc_ℤ, pred_ℤ, ◌+ℤ◌, ◌-ℤ◌, ◌*ℤ◌, +ℤ_idl, +ℤ_assoc, +ℤ_comm, +ℤ_one, -ℤ_one, suc_ℤ-+ℤ, pred_ℤ-+ℤ, zero-*ℤ, *ℤ_comm, suc_ℤ-*ℤ, pred_ℤ-*ℤ, neg_ℤ-neg_ℤ, ℤ_ind}
 
 -- (a + b) + c, with the last two the other way round

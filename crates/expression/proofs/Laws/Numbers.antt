@@ -1,6 +1,6 @@
 -- Signed numbers in 32 bits: sums, differences and products fit 64, and the tests of the code are those of the definitions.
 -- By bounds on magnitudes. Assumes nothing.
-use mathlib.Core.Path.{◌≡◌, refl, sym, ap, subst, ◌∙◌}
+use mathlib.Core.Path.{◌≡◌, refl, sym, ap, ◌∙◌}
 use mathlib.Core.Bool.{Bool, true, false, ◌&&◌, cond}
 use mathlib.Core.List.{List, [], ◌∷◌, map}
 use Prim.Native.Nat.{ℕ, zero, suc, ◌+◌, ◌-◌, ◌*◌, ◌≤◌, ◌<◌}
@@ -11,7 +11,7 @@ use lib.Dec.{lit<, ltb}
 use lib.IntN.{ℤ, pos, negsuc, sub_ℕ, neg_ℤ, ◌+ℤ◌, ◌-ℤ◌, ◌*ℤ◌}
 use lib.Signed.{mag, lt_z}
 use mir.Syntax.{w64}
-use mir.Val.{SFits, to_z, of_z}
+use mir.Val.{to_z, of_z}
 use mir.Facts.{to_z-of_z}
 use borrow.Author.Tests.{ltb-true, ltb-false, le-ltb, lt-ltb, ne_eqb}
 use lib.ListN.{length, get_or, replicate, set, length-set}
@@ -244,20 +244,11 @@ module _ (a b : ℤ) (h : mag a < 2147483648) (k : mag b < 2147483648) where
   read : (f : ℤ → ℤ → ℤ) → f (to_z w64 (of_z w64 a)) (to_z w64 (of_z w64 b)) ≡ f a b
   read f = ap (λ x. f x (to_z w64 (of_z w64 b))) (back a (omega arith)) ∙ ap (f a) (back b (omega arith))
 
-  pub sum_fits : SFits w64 (to_z w64 (of_z w64 a) +ℤ to_z w64 (of_z w64 b))
-  sum_fits = subst (λ (z : ℤ). SFits w64 z) (sym (read ◌+ℤ◌)) (record { sfits = sum_in })
-
   pub sum_stored : to_z w64 (of_z w64 (to_z w64 (of_z w64 a) +ℤ to_z w64 (of_z w64 b))) ≡ a +ℤ b
   sum_stored = ap (λ z. to_z w64 (of_z w64 z)) (read ◌+ℤ◌) ∙ back (a +ℤ b) sum_in
 
-  pub difference_fits : SFits w64 (to_z w64 (of_z w64 a) -ℤ to_z w64 (of_z w64 b))
-  difference_fits = subst (λ (z : ℤ). SFits w64 z) (sym (read ◌-ℤ◌)) (record { sfits = difference_in })
-
   pub difference_stored : to_z w64 (of_z w64 (to_z w64 (of_z w64 a) -ℤ to_z w64 (of_z w64 b))) ≡ a -ℤ b
   difference_stored = ap (λ z. to_z w64 (of_z w64 z)) (read ◌-ℤ◌) ∙ back (a -ℤ b) difference_in
-
-  pub product_fits : SFits w64 (to_z w64 (of_z w64 a) *ℤ to_z w64 (of_z w64 b))
-  product_fits = subst (λ (z : ℤ). SFits w64 z) (sym (read ◌*ℤ◌)) (record { sfits = product_small a b h k })
 
   pub product_stored : to_z w64 (of_z w64 (to_z w64 (of_z w64 a) *ℤ to_z w64 (of_z w64 b))) ≡ a *ℤ b
   product_stored = ap (λ z. to_z w64 (of_z w64 z)) (read ◌*ℤ◌) ∙ back (a *ℤ b) (product_small a b h k)

@@ -12,7 +12,7 @@ use lib.Seq.{drop-cons}
 use Rattle.expression.specs.declared.symbol.Operator.{Operator}
 use Rattle.expression.specs.declared.number.Number.{Number}
 use Rattle.expression.specs.Grammar.{is_blank, is_digit, Algebra}
-use Rattle.expression.specs.bridge.Text.{refused, got, is_sign, skip, first, behind, operator, digits, place_digit, map_read, atom}
+use Rattle.expression.specs.bridge.Text.{refused, got, skip, first, behind, operator, digits, place_digit, map_read, atom}
 use Rattle.expression.specs.bridge.Answers.{Skipped, Operates, number_of}
 use Rattle.expression.proofs.Laws.Places.{there, behind_at}
 
@@ -131,6 +131,3 @@ number_got s n e = rw e
 
 pub number_refused : (s : List ℕ) (n : Number) → n.refused ≡ true → number_of s n ≡ refused
 number_refused s n e = rw e
-
-pub not_sign : (x : ℕ) → (x ≡ 43 → ⊥) → (x ≡ 45 → ⊥) → is_sign x ≡ false
-not_sign x h k = rw (ne_eqb x 43 h, ne_eqb x 45 k)

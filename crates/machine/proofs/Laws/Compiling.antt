@@ -29,7 +29,6 @@ use Rattle.meaning.proofs.Laws.Loaded.{loaded_blocks}
 use Rattle.rules.proofs.Laws.Flattened.{flat_flat}
 use Rattle.meaning.proofs.Laws.Bare.{bare_group, rule_at_bare, table_flat}
 use Rattle.rules.specs.declared.load.Load.{Load}
-use Rattle.rules.specs.declared.load.Load.TheVariants as Load
 use Rattle.meaning.proofs.Laws.Rows.{pad_pad, pad_none}
 use Rattle.meaning.proofs.Laws.Direct.{table_refused}
 use Rattle.rules.proofs.Laws.Converting.{of_read, is_shaped, is_narrow, is_refused, expansion_flat}

@@ -19,7 +19,7 @@ use Rattle.lists.proofs.Laws.Each.{each_front, each_back}
 use Rattle.lists.proofs.Laws.Last.{last_d_snoc, last_at_last}
 use Rattle.meaning.specs.Refusal.{refused, accepted, and_then}
 use Rattle.meaning.specs.Table.{Output, sum, digit}
-use Rattle.meaning.specs.Record.{Record, output, term, default, decode}
+use Rattle.meaning.specs.Record.{Record, output, term, decode}
 use Rattle.meaning.specs.Records.{Bytes, little_endian, output_record, Term, term_record, Known}
 use Rattle.meaning.specs.Reader.{Reading, latest, coefficient_at, repeated, misplaced, skipping, too_many, signed, add_term, change_outputs, taken, read_one, read_records, LeadTo}
 use Rattle.meaning.proofs.Laws.Refusal.{refused_not, by_then, accepted_not, accepted_same, refused_same}

@@ -21,9 +21,7 @@ use Rattle.meaning.specs.bridge.Flat.{block_words, loaded_words, expansion_from,
 use Rattle.rules.specs.bridge.Modes.{the_mode}
 use Rattle.rules.specs.bridge.Readings.{LoadedBy}
 use Rattle.rules.specs.declared.mode.Mode.{Mode as Kept}
-use Rattle.rules.specs.declared.mode.Mode.TheVariants as Kept
 use Rattle.rules.specs.declared.load.Load.{Load}
-use Rattle.rules.specs.declared.load.Load.TheVariants as Load
 use Rattle.meaning.proofs.Laws.Shape.{Within, ShapedDefault, Shaped}
 use Rattle.meaning.proofs.Laws.Narrow.{Narrow}
 use Rattle.meaning.proofs.Laws.Groups.{rule_shaped, default_each, group_rule, group_default, some_default, written_pair, SafeGroup, safe_group}

@@ -11,7 +11,6 @@ use Rattle.rules.specs.bridge.Modes.{the_mode, kept_mode}
 use Rattle.rules.specs.bridge.Summary.{started, gap, admitted, if_taken, Taken, take_on, take_records, Fitting}
 use Rattle.rules.specs.declared.reader.Reader.{Reader}
 use Rattle.rules.specs.declared.load.Load.{Load}
-use Rattle.rules.specs.declared.load.Load.TheVariants as Load
 use Rattle.meaning.specs.Table.{Table, mode}
 use Rattle.meaning.specs.Value.{safe}
 use Rattle.meaning.specs.Reader.{Reading, unread, read_records, read_end, read_rules, read_table}

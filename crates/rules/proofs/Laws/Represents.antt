@@ -12,7 +12,6 @@ use Rattle.meaning.specs.Reader.{Reading, unread, ranging, change_latest}
 use Rattle.rules.specs.bridge.Modes.{the_mode, kept_mode}
 use Rattle.rules.specs.bridge.Summary.{defaulted, group_number, Fitting}
 use Rattle.rules.specs.declared.mode.Mode.{Mode}
-use Rattle.rules.specs.declared.mode.Mode.TheVariants as Mode
 use Rattle.rules.specs.declared.reader.Reader.{Reader}
 use Rattle.rules.specs.declared.reader.Last.{Last}
 use Rattle.meaning.proofs.Laws.Reading.{Begun, Plain, Ended, KeptReading, top, at_last_length, last_each, unread_kept}

@@ -1,7 +1,6 @@
 -- The default's mode as the code keeps it.
 use Rattle.meaning.specs.Table as Spec
 use Rattle.rules.specs.declared.mode.Mode.{Mode}
-use Rattle.rules.specs.declared.mode.Mode.TheVariants as Mode
 
 -- the mode that it is
 abbrev pub the_mode : Mode → Spec.Mode

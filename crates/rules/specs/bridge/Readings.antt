@@ -14,9 +14,7 @@ use Rattle.rules.specs.declared.reader.Reader.{Reader}
 use Rattle.rules.specs.declared.reader.Step.{Step}
 use Rattle.rules.specs.declared.reader.Step.TheVariants.{Next, Refused}
 use Rattle.rules.specs.declared.load.Load.{Load}
-use Rattle.rules.specs.declared.load.Load.TheVariants as Load
 use Rattle.rules.specs.declared.pattern.Choice.{Choice}
-use Rattle.rules.specs.declared.pattern.Choice.TheVariants as Choice
 
 abbrev pub record_of : Record → Option Spec.Record
 record_of (Rule size anchored) = some (Spec.rule size anchored)

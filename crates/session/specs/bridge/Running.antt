@@ -15,7 +15,6 @@ use Rattle.words.specs.declared.numbers.RuleNo.{RuleNo}
 use Rattle.words.specs.declared.numbers.StateNo.{StateNo}
 use Rattle.session.specs.declared.kept.Status.TheVariants as Code
 use Rattle.session.specs.declared.run.Fall.{Fall as Falls}
-use Rattle.session.specs.declared.run.Fall.TheVariants as Falls
 use Rattle.session.specs.declared.run.Ran.{Ran}
 use Rattle.session.specs.declared.run.Ahead.{Ahead}
 use Rattle.automaton.specs.Layout.{classes_from}

@@ -18,7 +18,6 @@ use Rattle.meaning.proofs.Laws.Refusal.{accepted_not, accepted_same}
 use Rattle.rules.specs.declared.reader.Reader.{Reader}
 use Rattle.rules.specs.declared.mode.Mode.{Mode}
 use Rattle.rules.specs.declared.load.Load.{Load}
-use Rattle.rules.specs.declared.load.Load.TheVariants as Load
 use Rattle.rules.specs.bridge.Modes.{the_mode}
 use Rattle.rules.specs.bridge.Summary.{started, gap, Fitting}
 use Rattle.rules.specs.bridge.Readings.{end_of, LoadedBy}

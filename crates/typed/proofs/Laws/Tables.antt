@@ -1,6 +1,6 @@
 -- An accepted text's table is that of its lines, and 4 refuses no text.
 -- The records of each line lead from the groups before it to those with its own; a line behind `else` is refused.
-use mathlib.Core.Bool.{Bool, true, false, not}
+use mathlib.Core.Bool.{Bool, true, not}
 use mathlib.Core.List.{List, [], ◌∷◌, ◌++◌, map, append-nil}
 use mathlib.Core.Option.{Option, none, some}
 use mathlib.Core.Path.{◌≡◌, refl, sym, ap, subst, ◌∙◌}

@@ -1,8 +1,7 @@
 -- The search over the words of a table tells a live rule by an input that shows it, and a dead one.
 -- Back from a state each step finds the latest state that leads there, and there is one until the first; the word grows by a class start a step.
-use mathlib.Core.Bool.{Bool, true, false, not, ◌||◌, cond}
+use mathlib.Core.Bool.{Bool, true, false, not, cond}
 use mathlib.Core.List.{List, [], ◌∷◌, ◌++◌, append-nil}
-use mathlib.Core.Logic.{◌≢◌}
 use mathlib.Core.Option.{none, some}
 use mathlib.Core.Path.{◌≡◌, refl, sym, ap, subst, ◌∙◌}
 use Prim.Native.Nat.{ℕ, zero, suc, ◌+◌, ◌-◌, ◌≤◌, ◌<◌}
@@ -10,9 +9,9 @@ use native.Mathlib.Decide.{ℕ_discrete}
 use native.Mathlib.Omega.{arith}
 use borrow.Author.Tests.{lt-ltb, le-ltb}
 use lib.Dec.{T, T_not, eqb, ltb, eqb→eq, ltb→lt, nltb→le}
-use lib.ListN.{length, take, drop, length-append}
+use lib.ListN.{length, take, drop}
 use Rattle.lists.specs.Lists.{pad}
-use Rattle.lists.proofs.Laws.Tests.{split, either, of_T, of_not, of_cond, or_cases, or_left, or_right, eq→eqb, neqb→ne}
+use Rattle.lists.proofs.Laws.Tests.{of_cond, or_cases, or_left, or_right, eq→eqb, neqb→ne}
 use Rattle.meaning.specs.Table.{Table}
 use Rattle.meaning.specs.WellFormed.{WellFormed}
 use Rattle.meaning.specs.Block.{at}

@@ -1,0 +1,14 @@
+-- `pattern::in_ranges` meets its contract. The invariant: the character lies in the ranges where it lies in those from number k on.
+-- The measure is what is left of them. Assumes nothing.
+use Rattle.std.proofs.Common.{◌≡◌, ◌+◌, ◌-◌, ◌≤◌}
+use Rattle.meaning.specs.Table.{in_ranges}
+use Rattle.meaning.specs.Block.{at}
+use Rattle.meaning.specs.bridge.Flat.{slots_from, ranges_at}
+use Rattle.meaning.proofs.Laws.Choosing.{in_from}
+use Rattle.rules.proofs.pattern.in_ranges.Given as goal
+
+abbrev pub invariant-loop-k : goal.invariant-loop-k
+invariant-loop-k l = (l.k ≤ at l.loaded (slots_from + l.place)) × (in_ranges (ranges_at l.loaded l.place) l.c ≡ in_from l.loaded l.place l.c l.k)
+
+abbrev pub decreases-loop-k : goal.decreases-loop-k
+decreases-loop-k l = at l.loaded (slots_from + l.place) - l.k

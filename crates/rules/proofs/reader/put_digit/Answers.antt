@@ -1,0 +1,13 @@
+-- `rules::reader::put_digit` meets its contract.
+-- The places are within the array by the bounds on the three numbers, and a store keeps the length.
+use Rattle.std.proofs.Common.{arith, length-set}
+use Rattle.rules.proofs.reader.put_digit.Goals as goal
+
+pub bounds-loaded-at : goal.bounds-loaded-at
+bounds-loaded-at c = simp length-set (omega arith)
+
+pub bounds-loaded-at-2 : goal.bounds-loaded-at-2
+bounds-loaded-at-2 c = simp length-set (omega arith)
+
+pub bounds-loaded-at-3 : goal.bounds-loaded-at-3
+bounds-loaded-at-3 c = simp length-set (omega arith)
