@@ -5,12 +5,12 @@
 use program::run::run;
 use program::table::read_table;
 
-fn main() {
+fn main(rt: HostRuntime) {
     let mut table = [0u8; 32768];
-    let found = read_table(&mut table);
+    let found = read_table(&rt, &mut table);
     if !found.readable {
         return;
     }
     let read = found.size;
-    run(&table[..read]);
+    run(&rt, &table[..read]);
 }

@@ -7,11 +7,13 @@ ghost use Rattle.session.specs.Keeping.{meant_status, session_of};
 ghost use Rattle.program.specs.Turns.{call_on, waits, TurnOn, Converted};
 ghost use Rattle.program.specs.bridge.Piece.{Unread, Pieced};
 
+use crate::failing::tell;
 use crate::print::{Handed, print};
 use crate::report::put_call;
-use libc::STDIN_FILENO;
 use session::call::{Answer, Called, feed_by_value, finish_by_value};
 use session::kept::{Session, Status, fresh};
+use std::io;
+use std::io::Read;
 
 // The session after a call, whether it waits for more, and how many bytes there are to print.
 #[derive(Clone, Copy)]
@@ -123,18 +125,25 @@ fn take_turn(
 }
 
 // Hands the text of a turn on these bytes to a write. That it is the text of this turn is asked of the caller.
-fn print_turn(words: &[u16], session: Session, bytes: &[u8], turn: Turn, text: &[u8]) -> Handed
+fn print_turn(
+    rt: &HostRuntime,
+    words: &[u16],
+    session: Session,
+    bytes: &[u8],
+    turn: Turn,
+    text: &[u8],
+) -> Handed
     requires { TurnOn words.now (session_of session) bytes.now (session_of turn.session) turn.going text.now }
     ensures { result.size ≡ length text.now }
 {
-    print(text)
+    print(rt, text)
 }
 
 // Nothing could be read: the session is as it was, and still waits.
-fn unread(session: Session) -> Piece
+fn unread(rt: &HostRuntime, session: Session, error: io::Error) -> Piece
     ensures { Unread session result }
 {
-    os::fail(b"standard input");
+    tell(rt, "standard input", error);
     Piece {
         session,
         going: true,
@@ -145,20 +154,25 @@ fn unread(session: Session) -> Piece
 }
 
 // Reads a piece, takes its turn and prints the text.
-fn convert_piece(words: &[u16], session: Session, output: &mut [u16], text: &mut [u8]) -> Piece
+fn convert_piece(
+    rt: &HostRuntime,
+    words: &[u16],
+    session: Session,
+    output: &mut [u16],
+    text: &mut [u8],
+) -> Piece
     requires { (length output.old ≡ 131136) × (length text.old ≡ 655744) }
     ensures pieced { Pieced words.now session result }
     ensures read_bound { (result.read ≤ 16384) × (result.handed ≤ 655744) }
 {
     let mut bytes = [0u8; 16384];
-    let got = libc::read(STDIN_FILENO, &mut bytes);
-    if got < 0 {
-        return unread(session);
-    }
-    let read = io::count(got, &bytes);
+    let read = match rt.stdin().read(&mut bytes) {
+        Ok(read) => read,
+        Err(error) => return unread(rt, session, error),
+    };
     let turn = take_turn(words, session, &bytes[..read], output, text);
     let size = turn.size;
-    let handed = print_turn(words, session, &bytes[..read], turn, &text[..size]);
+    let handed = print_turn(rt, words, session, &bytes[..read], turn, &text[..size]);
     let later = turn.session;
     Piece {
         session: later,
@@ -171,7 +185,7 @@ fn convert_piece(words: &[u16], session: Session, output: &mut [u16], text: &mut
 
 // "feeds standard input". The output has room for 8 characters for each of a piece and of the 8 held at most, the text for their lines and the last.
 // The loop ends with the input, and with one that goes on for ever by refusal 14: each turn that leaves the session waiting has received more.
-pub fn convert_input(words: &[u16]) -> Ending
+pub fn convert_input(rt: &HostRuntime, words: &[u16]) -> Ending
     ensures { Converted words.now result }
 {
     let mut output = [0u16; 131136];
@@ -183,7 +197,7 @@ pub fn convert_input(words: &[u16]) -> Ending
     let mut handed: u64 = 0;
     while going && !failed {
         let found = session;
-        let piece = convert_piece(words, found, &mut output, &mut text);
+        let piece = convert_piece(rt, words, found, &mut output, &mut text);
         let left = piece.session;
         session = left;
         going = piece.going;

@@ -2,6 +2,7 @@
 // program itself is the crate `convert`.
 #![tactic(auto)]
 
+mod failing;
 pub mod feeding;
 pub mod print;
 pub mod report;

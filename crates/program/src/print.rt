@@ -1,7 +1,7 @@
 // Printing. A write that fails is told on standard error.
 ghost use Rattle.std.specs.Prelude.{◌≡◌, length};
 
-use libc::STDOUT_FILENO;
+use crate::failing::tell;
 
 // How many bytes were handed to a write, and whether it failed.
 #[derive(Clone, Copy)]
@@ -11,15 +11,18 @@ pub struct Handed {
 }
 
 // Hands the text to a write.
-pub fn print(text: &[u8]) -> Handed
+pub fn print(rt: &HostRuntime, text: &[u8]) -> Handed
     ensures { result.size ≡ length text.now }
 {
-    let written = io::write_all(STDOUT_FILENO, text);
-    if !written {
-        os::fail(b"standard output");
-    }
+    let failed = match rt.write_all(text) {
+        Ok(()) => false,
+        Err(error) => {
+            tell(rt, "standard output", error);
+            true
+        }
+    };
     Handed {
         size: text.len(),
-        failed: !written,
+        failed,
     }
 }

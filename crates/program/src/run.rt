@@ -11,20 +11,20 @@ use session::kept::fresh;
 use words::layout::WORDS;
 
 // Hands the line of a refusal to a write. That it is this line is asked of the caller.
-fn print_refusal(number: u8, line: &[u8]) -> Handed
+fn print_refusal(rt: &HostRuntime, number: u8, line: &[u8]) -> Handed
     requires { RefusalLine number line.now }
     ensures { result.size ≡ length line.now }
 {
-    print(line)
+    print(rt, line)
 }
 
 // The table is refused: that is printed, and nothing is read.
-fn refuse(number: u8) -> Ending
+fn refuse(rt: &HostRuntime, number: u8) -> Ending
     ensures { Refused number result }
 {
     let mut text = [0u8; 64];
     let size = put_refusal(number, &mut text);
-    let handed = print_refusal(number, &text[..size]);
+    let handed = print_refusal(rt, number, &text[..size]);
     Ending {
         session: fresh(),
         going: false,
@@ -35,12 +35,12 @@ fn refuse(number: u8) -> Ending
 }
 
 // "compiles, feeds standard input": what the program does with the table's bytes.
-pub fn run(table: &[u8]) -> Ending
+pub fn run(rt: &HostRuntime, table: &[u8]) -> Ending
     ensures { Ran table.now result }
 {
     let mut words = [0u16; WORDS];
     match compile(table, &mut words) {
-        Compiled::Refused(number) => refuse(number),
-        Compiled::Accepted => convert_input(&words),
+        Compiled::Refused(number) => refuse(rt, number),
+        Compiled::Accepted => convert_input(rt, &words),
     }
 }

@@ -1,6 +1,11 @@
 // The table's file.
 ghost use Rattle.std.specs.Prelude.{◌≡◌, ◌≤◌, length};
 
+use crate::failing::tell;
+use std::fs::File;
+use std::io::{ErrorKind, Read};
+use std::{fs, io};
+
 // Whether the table could be read, and how many bytes it has.
 #[derive(Clone, Copy)]
 pub struct Found {
@@ -9,10 +14,10 @@ pub struct Found {
 }
 
 // A file that is there and can't be read is told on standard error.
-fn unreadable() -> Found
+fn unreadable(rt: &HostRuntime, error: io::Error) -> Found
     ensures { result.size ≡ 0 }
 {
-    os::fail(b"rules.tab");
+    tell(rt, "rules.tab", error);
     Found {
         readable: false,
         size: 0,
@@ -20,21 +25,16 @@ fn unreadable() -> Found
 }
 
 // Reads until the table is full or the file ends.
-fn read_to_end(fd: i32, table: &mut [u8]) -> Found
+fn read_to_end(rt: &HostRuntime, file: &mut File, table: &mut [u8]) -> Found
     ensures { result.size ≤ length table.old }
 {
     let mut size: usize = 0;
     while size < table.len() {
-        let rest = &mut table[size..];
-        let got = libc::read(fd, rest);
-        if got < 0 {
-            return unreadable();
+        match file.read(&mut table[size..]) {
+            Ok(0) => break,
+            Ok(more) => size += more,
+            Err(error) => return unreadable(rt, error),
         }
-        let more = io::count(got, rest);
-        if more == 0 {
-            break;
-        }
-        size += more;
     }
     Found {
         readable: true,
@@ -43,20 +43,15 @@ fn read_to_end(fd: i32, table: &mut [u8]) -> Found
 }
 
 // "`rules.tab` (first 32,768 bytes; a missing file is an empty table)"
-pub fn read_table(table: &mut [u8]) -> Found
+pub fn read_table(rt: &HostRuntime, table: &mut [u8]) -> Found
     ensures { result.size ≤ length table.new }
 {
-    let fd = os::open_read(b"rules.tab");
-    if fd < 0 {
-        if os::errno() == libc::ENOENT {
-            return Found {
-                readable: true,
-                size: 0,
-            };
-        }
-        return unreadable();
+    match fs::open(rt, "rules.tab") {
+        Ok(mut file) => read_to_end(rt, &mut file, table),
+        Err(error) if error.kind() == ErrorKind::NotFound => Found {
+            readable: true,
+            size: 0,
+        },
+        Err(error) => unreadable(rt, error),
     }
-    let found = read_to_end(fd, table);
-    libc::close(fd);
-    found
 }

@@ -6,4 +6,4 @@ use Rattle.program.proofs.run.run as run
 use Rattle.promises.specs.EntryPoint.{EntryPoint}
 
 unfoldable pub Program : Type 2
-Program = EntryPoint run.ended run.Symbol.routine (λ κs (table, _) ending _. Ran table.now ending ∷ [])
+Program = EntryPoint run.ended run.Symbol.routine (λ κs (rt, (table, _)) ending _. Ran table.now ending ∷ [])

@@ -4,7 +4,7 @@ use mathlib.Core.Bool.{Bool, true, false, ◌||◌, false≢true}
 use mathlib.Core.List.{List, [], ◌∷◌, ◌++◌, append-nil, append_assoc}
 use mathlib.Core.Logic.{◌≢◌}
 use mathlib.Core.Path.{◌≡◌, refl, sym, ap, subst, ◌∙◌}
-use Prim.Native.Nat.{ℕ, ◌+◌, ◌<◌}
+use Prim.Native.Nat.{ℕ, ◌<◌}
 use native.Mathlib.Omega.{arith}
 use lib.Dec.{T}
 use lib.ListN.{length, take, length-append}
@@ -26,7 +26,7 @@ use Rattle.reckoning.proofs.Laws.Trace.{trace, log_of}
 use Rattle.reckoning.proofs.Laws.Run.{NotClosed, run_unended}
 use Rattle.reckoning.proofs.Laws.Demand3.{outcomes_agree}
 use Rattle.reckoning.proofs.Laws.Whole.{run_is, meaning_is}
-use Rattle.program.specs.Text.{hex_lines, StatusLine, AcceptedLines, PrintedFor}
+use Rattle.program.specs.Text.{hex_line, hex_lines, StatusLine, AcceptedLines, PrintedFor}
 use Rattle.program.specs.Turns.{call_on, waits, TurnOn, Turns, no_turn, a_turn}
 use Rattle.program.specs.Claims.{Prints, PrintsMeaning}
 
@@ -60,7 +60,7 @@ pieces_more (d ∷ cs) c (accepted x ∷ xs) a e =
 
 hex_append : (xs ys : List ℕ) → hex_lines (xs ++ ys) ≡ hex_lines xs ++ hex_lines ys
 unfolding hex_lines
-hex_append xs ys = flat_map_append _ xs ys
+hex_append xs ys = flat_map_append hex_line xs ys
 
 -- an accepted call's session has the answer's status, a refused one's is as found
 abbrev LeftBy : Session → CallOutcome → Outcome Answer → Type 0

@@ -22,7 +22,7 @@ use Rattle.session.specs.Keeping.{session_of}
 use Rattle.session.specs.declared.kept.Session as Code
 use Rattle.program.specs.declared.feeding.Piece.{Piece}
 use Rattle.program.specs.declared.feeding.Ending.{Ending}
-use Rattle.program.specs.Turns.{call_on, waits, Turned, TurnOn, Turns, no_turn, a_turn, Converted, EndsBy, Ran}
+use Rattle.program.specs.Turns.{call_on, waits, Turns, no_turn, a_turn, Converted, EndsBy, Ran}
 use Rattle.program.specs.bridge.Piece.{Unread, Taken, Pieced}
 
 received_open : (t : Status) (all gone : ℕ) → is_open t ≡ true → received_by t all gone ≡ all
