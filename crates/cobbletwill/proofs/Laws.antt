@@ -4,8 +4,6 @@ pub mod Typed
 pub mod Answers
 pub mod Claims
 pub mod Caller
-pub mod Lent
 pub mod Chains
 pub mod ChainClaims
 pub mod ChainCaller
-pub mod ChainLent

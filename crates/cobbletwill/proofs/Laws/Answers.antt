@@ -7,21 +7,19 @@ use mathlib.Core.Path.{◌≡◌, refl, sym, ap, subst, ◌∙◌}
 use Prim.Native.Nat.{ℕ}
 use native.Mathlib.Omega.{arith}
 use lib.Dec.{T, eqb}
-use lib.ListN.{length, drop}
+use lib.ListN.{drop}
 use Rattle.lists.specs.Lists.{any}
 use Rattle.lists.proofs.Laws.Tests.{or_right, one_of}
 use Rattle.meaning.specs.Refusal.{Outcome, refused, accepted, and_then, RefusedBy}
 use Rattle.meaning.specs.Table.{Table}
 use Rattle.meaning.specs.Reader.{read_table}
 use Rattle.meaning.specs.Direct.{Converted, DirectOutcome, checked, direct}
-use Rattle.meaning.specs.Claims.{DirectAnswers}
 use Rattle.meaning.proofs.Laws.Refusal.{by_then, accepted_not, refused_same}
 use Rattle.meaning.proofs.Laws.Direct.{table_refusals, keeps_read, read_keeps, table_refused, direct_answers, direct_accepts}
 use Rattle.automaton.specs.Compile.{compile}
 use Rattle.automaton.proofs.Laws.Compile.{compile_answers, compile_accepts}
 use Rattle.cobbletwill.specs.Face.{check_code, code_of, place_of, written_of}
-use Rattle.cobbletwill.specs.Promised.{Checks, Converts, Compiles}
-use Rattle.cobbletwill.specs.Answers.{CheckFace, ChecksAnswer, ConvertFace, ConvertsAnswer, CompileFace, CompilesAnswer}
+use Rattle.cobbletwill.specs.Answers.{ChecksAnswer, ConvertFace, ConvertsAnswer, CompileFace, CompilesAnswer}
 
 -- what the number of an outcome tells
 

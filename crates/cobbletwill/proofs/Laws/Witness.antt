@@ -1,7 +1,7 @@
 -- Request [6] as C sees it: the numbers tell what the check came to, and what holds of every check holds of them.
 -- No refusal has the number of another answer; the input's length is told before its places.
 use mathlib.Core.List.{List, [], ◌∷◌}
-use mathlib.Core.Logic.{◌≢◌, ◌↔◌}
+use mathlib.Core.Logic.{◌≢◌}
 use mathlib.Core.Option.{Option, none, some}
 use mathlib.Core.Path.{◌≡◌, refl, sym, ap, subst, ◌∙◌}
 use Prim.Native.Nat.{ℕ, ◌≤◌}
@@ -15,10 +15,6 @@ use Rattle.meaning.specs.Refusal.{Outcome, refused, accepted, RefusedBy}
 use Rattle.meaning.specs.Table.{Table}
 use Rattle.meaning.specs.Block.{at}
 use Rattle.meaning.specs.Choices.{Shows}
-use Rattle.meaning.proofs.Laws.Refusal.{accepted_not, accepted_same, refused_same}
-use Rattle.automaton.specs.Layout.{word_count}
-use Rattle.automaton.specs.Compile.{compile}
-use Rattle.automaton.specs.Claims.{KeepsCompiling}
 use Rattle.automaton.specs.Witness.{Exact, RuleChecked, RulesChecked}
 use Rattle.automaton.proofs.Laws.Compile.{compile_answers}
 use Rattle.automaton.proofs.Laws.Judging.{rules_checked}

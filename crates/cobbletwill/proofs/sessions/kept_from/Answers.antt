@@ -3,12 +3,10 @@
 use mathlib.Core.List.{List}
 use mathlib.Core.Path.{ap}
 use Prim.Native.Nat.{ℕ}
-use borrow.Author.Rules.{rules}
 use Rattle.reckoning.specs.Machine.{Status}
 use Rattle.reckoning.specs.Session.{Session}
 use Rattle.cobbletwill.specs.declared.sessions.SessionNumbers.{SessionNumbers}
-use Rattle.cobbletwill.proofs.sessions.kept_from.Statement.{statement}
-use Rattle.cobbletwill.proofs.sessions.kept_from.Tie as tie
+use Rattle.cobbletwill.proofs.sessions.kept_from.Goals as goal
 
 -- a session of the numbers and the counts of uses but for its status
 abbrev withStatus : SessionNumbers → List ℕ → Status → Session
@@ -24,8 +22,5 @@ withStatus n uses s =
       uses = uses;
     }
 
-returns : tie.Need-returns
-returns c = λ uses. ap (withStatus c.before.before.before.args.numbers uses) c.status-from.ensures
-
-pub kept-from-spec : {M : Type 1} → statement M
-kept-from-spec = tie.close (tie.spec (λ c κs. search rules) returns)
+pub returns : goal.returns
+returns c = λ uses. ap (withStatus c.args.numbers uses) c.status_from.ensures

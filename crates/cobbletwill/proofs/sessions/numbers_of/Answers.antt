@@ -3,20 +3,15 @@
 use mathlib.Core.List.{[]}
 use mathlib.Core.Path.{ap}
 use Prim.Native.Nat.{ℕ}
-use borrow.Author.Rules.{rules}
 use Rattle.reckoning.specs.Session.{Session}
 use Rattle.session.specs.Keeping.{together, session_of}
 use Rattle.cobbletwill.specs.declared.sessions.SessionNumbers.{SessionNumbers}
-use Rattle.cobbletwill.proofs.sessions.numbers_of.Statement.{statement}
-use Rattle.cobbletwill.proofs.sessions.numbers_of.Tie as tie
+use Rattle.cobbletwill.proofs.sessions.numbers_of.Goals as goal
 
 -- the numbers of a session but for its status
 abbrev withStatus : Session → ℕ → SessionNumbers
 withStatus s n =
     record { received = s.received; tally = record { produced = s.produced; steps = s.steps }; status = n; state = s.state; held_count = s.count; held = s.held }
 
-returns : tie.Need-returns
-returns c = ap (withStatus (session_of (together c.before.before.args.kept []))) c.status-number.ensures
-
-pub numbers-of-spec : {M : Type 1} → statement M
-numbers-of-spec = tie.close (tie.spec (λ c κs. search rules) returns)
+pub returns : goal.returns
+returns c = ap (withStatus (session_of (together c.args.kept []))) c.status_number.ensures

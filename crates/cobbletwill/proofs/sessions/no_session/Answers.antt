@@ -1,0 +1,11 @@
+-- `cobbletwill::sessions::no_session` meets its contract. Each way out knows what `is_sound` answered, which is the test's answer, and its number is
+-- that answer's.
+use mathlib.Core.Path.{ap, sym, ◌∙◌}
+use Rattle.cobbletwill.specs.Sessions.{no_session}
+use Rattle.cobbletwill.proofs.sessions.no_session.Goals as goal
+
+pub returns-then-is_sound : goal.returns-then-is_sound
+returns-then-is_sound c = ap no_session (sym c.if-is_sound.true ∙ c.is_sound.ensures)
+
+pub returns : goal.returns
+returns c = ap no_session (sym c.if-is_sound.false ∙ c.is_sound.ensures)
