@@ -1,10 +1,11 @@
 -- What it is to be an entry point: a function that meets a contract which asks nothing of its caller and says just this. Of a function the kit
--- makes `ended`, its signature, and `routine`, what the machine does on a call of it.
+-- makes `ended`, its signature, `name`, by which the machine calls it, and `code`, its code with that of all that it calls.
 use Rattle.std.specs.Prelude.{List, [], ◌∷◌}
 use seplogic.Ra.Ura.{Ura}
 use base.Logic.{SProp}
 use prog.Model.{Model}
-use prog.Routine.{Routine}
+use prog.Wired.{Wired, Code}
+use mir.Syntax.{Callee}
 use types.Logic.{Logic}
 use contract.Lifetimes.{Lfts}
 use contract.Notation.{connectives}
@@ -28,8 +29,9 @@ abbrev pub stating : {M : Type 1} (𝓤 : Ura M) (T : Ended) → Says T → Clau
 stating 𝓤 T says κs found =
     record { ghost = Unit {0}; requires = λ g. (connectives 𝓤).⊤ₛ; ensures = λ g result left. facts 𝓤 (says κs found result left) }
 
--- A call of the function is safe, ends and leaves what the contract says: `Meets`, the kit's notion, in every model of memory and of ghost state.
-abbrev pub EntryPoint : (T : Ended) → Routine → Says T → Type 2
-EntryPoint T routine says =
-    (M : Type 1) (𝓤 : Ura M) (𝓛 : Logic 𝓤) (𝓜 : Model 𝓤 𝓛.H) (𝓡 : Running 𝓤 𝓛.H 𝓜) →
-    Meets 𝓛 T.signature (𝓡.run routine) (closing 𝓛 T (stating 𝓤 T says))
+-- A call of the function is safe, ends and leaves what the contract says: `Meets`, the kit's notion, in every model of memory and of ghost state,
+-- on every machine that has the function's code (`Wired`).
+abbrev pub EntryPoint : (T : Ended) → Callee → Code → Says T → Type 2
+EntryPoint T name code says =
+    (M : Type 1) (𝓤 : Ura M) (𝓛 : Logic 𝓤) (𝓜 : Model 𝓤 𝓛.H) (𝓡 : Running 𝓤 𝓛.H 𝓜) → Wired 𝓡.env code →
+    Meets 𝓛 T.signature (𝓡.run (𝓡.env name)) (closing 𝓛 T (stating 𝓤 T says))

@@ -2,8 +2,9 @@
 -- by C functions whose contracts the kit assumes; no other promise rests on these.
 use Rattle.std.specs.Prelude.{[], ◌∷◌}
 use Rattle.program.specs.Turns.{Ran}
-use Rattle.program.proofs.run.run as run
+use Rattle.program.specs.contracts.run.run as run
+use Rattle.program.proofs.run.run.Symbol as run_code
 use Rattle.promises.specs.EntryPoint.{EntryPoint}
 
 unfoldable pub Program : Type 2
-Program = EntryPoint run.ended run.Symbol.routine (λ κs (rt, (table, _)) ending _. Ran table.now ending ∷ [])
+Program = EntryPoint run.ended run_code.name run_code.code (λ κs (rt, (table, _)) ending _. Ran table.now ending ∷ [])

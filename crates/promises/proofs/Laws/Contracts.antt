@@ -2,7 +2,7 @@
 -- It is the theorem of the function's own crate, since the contract there is this one.
 use Rattle.rules.proofs.convert.check.Met as check
 use Rattle.rules.proofs.convert.convert.Met as convert
-use Rattle.typed.proofs.text.from_text.Met as from_text_lem
+use Rattle.typed.proofs.text.from_text.Met as from_text
 use Rattle.machine.proofs.compile.compile.Met as compile
 use Rattle.witness.proofs.check.witness.Met as witness
 use Rattle.words.proofs.sound_words.is_sound.Met as is_sound
@@ -41,7 +41,7 @@ pub contracts : Contracts
 contracts = record {
   check = λ M. check.met;
   convert = λ M. convert.met;
-  from_text_lem = λ M. from_text_lem.met;
+  from_text = λ M. from_text.met;
   compile = λ M. compile.met;
   witness = λ M. witness.met;
   is_sound = λ M. is_sound.met;
