@@ -1,4 +1,4 @@
-// Chains as C calls them: feed and finish of two sessions over plain numbers. include/cobbletwill.h declares the two exported functions. Each
+// Chains as C calls them: feed and finish of two sessions over plain numbers. The crate `cobbletwill_c` exports two of these functions, and include/cobbletwill.h declares them. Each
 // session is lent in two parts, as for feed and finish of one.
 ghost use Rattle.std.specs.Prelude.{◌&&◌, [], ◌≡◌};
 ghost use Rattle.automaton.specs.Sound.{sound};
@@ -164,8 +164,7 @@ fn finish_numbers(
 
 // The second's status, 0 closed, 64 stopped, 65 open, with both sessions, the number of characters that the second wrote and the first's status set;
 // else the number of the refusal, 11 to 15 or 18, and nothing is written.
-#[unsafe(no_mangle)]
-pub extern "C" fn cobbletwill_chain_feed_parts(
+pub fn cobbletwill_chain_feed_parts(
     first_words: &[u16],
     first: &mut SessionNumbers,
     first_uses: &mut [u64; 34],
@@ -206,8 +205,7 @@ pub extern "C" fn cobbletwill_chain_feed_parts(
 }
 
 // The same for the end of the input.
-#[unsafe(no_mangle)]
-pub extern "C" fn cobbletwill_chain_finish_parts(
+pub fn cobbletwill_chain_finish_parts(
     first_words: &[u16],
     first: &mut SessionNumbers,
     first_uses: &mut [u64; 34],

@@ -1,5 +1,5 @@
 // The C face: each answer as a number; the place, the number of characters written, the status of a chain's first machine, a length and an input that shows a
-// rule through pointers. include/cobbletwill.h declares these functions.
+// rule through pointers. The crate `cobbletwill_c` exports these functions, and include/cobbletwill.h declares them.
 #![tactic(auto)]
 
 pub mod chains;
@@ -17,16 +17,14 @@ use witness::check::{Input, Judgement, witness};
 use words::sound_words::is_sound;
 
 // The version of the library, 0.11.0 in one number: 65536 times the first, 256 times the second, and the third.
-#[unsafe(no_mangle)]
-pub extern "C" fn cobbletwill_version() -> u32
+pub fn cobbletwill_version() -> u32
     ensures { result ≡ 2816 }
 {
     2816
 }
 
 // 0 for a table that keeps the rules, else the number of its refusal, 1 to 7.
-#[unsafe(no_mangle)]
-pub extern "C" fn cobbletwill_check(table: &[u8]) -> u32
+pub fn cobbletwill_check(table: &[u8]) -> u32
     ensures { Checks table.now result }
 {
     let verdict = check(table);
@@ -37,8 +35,7 @@ pub extern "C" fn cobbletwill_check(table: &[u8]) -> u32
 }
 
 // 0 for closed and 64 for stopped, with the place and the number of characters written set; else the number of the refusal, 1 to 7, 14 or 15, and nothing changed.
-#[unsafe(no_mangle)]
-pub extern "C" fn cobbletwill_convert(
+pub fn cobbletwill_convert(
     table: &[u8],
     input: &[u16],
     output: &mut [u16],
@@ -71,8 +68,7 @@ pub extern "C" fn cobbletwill_convert(
 }
 
 // 0 with the words of the table; else the number of the refusal, 1 to 9 with the 19,961 words zero, or 10 with nothing changed.
-#[unsafe(no_mangle)]
-pub extern "C" fn cobbletwill_compile(table: &[u8], words: &mut [u16]) -> u32
+pub fn cobbletwill_compile(table: &[u8], words: &mut [u16]) -> u32
     ensures { Compiles table.now words.old result words.new }
 {
     let compiled = compile(table, words);
@@ -99,13 +95,7 @@ fn put_input(input: Input, numbers: &mut [u16; 10])
 
 // 0 for a live rule with an input set on which it is the first choice, 66 for a dead rule with the input of no character set; else the number of the
 // refusal of compiling, and the input as found. The words are those that compiling leaves.
-#[unsafe(no_mangle)]
-pub extern "C" fn cobbletwill_witness(
-    table: &[u8],
-    words: &mut [u16],
-    rule: u32,
-    input: &mut [u16; 10],
-) -> u32
+pub fn cobbletwill_witness(table: &[u8], words: &mut [u16], rule: u32, input: &mut [u16; 10]) -> u32
     ensures { Witnessed table.now words.old rule input.old result words.new input.new }
 {
     let judged = witness(table, words, rule);
@@ -124,8 +114,7 @@ pub extern "C" fn cobbletwill_witness(
 }
 
 // 0 with the records of the typed text and their length in bytes set; else the number of the refusal, 16, 17, 2 to 7 or 15, and nothing changed.
-#[unsafe(no_mangle)]
-pub extern "C" fn cobbletwill_from_text(text: &[u16], table: &mut [u8], length: &mut u64) -> u32
+pub fn cobbletwill_from_text(text: &[u16], table: &mut [u8], length: &mut u64) -> u32
     ensures { TypedFace text.now table.old length.old result table.new length.new }
 {
     let typed = from_text(text, table);
@@ -139,8 +128,7 @@ pub extern "C" fn cobbletwill_from_text(text: &[u16], table: &mut [u8], length: 
 }
 
 // 1 for sound words, 0 for words that no machine runs on.
-#[unsafe(no_mangle)]
-pub extern "C" fn cobbletwill_is_sound(words: &[u16]) -> u32
+pub fn cobbletwill_is_sound(words: &[u16]) -> u32
     ensures { TestsWords words.now result }
 {
     if is_sound(words) {

@@ -1,4 +1,4 @@
-// Sessions as C holds them: feed, finish and preview over plain numbers. include/cobbletwill.h declares the three exported functions. A session is
+// Sessions as C holds them: feed, finish and preview over plain numbers. The crate `cobbletwill_c` exports three of these functions, and include/cobbletwill.h declares them. A session is
 // lent in two parts, its counts of uses by themselves, so that a feed or a finish changes these in place and copies none of them.
 ghost use Rattle.std.specs.Prelude.{[], ◌≡◌};
 ghost use Rattle.automaton.specs.Sound.{sound};
@@ -213,8 +213,7 @@ fn preview_numbers(
 
 // 0 closed, 64 stopped, 65 open, with the session and the number of characters written set; else the number of the refusal, 11 to 15, and
 // nothing is written.
-#[unsafe(no_mangle)]
-pub extern "C" fn cobbletwill_feed_parts(
+pub fn cobbletwill_feed_parts(
     words: &[u16],
     session: &mut SessionNumbers,
     uses: &mut [u64; 34],
@@ -234,8 +233,7 @@ pub extern "C" fn cobbletwill_feed_parts(
 }
 
 // The same for the end of the input.
-#[unsafe(no_mangle)]
-pub extern "C" fn cobbletwill_finish_parts(
+pub fn cobbletwill_finish_parts(
     words: &[u16],
     session: &mut SessionNumbers,
     uses: &mut [u64; 34],
@@ -255,8 +253,7 @@ pub extern "C" fn cobbletwill_finish_parts(
 
 // 64 stopped, 65 open, with the later session and the number of characters that a feed would write set; else the number of the refusal, 11 to
 // 14, and nothing is written. The session is only read.
-#[unsafe(no_mangle)]
-pub extern "C" fn cobbletwill_preview_parts(
+pub fn cobbletwill_preview_parts(
     words: &[u16],
     session: &SessionNumbers,
     uses: &[u64; 34],
