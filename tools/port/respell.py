@@ -32,6 +32,11 @@ def is_word(name):
     return re.fullmatch(r"[A-Za-z0-9'_₀-₉-]+", name) and not name.startswith(MADE) and name not in LIBRARY
 
 
+def is_own_proof(path):
+    """Whether the file is what is written of one function's proof."""
+    return path.name in OWN_PROOF and "proofs" in path.parts and path.parent.name != "Laws"
+
+
 def texts(root):
     for p in sorted((root / "crates").rglob("*")):
         if p.suffix in (".antt", ".rt") and "out" not in p.parts:
@@ -42,7 +47,7 @@ def declared(root):
     """The names that specs/ and lemma files declare, each with whether a file of specs/ does."""
     found = collections.defaultdict(bool)
     for p in texts(root):
-        if p.suffix == ".rt" or p.name in OWN_PROOF or re.search(r"Var\d+$", p.stem):
+        if p.suffix == ".rt" or is_own_proof(p) or re.search(r"Var\d+$", p.stem):
             continue
         for line in p.read_text().splitlines():
             m = DECLARED.match(line)
@@ -70,7 +75,7 @@ def turn(path, names):
     lines = path.read_text().split("\n")
     comment = "--" if path.suffix == ".antt" else "//"
     camel = {a: b for a, b in names.items() if re.search(r"[a-z0-9][A-Z]", a)}
-    own = path.name in OWN_PROOF
+    own = is_own_proof(path)
     for i, line in enumerate(lines):
         at = re.search(r"(^|\s)" + comment, line)
         code, said = (line, "") if not at else (line[: at.start()], line[at.start() :])
@@ -85,6 +90,18 @@ def turn(path, names):
         said = re.sub(r"`[^`]*`", lambda m: re.sub(WORD.replace("|]", "|`]"), lambda w: names.get(w[0], w[0]), m[0]), said)
         lines[i] = code + said
     path.write_text("\n".join(lines))
+
+
+def local_names(root):
+    """The names in camel case that are left: those of local helpers, bound variables and imports under another name."""
+    found = {}
+    for p in texts(root):
+        for line in p.read_text().splitlines():
+            code = re.split(r"(?:^|\s)(?:--|//)", line)[0]
+            for name in re.findall(r"(?<![\w'])[a-z][a-z0-9_]*[A-Z][\w']*", code):
+                if not re.search(r"_[A-Z]", name):
+                    found[name] = snake(name)
+    return found
 
 
 def rename_contracts(root):
@@ -111,6 +128,10 @@ def main():
         return
     for p in texts(root):
         turn(p, names)
+    local = local_names(root)
+    for p in texts(root):
+        turn(p, local)
+    names.update(local)
     rename_contracts(root)
     for a, b in sorted(names.items()):
         print(a, b)

@@ -44,10 +44,10 @@ pub record NoSession (w : List ℕ) (answer : ℕ) : Type 0 where
 
 unfoldable pub OtherStatuses : Type 0
 OtherStatuses =
-    (w : List ℕ) (n : SessionNumbers) (uses piece buffer : List ℕ) (later : SessionNumbers) (laterUses : List ℕ) (found : ℕ) → 2 < n.status →
+    (w : List ℕ) (n : SessionNumbers) (uses piece buffer : List ℕ) (later : SessionNumbers) (later_uses : List ℕ) (found : ℕ) → 2 < n.status →
     NoSession w (feed w n uses piece buffer found).answer
     × NoSession w (finish w n uses buffer found).answer
-    × NoSession w (preview w n uses piece later laterUses found).answer
+    × NoSession w (preview w n uses piece later later_uses found).answer
 
 -- After a finish no session waits for more: it answers closed or stopped, or a refusal.
 unfoldable pub FinishesEnd : Type 0
@@ -61,8 +61,8 @@ pub record PreviewAnswers (later : SessionNumbers) (uses : List ℕ) (found : �
 
 unfoldable pub PreviewsAnswer : Type 0
 PreviewsAnswer =
-    (w : List ℕ) (n : SessionNumbers) (uses piece : List ℕ) (later : SessionNumbers) (laterUses : List ℕ) (found : ℕ) →
-    PreviewAnswers later laterUses found (preview w n uses piece later laterUses found)
+    (w : List ℕ) (n : SessionNumbers) (uses piece : List ℕ) (later : SessionNumbers) (later_uses : List ℕ) (found : ℕ) →
+    PreviewAnswers later later_uses found (preview w n uses piece later later_uses found)
 
 abbrev pub is_refusal : ℕ → Bool
 is_refusal answer = leb 11 answer && leb answer 15
@@ -71,8 +71,8 @@ is_refusal answer = leb 11 answer && leb answer 15
 -- leaves what such a feed answers and leaves in the session, its counts of uses and the number written; where that refuses, it refuses alike.
 unfoldable pub PreviewsFeed : Type 0
 PreviewsFeed =
-    (w : List ℕ) (n : SessionNumbers) (uses piece buffer : List ℕ) (later : SessionNumbers) (laterUses : List ℕ) (found : ℕ) →
+    (w : List ℕ) (n : SessionNumbers) (uses piece buffer : List ℕ) (later : SessionNumbers) (later_uses : List ℕ) (found : ℕ) →
     expansion_word w * (n.held_count + length piece) ≤ length buffer →
     let o = feed w n uses piece buffer found in
-    preview w n uses piece later laterUses found
-    ≡ cond (is_refusal o.answer) (previewed o.answer later laterUses found) (previewed o.answer o.session o.uses o.written)
+    preview w n uses piece later later_uses found
+    ≡ cond (is_refusal o.answer) (previewed o.answer later later_uses found) (previewed o.answer o.session o.uses o.written)

@@ -40,7 +40,7 @@ Finishes w n uses buffer found back = back ≡ finish w n uses buffer found
 
 -- preview: words, session in its two parts and piece; the later session in its two parts and the number written as found; what it came to
 abbrev pub Previews : List ℕ → SessionNumbers → List ℕ → List ℕ → SessionNumbers → List ℕ → ℕ → PreviewedFace → Type 0
-Previews w n uses piece later laterUses found back = back ≡ preview w n uses piece later laterUses found
+Previews w n uses piece later later_uses found back = back ≡ preview w n uses piece later later_uses found
 
 -- feed of a chain: words and session in its two parts of the first, then of the second, piece, middle buffer, output buffer, number written and
 -- first's status as found; what it came to

@@ -79,7 +79,7 @@ face_of o found = left (answer_code o.answer) (numbers_of o.session) o.session.u
 
 -- numbers with a status above 2 are no session's: "12 session not sound", after "11 under 19,961 words or not sound"
 abbrev pub no_session : Bool → ℕ
-no_session soundWords = cond soundWords 12 11
+no_session sound_words = cond sound_words 12 11
 
 -- a call of the session that the numbers and the counts of uses are; where they are none's, a refusal that changes nothing
 abbrev pub called_by : (Session → CallOutcome) → List ℕ → SessionNumbers → List ℕ → List ℕ → ℕ → CalledFace
@@ -110,6 +110,6 @@ preview_face (accepted s) later uses found = previewed (status_code s.status) (n
 
 -- words, session in its two parts, piece; the later session in its two parts and the number written as found
 unfoldable pub preview : List ℕ → SessionNumbers → List ℕ → List ℕ → SessionNumbers → List ℕ → ℕ → PreviewedFace
-preview w n uses piece later laterUses found =
-    cond (ltb 2 n.status) (previewed (no_session (sound w)) later laterUses found)
-    (preview_face (Preview.preview w (session_from n uses) piece) later laterUses found)
+preview w n uses piece later later_uses found =
+    cond (ltb 2 n.status) (previewed (no_session (sound w)) later later_uses found)
+    (preview_face (Preview.preview w (session_from n uses) piece) later later_uses found)

@@ -1,5 +1,5 @@
-// Chains as C calls them: feed and finish of two sessions over plain numbers. The crate `cobbletwill_c` exports two of these functions, and include/cobbletwill.h declares them. Each
-// session is lent in two parts, as for feed and finish of one.
+// Chains as C calls them: feed and finish of two sessions over plain numbers. The crate `cobbletwill_c` exports two of these functions, and
+// include/cobbletwill.h declares them. Each session is lent in two parts, as for feed and finish of one.
 ghost use Rattle.std.specs.Prelude.{◌&&◌, [], ◌≡◌};
 ghost use Rattle.automaton.specs.Sound.{sound};
 ghost use Rattle.session.specs.Keeping.{together, session_of};

@@ -1,5 +1,5 @@
-// The C face: each answer as a number; the place, the number of characters written, the status of a chain's first machine, a length and an input that shows a
-// rule through pointers. The crate `cobbletwill_c` exports these functions, and include/cobbletwill.h declares them.
+// The C face: each answer as a number; the place, the number of characters written, the status of a chain's first machine, a length and an input
+// that shows a rule through pointers. The crate `cobbletwill_c` exports these functions, and include/cobbletwill.h declares them.
 #![tactic(auto)]
 
 pub mod chains;

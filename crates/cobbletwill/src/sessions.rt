@@ -1,5 +1,6 @@
-// Sessions as C holds them: feed, finish and preview over plain numbers. The crate `cobbletwill_c` exports three of these functions, and include/cobbletwill.h declares them. A session is
-// lent in two parts, its counts of uses by themselves, so that a feed or a finish changes these in place and copies none of them.
+// Sessions as C holds them: feed, finish and preview over plain numbers. The crate `cobbletwill_c` exports three of these functions, and
+// include/cobbletwill.h declares them. A session is lent in two parts, its counts of uses by themselves, so that a feed or a finish changes these
+// in place and copies none of them.
 ghost use Rattle.std.specs.Prelude.{[], ◌≡◌};
 ghost use Rattle.automaton.specs.Sound.{sound};
 ghost use Rattle.session.specs.Keeping.{meant_status, together, session_of};

@@ -1,7 +1,7 @@
 // Parts of an expression, brought to constant and coefficients: their sums, differences and products, each within its limits.
 ghost use Rattle.std.specs.Prelude.{◌≡◌, ◌&&◌, ◌≤◌, ◌<◌, length};
 ghost use Rattle.std.specs.Int.Signed.{mag};
-ghost use Rattle.expression.specs.Parts.{flat as flatOf, broken as brokenPart, checked as checkedPart, scaled as scaledPart, number_part, place_part, plus_part, minus_part, times_part};
+ghost use Rattle.expression.specs.Parts.{flat as flat_of, broken as broken_part, checked as checked_part, scaled as scaled_part, number_part, place_part, plus_part, minus_part, times_part};
 ghost use Rattle.expression.specs.bridge.Forms.{Small};
 
 // A part brought to its constant (the first number) and its coefficients by position. Not fine: refusal 17 was met.
@@ -12,7 +12,7 @@ pub struct Part {
 }
 
 pub fn broken() -> Part
-    ensures { result ≡ brokenPart }
+    ensures { result ≡ broken_part }
 {
     Part {
         fine: false,
@@ -47,7 +47,7 @@ pub fn place(k: usize) -> Part
 // The numbers with each in signed 32 bits, or broken.
 fn checked(fine: bool, ns: [i64; 9]) -> Part
     requires { length ns ≡ 9 }
-    ensures { result ≡ checkedPart fine ns }
+    ensures { result ≡ checked_part fine ns }
 {
     if !fine {
         return broken();
@@ -107,7 +107,7 @@ pub fn minus(a: Part, b: Part) -> Part
 
 fn scaled(fine: bool, x: [i64; 9], k: i64) -> Part
     requires { Small x × (mag k < 2147483648) }
-    ensures { result ≡ scaledPart fine x k }
+    ensures { result ≡ scaled_part fine x k }
 {
     let mut z = [0i64; 9];
     let mut i = 0;
@@ -121,7 +121,7 @@ fn scaled(fine: bool, x: [i64; 9], k: i64) -> Part
 // No coefficient other than 0.
 fn flat(x: [i64; 9]) -> bool
     requires { length x ≡ 9 }
-    ensures { result ≡ flatOf x }
+    ensures { result ≡ flat_of x }
 {
     let mut i = 1;
     while i < 9 {

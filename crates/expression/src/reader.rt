@@ -2,7 +2,7 @@
 ghost use Rattle.std.specs.Prelude.{◌≤◌, length, drop};
 ghost use Rattle.expression.specs.Grammar.{fold};
 ghost use Rattle.expression.specs.Parts.{parts, number_part, place_part};
-ghost use Rattle.expression.specs.bridge.Text.{digits as digitsOf, map_read, place_digit, closed, atom, sum as sum_of, product as productOf, factor as factorOf, within, expression_of};
+ghost use Rattle.expression.specs.bridge.Text.{digits as digits_of, map_read, place_digit, closed, atom, sum as sum_of, product as product_of, factor as factor_of, within, expression_of};
 ghost use Rattle.expression.specs.bridge.Answers.{Answers, Joins, Refuses, read_of};
 ghost use Rattle.expression.specs.bridge.Forms.{Small};
 
@@ -34,7 +34,7 @@ fn none(next: usize) -> Reading
 
 fn number_at(s: &[u16], at: usize) -> Reading
     requires { at ≤ length s.now }
-    ensures { Answers s.now at (map_read number_part (digitsOf 0 (drop at s.now))) result }
+    ensures { Answers s.now at (map_read number_part (digits_of 0 (drop at s.now))) result }
 {
     let n = digits(s, at);
     if n.refused {
@@ -142,7 +142,7 @@ fn joined(a: Reading, code: u16, b: Reading) -> Reading
 #[cycle(factor_product_sum)]
 fn factor(s: &[u16], at: usize, depth: usize) -> Reading
     requires { at ≤ length s.now }
-    ensures { Answers s.now at (factorOf parts (within parts depth) (drop at s.now)) result }
+    ensures { Answers s.now at (factor_of parts (within parts depth) (drop at s.now)) result }
 {
     let j = skip(s, at);
     let c = code_at(s, j);
@@ -158,7 +158,7 @@ fn factor(s: &[u16], at: usize, depth: usize) -> Reading
 #[cycle(factor_product_sum)]
 fn product(s: &[u16], at: usize, depth: usize) -> Reading
     requires { at ≤ length s.now }
-    ensures { Answers s.now at (productOf parts (within parts depth) (drop at s.now)) result }
+    ensures { Answers s.now at (product_of parts (within parts depth) (drop at s.now)) result }
 {
     let mut so_far = factor(s, at, depth);
     let mut op = star(s, so_far.refused, so_far.next);

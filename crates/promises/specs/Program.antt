@@ -1,5 +1,5 @@
--- What the program `convert` does from the table's bytes on, as the contract of the one function that `main` calls with them. It reads and writes
--- by C functions whose contracts the kit assumes; no other promise rests on these.
+-- What the program `convert` does from the table's bytes on, as the contract of the one function that `main` calls with them. It reads and writes by
+-- std, over C functions whose contracts the kit assumes; no other promise rests on these.
 use Rattle.std.specs.Prelude.{[], ◌∷◌}
 use Rattle.program.specs.Turns.{Ran}
 use Rattle.program.specs.contracts.run.run as run

@@ -8,7 +8,7 @@ use Rattle.automaton.specs.Compile as Compile
 use Rattle.automaton.specs.Sound.{sound}
 use Rattle.automaton.specs.Witness.{Checked}
 use Rattle.reckoning.specs.Session as Session
-use Rattle.rules.specs.Answers.{check_of, conversionOf}
+use Rattle.rules.specs.Answers.{check_of, conversion_of}
 use Rattle.typed.specs.Answers.{typed_of}
 use Rattle.typed.specs.Typed.{FromText}
 use Rattle.machine.specs.Compiled.{compiled_of}
@@ -103,7 +103,7 @@ pub record Contracts : Type 2 where
   -- rules::convert::convert
   pub convert : EntryPoint convert.ended convert_code.name convert_code.code
       (λ κs (table, (input, (output, _))) conversion (_, (_, (output', _))).
-      (conversionOf conversion ≡ (direct table.now input.now output.now).answer)
+      (conversion_of conversion ≡ (direct table.now input.now output.now).answer)
       ∷ (output'.now ≡ (direct table.now input.now output.now).output)
       ∷ [])
   -- typed::text::from_text

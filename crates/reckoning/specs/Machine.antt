@@ -103,17 +103,17 @@ module _ (m : Automaton) (ended : Bool) where
   unfoldable pub step : Configuration → Step
   step c =
       let go = m.accept c.state in
-      let atEnd = m.accept_at_end c.state in
+      let at_end = m.accept_at_end c.state in
       let next = not (is_empty c.unread) in
       let target = m.target c.state (get_or c.unread 0 0) in
       select (
       (c.due, fall_back c)
-      ∷ (used go && eqb go atEnd, emit c (pred go))
+      ∷ (used go && eqb go at_end, emit c (pred go))
       ∷ (next && used go, emit c (pred go))
       ∷ (next && used target, read c target)
       ∷ (next, roll_back c)
       ∷ (not ended, halt Open c)
-      ∷ (used atEnd, emit c (pred atEnd))
+      ∷ (used at_end, emit c (pred at_end))
       ∷ (not (is_empty c.store), roll_back c)
       ∷ []) (end Closed c)
 

@@ -6,10 +6,10 @@ use Rattle.rules.specs.declared.convert.Conversion.{Conversion}
 use Rattle.rules.specs.declared.convert.Verdict.{Verdict}
 
 -- "answers closed or stopped, the place and the output count"; "A refusal answers its number"
-abbrev pub conversionOf : Conversion → Outcome Converted
-conversionOf (Conversion.Closed place count) = accepted (record { closed = true; place = place; count = count })
-conversionOf (Conversion.Stopped place count) = accepted (record { closed = false; place = place; count = count })
-conversionOf (Conversion.Refused n) = refused n
+abbrev pub conversion_of : Conversion → Outcome Converted
+conversion_of (Conversion.Closed place count) = accepted (record { closed = true; place = place; count = count })
+conversion_of (Conversion.Stopped place count) = accepted (record { closed = false; place = place; count = count })
+conversion_of (Conversion.Refused n) = refused n
 
 abbrev pub check_of : Verdict → Outcome (Unit {0})
 check_of Verdict.Accepted = accepted tt

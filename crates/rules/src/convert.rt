@@ -6,7 +6,7 @@ ghost use Rattle.meaning.specs.Block.{at, block_size, blocks_size};
 ghost use Rattle.meaning.specs.Meaning.{covered};
 ghost use Rattle.meaning.specs.bridge.Flat.{Flat, size_at, count_at, expansion_at, flat_conversion, flat_write, flat_text, flat_direct};
 ghost use Rattle.meaning.specs.Direct.{over, checked, direct};
-ghost use Rattle.rules.specs.Answers.{conversionOf, check_of};
+ghost use Rattle.rules.specs.Answers.{conversion_of, check_of};
 ghost use Rattle.rules.specs.bridge.Modes.{the_mode};
 
 use crate::layout::{BLOCK, DEFAULT_OUTPUTS, LOADED, PAIR_GROUP};
@@ -127,7 +127,7 @@ fn convert_flat(
     requires block_size_value { present (the_mode mode) ≡ true → at loaded.now (32 * block_size) ≡ 1 }
     requires input_in_bounds { length (flat_text loaded.now (flat_conversion loaded.now rules (the_mode mode) input.now).log) ≤ length output.old }
     ensures answer { let whole = flat_conversion loaded.now rules (the_mode mode) input.now in
-        conversionOf result
+        conversion_of result
         ≡ accepted (record { closed = whole.closed; place = covered whole.log; count = length (flat_text loaded.now whole.log) }) }
     ensures text { let whole = flat_conversion loaded.now rules (the_mode mode) input.now in
         output.new ≡ over (flat_text loaded.now whole.log) output.old }
@@ -159,7 +159,7 @@ fn convert_loaded(
     requires block_size_value { present (the_mode mode) ≡ true → at loaded.now (32 * block_size) ≡ 1 }
     requires input_len_bound { length (flat_text loaded.now (flat_conversion loaded.now rules (the_mode mode) input.now).log)
         ≤ expansion_at loaded.now rules (the_mode mode) * length input.now }
-    ensures answer { conversionOf result
+    ensures answer { conversion_of result
         ≡ (flat_direct loaded.now rules (the_mode mode) input.now output.old).answer }
     ensures text { output.new
         ≡ (flat_direct loaded.now rules (the_mode mode) input.now output.old).output }
@@ -175,7 +175,7 @@ fn convert_loaded(
 
 // Direct conversion of an input by a table, into an output buffer.
 pub fn convert(table: &[u8], input: &[u16], output: &mut [u16]) -> Conversion
-    ensures answer { conversionOf result ≡ (direct table.now input.now output.old).answer }
+    ensures answer { conversion_of result ≡ (direct table.now input.now output.old).answer }
     ensures output { output.new ≡ (direct table.now input.now output.old).output }
 {
     let mut loaded = [0u16; LOADED];

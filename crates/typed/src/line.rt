@@ -6,7 +6,7 @@ ghost use Rattle.meaning.specs.Records.{default_record};
 ghost use Rattle.typed.specs.Grammar.{else_word};
 ghost use Rattle.typed.specs.bridge.Reader.{symbol, head_of, right_of, line_of, ends_text, lines_of};
 ghost use Rattle.typed.specs.bridge.Stream.{Ready, feed as fed, feed_head, feed_outputs, feed_line, feed_lines};
-ghost use Rattle.typed.specs.bridge.Answers.{state_of, goes_on_lem, Streams};
+ghost use Rattle.typed.specs.bridge.Answers.{state_of, goes_on, Streams};
 
 use crate::output::feed_outputs;
 use crate::pattern::feed_pattern;
@@ -104,7 +104,7 @@ fn feed_line(s: &[u16], at: usize, sink: Sink, loaded: &mut [u16], buffer: &mut 
 // A line was read, and more than blanks is left.
 fn unread(s: &[u16], refused: bool, at: usize) -> bool
     requires { at ≤ length s.now }
-    ensures { result ≡ goes_on_lem ends_text refused (drop at s.now) }
+    ensures { result ≡ goes_on ends_text refused (drop at s.now) }
 {
     if refused {
         return false;

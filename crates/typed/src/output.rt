@@ -3,9 +3,9 @@ ghost use Rattle.std.specs.Prelude.{List, [], ◌∷◌, ◌≡◌, ℕ, ◌≤�
 ghost use Rattle.std.specs.Int.Signed.{mag};
 ghost use Rattle.expression.specs.bridge.Text.{map_read, closed_by, expression_of, items, bracketed};
 ghost use Rattle.expression.specs.bridge.Forms.{Small};
-ghost use Rattle.typed.specs.Records.{within17 as isWithin17};
+ghost use Rattle.typed.specs.Records.{within17 as is_within17};
 ghost use Rattle.typed.specs.bridge.Stream.{Ready, feed_terms, feed_part, feed_tree, feed_outputs};
-ghost use Rattle.typed.specs.bridge.Answers.{state_of, readState, Reads, Streams};
+ghost use Rattle.typed.specs.bridge.Answers.{state_of, read_state, Reads, Streams};
 
 use crate::record::{output_record, term_record};
 use crate::sink::{Sink, Streamed, feed};
@@ -17,7 +17,7 @@ use expression::symbol::{code_at, skip};
 // No part left its limits, and each coefficient is in signed 16 bits.
 fn within17(part: Part) -> bool
     requires { Small part.numbers }
-    ensures { result ≡ isWithin17 part }
+    ensures { result ≡ is_within17 part }
 {
     if !part.fine {
         return false;
@@ -155,7 +155,7 @@ fn closed(s: &[u16], inner: Streamed) -> Streamed
     requires { inner.next ≤ length s.now }
     ensures { (result.sink ≡ inner.sink)
         × ((loaded buffer : List ℕ) →
-        Reads s.now inner.next result.refused result.next (state_of result.sink loaded buffer) (closed_by 93 (readState s.now inner loaded buffer))) }
+        Reads s.now inner.next result.refused result.next (state_of result.sink loaded buffer) (closed_by 93 (read_state s.now inner loaded buffer))) }
 {
     if inner.refused {
         return inner;

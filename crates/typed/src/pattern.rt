@@ -2,9 +2,9 @@
 ghost use Rattle.std.specs.Prelude.{cond, ◌≡◌, ◌≤◌, ◌<◌, ltb, length, drop};
 ghost use Rattle.expression.specs.bridge.Text.{refused, map_read};
 ghost use Rattle.typed.specs.Grammar.{in_quotes};
-ghost use Rattle.typed.specs.bridge.Reader.{any_character as anyCharacterOf, plain as plain_of, element as elementOf, elements as elementsOf, alone, item as item_of, ends_bracket, ends_items, pattern_of};
+ghost use Rattle.typed.specs.bridge.Reader.{any_character as any_character_of, plain as plain_of, element as element_of, elements as elements_of, alone, item as item_of, ends_bracket, ends_items, pattern_of};
 ghost use Rattle.typed.specs.bridge.Stream.{Ready, feed_range, feed_ranges, feed_pattern};
-ghost use Rattle.typed.specs.bridge.Answers.{special as isSpecial, state_of, goes_on_lem, pastOne, closingOf, endingOf, Reads, Finds, Bounds, Streams, CountsItems};
+ghost use Rattle.typed.specs.bridge.Answers.{special as is_special, state_of, goes_on, past_one, closing_of, ending_of, Reads, Finds, Bounds, Streams, CountsItems};
 
 use crate::record::{range_record, rule_record};
 use crate::sink::{Sink, Streamed, feed};
@@ -45,7 +45,7 @@ pub struct PatternEnd {
 
 // Whether a character needs a backslash: "`"`, `\`, `[`, `]` and `$` need it in quotes, and `-` in brackets".
 fn special(bracket: bool, c: u16) -> bool
-    ensures { result ≡ isSpecial bracket c }
+    ensures { result ≡ is_special bracket c }
 {
     match c {
         34 => true,
@@ -61,7 +61,7 @@ fn special(bracket: bool, c: u16) -> bool
 // The next character, whatever it is.
 fn any_character(s: &[u16], at: usize) -> Found
     requires { at ≤ length s.now }
-    ensures { Finds s.now at result (anyCharacterOf (drop at s.now)) }
+    ensures { Finds s.now at result (any_character_of (drop at s.now)) }
 {
     if at < s.len() {
         return Found {
@@ -80,7 +80,7 @@ fn any_character(s: &[u16], at: usize) -> Found
 // A character that is not special, or any behind a backslash.
 fn plain(s: &[u16], bracket: bool, at: usize) -> Found
     requires { at ≤ length s.now }
-    ensures { Finds s.now at result (plain_of (isSpecial bracket) (drop at s.now)) }
+    ensures { Finds s.now at result (plain_of (is_special bracket) (drop at s.now)) }
 {
     let found = any_character(s, at);
     if found.refused {
@@ -102,7 +102,7 @@ fn plain(s: &[u16], bracket: bool, at: usize) -> Found
 // A single character, or two with `-` between.
 fn element(s: &[u16], at: usize) -> Between
     requires { at ≤ length s.now }
-    ensures { Bounds s.now at result (elementOf (drop at s.now)) }
+    ensures { Bounds s.now at result (element_of (drop at s.now)) }
 {
     let low = plain(s, true, at);
     let lowest = low.code;
@@ -143,7 +143,7 @@ fn feed_element(
     requires at_in_bounds { at ≤ length s.now }
     requires ready { Ready (state_of sink loaded.old buffer.old) }
     ensures { let found = state_of sink loaded.old buffer.old in
-        Streams s.now at (map_read (λ x. feed_range position x found) (elementOf (drop at s.now)))
+        Streams s.now at (map_read (λ x. feed_range position x found) (element_of (drop at s.now)))
         result loaded.new buffer.new }
 {
     let between = element(s, at);
@@ -165,7 +165,7 @@ fn feed_element(
 
 // An element was read, and the next character doesn't close its bracket.
 fn unclosed(s: &[u16], refused: bool, at: usize) -> bool
-    ensures { result ≡ goes_on_lem ends_bracket refused (drop at s.now) }
+    ensures { result ≡ goes_on ends_bracket refused (drop at s.now) }
 {
     if refused {
         return false;
@@ -176,7 +176,7 @@ fn unclosed(s: &[u16], refused: bool, at: usize) -> bool
 // The bracket that closes after its elements.
 fn past_bracket(inner: Streamed) -> Streamed
     requires { inner.next < 18446744073709551615 }
-    ensures { result ≡ pastOne inner }
+    ensures { result ≡ past_one inner }
 {
     if inner.refused {
         return inner;
@@ -201,7 +201,7 @@ fn feed_elements(
     requires at_in_bounds { at ≤ length s.now }
     requires ready { Ready (state_of sink loaded.old buffer.old) }
     ensures { let found = state_of sink loaded.old buffer.old in
-        Streams s.now at (map_read (λ x. feed_ranges position x found) (elementsOf (drop at s.now)))
+        Streams s.now at (map_read (λ x. feed_ranges position x found) (elements_of (drop at s.now)))
         result loaded.new buffer.new }
 {
     let mut so_far = feed_element(s, at, position, sink, loaded, buffer);
@@ -294,7 +294,7 @@ fn feed_next(
 
 // An item was read, and the next character is neither `"` nor `$`.
 fn unended(s: &[u16], refused: bool, at: usize) -> bool
-    ensures { result ≡ goes_on_lem ends_items refused (drop at s.now) }
+    ensures { result ≡ goes_on ends_items refused (drop at s.now) }
 {
     if refused {
         return false;
@@ -335,7 +335,7 @@ fn feed_items(s: &[u16], at: usize, sink: Sink, loaded: &mut [u16], buffer: &mut
 // The closing quotation mark, behind some items.
 fn closing(s: &[u16], items: u8, anchored: bool, at: usize) -> PatternEnd
     requires { at ≤ length s.now }
-    ensures { Reads s.now at result.refused result.next result.anchored (closingOf items anchored (drop at s.now)) }
+    ensures { Reads s.now at result.refused result.next result.anchored (closing_of items anchored (drop at s.now)) }
 {
     if items == 0 {
         return PatternEnd {
@@ -362,7 +362,7 @@ fn closing(s: &[u16], items: u8, anchored: bool, at: usize) -> PatternEnd
 // "`$` after the last item anchors", and what closes the pattern.
 fn ending(s: &[u16], items: u8, at: usize) -> PatternEnd
     requires { at ≤ length s.now }
-    ensures { Reads s.now at result.refused result.next result.anchored (endingOf items (drop at s.now)) }
+    ensures { Reads s.now at result.refused result.next result.anchored (ending_of items (drop at s.now)) }
 {
     let c = code_at(s, at);
     if c == 36 {

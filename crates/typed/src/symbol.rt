@@ -2,7 +2,7 @@
 ghost use Rattle.std.specs.Prelude.{[], ◌∷◌, ◌≡◌, ◌≤◌, length, drop};
 ghost use Rattle.expression.specs.bridge.Text.{is_comma};
 ghost use Rattle.expression.specs.bridge.Answers.{Operates};
-ghost use Rattle.typed.specs.Grammar.{else_word, arrow as arrowWord, semicolon as semicolonWord};
+ghost use Rattle.typed.specs.Grammar.{else_word, arrow as arrow_word, semicolon as semicolon_word};
 ghost use Rattle.typed.specs.bridge.Reader.{then_read, letters, symbol};
 ghost use Rattle.typed.specs.bridge.Answers.{Marks, mark_of};
 
@@ -49,7 +49,7 @@ fn begin(s: &[u16], at: usize) -> Mark
 // "`==>`, `else`, a number and `x` with its digit are one each"
 pub fn arrow(s: &[u16], at: usize) -> Mark
     requires { at ≤ length s.now }
-    ensures { Marks s.now at result (symbol arrowWord (drop at s.now)) }
+    ensures { Marks s.now at result (symbol arrow_word (drop at s.now)) }
 {
     let first = letter(s, begin(s, at), 61);
     let second = letter(s, first, 61);
@@ -68,7 +68,7 @@ pub fn word_else(s: &[u16], at: usize) -> Mark
 
 pub fn semicolon(s: &[u16], at: usize) -> Mark
     requires { at ≤ length s.now }
-    ensures { Marks s.now at result (symbol semicolonWord (drop at s.now)) }
+    ensures { Marks s.now at result (symbol semicolon_word (drop at s.now)) }
 {
     letter(s, begin(s, at), 59)
 }

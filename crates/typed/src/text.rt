@@ -4,7 +4,7 @@ ghost use Rattle.meaning.specs.Refusal.{accepted, and_then};
 ghost use Rattle.typed.specs.Typed.{FromText};
 ghost use Rattle.typed.specs.Answers.{typed_of};
 ghost use Rattle.typed.specs.bridge.Outcome.{text_records};
-ghost use Rattle.typed.specs.bridge.Answers.{freshSink, Written};
+ghost use Rattle.typed.specs.bridge.Answers.{fresh_sink, Written};
 
 use crate::line::feed_lines;
 use crate::sink::Sink;
@@ -21,7 +21,7 @@ pub enum Typed {
 
 // Nothing read yet.
 fn fresh() -> Sink
-    ensures { result ≡ freshSink }
+    ensures { result ≡ fresh_sink }
 {
     let step = Step::Next(start());
     Sink {

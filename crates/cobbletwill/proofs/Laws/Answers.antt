@@ -32,9 +32,9 @@ module _ (ks : List ℕ) where
   code_numbered (refused n) h = or_right (eqb n 0) _ h
   code_numbered (accepted u) h = tt
 
-  code-accepted : (T (any (eqb 0) ks) → ⊥) → (o : Outcome (Unit {0})) → RefusedBy ks o → check_code o ≡ 0 → o ≡ accepted tt
-  code-accepted none (refused n) h e = absurd (none (subst (λ m. T (any (eqb m) ks)) e h))
-  code-accepted none (accepted u) h e = refl
+  code_accepted : (T (any (eqb 0) ks) → ⊥) → (o : Outcome (Unit {0})) → RefusedBy ks o → check_code o ≡ 0 → o ≡ accepted tt
+  code_accepted none (refused n) h e = absurd (none (subst (λ m. T (any (eqb m) ks)) e h))
+  code_accepted none (accepted u) h e = refl
 
 -- THE TABLE CHECK
 
@@ -47,14 +47,14 @@ unfolding and_then
 then_refused (refused m) n e = ap refused (refused_same m n e)
 then_refused (accepted t) n e = absurd (accepted_not tt n e)
 
-then-accepted : (o : Outcome Table) → verdict o ≡ accepted tt → (t : Table) × (o ≡ accepted t)
+then_accepted : (o : Outcome Table) → verdict o ≡ accepted tt → (t : Table) × (o ≡ accepted t)
 unfolding and_then
-then-accepted (refused m) e = absurd (accepted_not tt m (sym e))
-then-accepted (accepted t) e = (t, refl)
+then_accepted (refused m) e = absurd (accepted_not tt m (sym e))
+then_accepted (accepted t) e = (t, refl)
 
-pub checks-answer : ChecksAnswer
+pub checks_answer : ChecksAnswer
 unfolding ChecksAnswer and_then
-checks-answer b answer code =
+checks_answer b answer code =
     let numbered : RefusedBy table_refusals (checked b) =
     by_then (RefusedBy table_refusals) (read_table b) (λ t. accepted tt) (table_refused b) (λ t e. tt) in
     record {
@@ -65,7 +65,7 @@ checks-answer b answer code =
       );
       keeping = λ t k. code ∙ ap (λ o. check_code (verdict o)) (keeps_read b t k);
       accepting = λ y e.
-          let r = then-accepted (read_table b) (code-accepted table_refusals (λ f. f) (checked b) numbered (sym code ∙ e)) in
+          let r = then_accepted (read_table b) (code_accepted table_refusals (λ f. f) (checked b) numbered (sym code ∙ e)) in
           (r.0, read_keeps b r.0 y r.1);
     }
 
@@ -74,22 +74,22 @@ checks-answer b answer code =
 abbrev direct_refusals : List ℕ
 direct_refusals = 1 ∷ 2 ∷ 3 ∷ 4 ∷ 5 ∷ 6 ∷ 7 ∷ 14 ∷ 15 ∷ []
 
-ended-numbered : (closed : Bool) (ks : List ℕ) → T (any (eqb (cond closed 0 64)) (0 ∷ 64 ∷ ks))
-ended-numbered true ks = tt
-ended-numbered false ks = tt
+ended_numbered : (closed : Bool) (ks : List ℕ) → T (any (eqb (cond closed 0 64)) (0 ∷ 64 ∷ ks))
+ended_numbered true ks = tt
+ended_numbered false ks = tt
 
 ended_code : (closed : Bool) → ◌≢◌ {A = ℕ} (cond closed 0 64) 0 → ◌≢◌ {A = ℕ} (cond closed 0 64) 64 → ⊥
 ended_code true z s = z refl
 ended_code false z s = s refl
 
-converted-numbered : (o : Outcome Converted) → RefusedBy direct_refusals o → T (any (eqb (code_of o)) (0 ∷ 64 ∷ direct_refusals))
-converted-numbered (refused n) h = or_right (eqb n 0) _ (or_right (eqb n 64) _ h)
-converted-numbered (accepted a) h = ended-numbered a.closed direct_refusals
+converted_numbered : (o : Outcome Converted) → RefusedBy direct_refusals o → T (any (eqb (code_of o)) (0 ∷ 64 ∷ direct_refusals))
+converted_numbered (refused n) h = or_right (eqb n 0) _ (or_right (eqb n 64) _ h)
+converted_numbered (accepted a) h = ended_numbered a.closed direct_refusals
 
 -- neither 0 nor 64 is a refusal's
-converted-accepted : (o : Outcome Converted) → RefusedBy direct_refusals o → T (any (eqb (code_of o)) (0 ∷ 64 ∷ [])) → (a : Converted) × (o ≡ accepted a)
-converted-accepted (refused n) h e = absurd (one_of (λ m. T (any (eqb m) direct_refusals) → ⊥) (0 ∷ 64 ∷ []) (λ f. f, (λ f. f, tt)) n e h)
-converted-accepted (accepted a) h e = (a, refl)
+converted_accepted : (o : Outcome Converted) → RefusedBy direct_refusals o → T (any (eqb (code_of o)) (0 ∷ 64 ∷ [])) → (a : Converted) × (o ≡ accepted a)
+converted_accepted (refused n) h e = absurd (one_of (λ m. T (any (eqb m) direct_refusals) → ⊥) (0 ∷ 64 ∷ []) (λ f. f, (λ f. f, tt)) n e h)
+converted_accepted (accepted a) h e = (a, refl)
 
 module _ (b input buffer : List ℕ) (place written : ℕ) where
   abbrev outcome : DirectOutcome
@@ -104,10 +104,10 @@ module _ (b input buffer : List ℕ) (place written : ℕ) where
   beyond (refused n) e = ap (drop written) ((direct_answers b input buffer).unchanged n e)
   beyond (accepted a) e = (direct_answers b input buffer).beyond a e
 
-  converts-face : ConvertFace b input buffer place written (code_of outcome.answer) outcome.output (place_of outcome.answer place)
+  converts_face : ConvertFace b input buffer place written (code_of outcome.answer) outcome.output (place_of outcome.answer place)
       (written_of outcome.answer written)
-  converts-face = record {
-    numbered = converted-numbered outcome.answer (direct_answers b input buffer).numbered;
+  converts_face = record {
+    numbered = converted_numbered outcome.answer (direct_answers b input buffer).numbered;
     unchanged = as_found outcome.answer refl;
     beyond = beyond outcome.answer refl;
     whole = (direct_answers b input buffer).whole;
@@ -115,34 +115,34 @@ module _ (b input buffer : List ℕ) (place written : ℕ) where
         let c = (direct_accepts b input buffer).keeping t k l in
         rw c.answer (refl, refl, c.text);
     accepting = λ y e.
-        let a = converted-accepted outcome.answer (direct_answers b input buffer).numbered e in
+        let a = converted_accepted outcome.answer (direct_answers b input buffer).numbered e in
         (direct_accepts b input buffer).accepting y a.0 a.1;
   }
 
-pub converts-answer : ConvertsAnswer
+pub converts_answer : ConvertsAnswer
 unfolding ConvertsAnswer
-converts-answer b input buffer place written answer output reached count k =
-    rw (k.code, k.text, k.ended, k.counted) (converts-face b input buffer place written)
+converts_answer b input buffer place written answer output reached count k =
+    rw (k.code, k.text, k.ended, k.counted) (converts_face b input buffer place written)
 
 -- COMPILING
 
-abbrev compileRefusals : List ℕ
-compileRefusals = 10 ∷ 1 ∷ 2 ∷ 3 ∷ 4 ∷ 5 ∷ 6 ∷ 7 ∷ 8 ∷ 9 ∷ []
+abbrev compile_refusals : List ℕ
+compile_refusals = 10 ∷ 1 ∷ 2 ∷ 3 ∷ 4 ∷ 5 ∷ 6 ∷ 7 ∷ 8 ∷ 9 ∷ []
 
 module _ (b buffer : List ℕ) where
-  compiles-face : CompileFace b buffer (check_code (compile b buffer).answer) (compile b buffer).words
-  compiles-face =
+  compiles_face : CompileFace b buffer (check_code (compile b buffer).answer) (compile b buffer).words
+  compiles_face =
       let o = (compile b buffer).answer in
       let answers = compile_answers b buffer in
       record {
-        numbered = code_numbered compileRefusals o answers.numbered;
+        numbered = code_numbered compile_refusals o answers.numbered;
         zeros = λ z t. answers.zeros (check_code o) (code_refused o (check_code o) z refl) t;
         unchanged = λ e. answers.unchanged (code_refused o 10 (λ q. omega arith) e);
         beyond = answers.beyond;
         keeping = λ t k h. let c = (compile_accepts b buffer).keeping t k h in (ap check_code c.0, c.1);
-        accepting = λ y e. (compile_accepts b buffer).accepting y (code-accepted compileRefusals (λ f. f) o answers.numbered e);
+        accepting = λ y e. (compile_accepts b buffer).accepting y (code_accepted compile_refusals (λ f. f) o answers.numbered e);
       }
 
-pub compiles-answer : CompilesAnswer
+pub compiles_answer : CompilesAnswer
 unfolding CompilesAnswer
-compiles-answer b buffer answer words k = rw (k.code, k.left) (compiles-face b buffer)
+compiles_answer b buffer answer words k = rw (k.code, k.left) (compiles_face b buffer)

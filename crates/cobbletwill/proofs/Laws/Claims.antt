@@ -86,7 +86,7 @@ status_numbered Closed = tt
 status_numbered Stopped = tt
 
 -- numbers that are no session's are refused by 11 or 12
-pub no_session_refused : (soundWords : Bool) (ks : List ℕ) → T (any (eqb (no_session soundWords)) (11 ∷ 12 ∷ ks))
+pub no_session_refused : (sound_words : Bool) (ks : List ℕ) → T (any (eqb (no_session sound_words)) (11 ∷ 12 ∷ ks))
 no_session_refused true ks = tt
 no_session_refused false ks = tt
 
@@ -149,7 +149,7 @@ no_session_lem w = record { unsound = λ e. rw e refl; sound = λ e. rw e refl }
 
 pub other_statuses : OtherStatuses
 unfolding OtherStatuses feed finish preview
-other_statuses w n uses piece buffer later laterUses found above = rw (lt-ltb 2 n.status above) (no_session_lem w, no_session_lem w, no_session_lem w)
+other_statuses w n uses piece buffer later later_uses found above = rw (lt-ltb 2 n.status above) (no_session_lem w, no_session_lem w, no_session_lem w)
 
 -- A FINISH NEVER ANSWERS OPEN
 
@@ -166,7 +166,7 @@ finish_ends : (w : List ℕ) (s : Session) (buffer : List ℕ) (o : Outcome (Uni
     answer_code (call_by o (from_words w) s [] true buffer).answer ≢ 65
 finish_ends w s buffer (refused k) h = low_number k h
 finish_ends w s buffer (accepted u) h =
-    let tells = call_tells w h.sound_words s [] true h.sound-session h.passed.0 in
+    let tells = call_tells w h.sound_words s [] true h.sound_session_lem h.passed.0 in
     ended_code (resumed (from_words w) s [] true).status (subst NotOpen (sym tells.status) (trace_ended (from_words w) 0 (store s ++ [])))
 
 face_ends : (w : List ℕ) (n : SessionNumbers) (uses buffer : List ℕ) (found : ℕ) (above : Bool) → ltb 2 n.status ≡ above →
@@ -210,14 +210,14 @@ seen_answers later uses found (accepted s) h on =
 
 pub previews_answer : PreviewsAnswer
 unfolding PreviewsAnswer LooksAhead preview
-previews_answer w n uses piece later laterUses found = by (ltb 2 n.status)
+previews_answer w n uses piece later later_uses found = by (ltb 2 n.status)
   where
-    by : (above : Bool) → PreviewAnswers later laterUses found
-        (cond above (previewed (no_session (sound w)) later laterUses found) (preview_face (Preview.preview w (session_from n uses) piece) later laterUses found))
-    by true = seen_answers later laterUses found (refused (no_session (sound w))) (no_session_refused (sound w) (13 ∷ 14 ∷ [])) tt
+    by : (above : Bool) → PreviewAnswers later later_uses found
+        (cond above (previewed (no_session (sound w)) later later_uses found) (preview_face (Preview.preview w (session_from n uses) piece) later later_uses found))
+    by true = seen_answers later later_uses found (refused (no_session (sound w))) (no_session_refused (sound w) (13 ∷ 14 ∷ [])) tt
     by false =
         let s = session_from n uses in
-        seen_answers later laterUses found (Preview.preview w s piece) (looks_ahead w s piece).numbered (preview_leads w s piece)
+        seen_answers later later_uses found (Preview.preview w s piece) (looks_ahead w s piece).numbered (preview_leads w s piece)
 
 -- REQUEST [5], through the C face
 
@@ -241,15 +241,15 @@ module _ (later : SessionNumbers) (uses : List ℕ) (found : ℕ) where
 
 pub previews_feed : PreviewsFeed
 unfolding PreviewsFeed LooksAhead CallsAnswer preview feed
-previews_feed w n uses piece buffer later laterUses found enough = by (ltb 2 n.status)
+previews_feed w n uses piece buffer later later_uses found enough = by (ltb 2 n.status)
   where
     by : (above : Bool) →
-        cond above (previewed (no_session (sound w)) later laterUses found) (preview_face (Preview.preview w (session_from n uses) piece) later laterUses found)
-        ≡ of_face later laterUses found
+        cond above (previewed (no_session (sound w)) later later_uses found) (preview_face (Preview.preview w (session_from n uses) piece) later later_uses found)
+        ≡ of_face later later_uses found
         (cond above (left (no_session (sound w)) n uses buffer found) (face_of (Call.feed w (session_from n uses) piece buffer) found))
     by true = rw (refusal_told (no_session (sound w)) (no_session_refused (sound w) (13 ∷ 14 ∷ 15 ∷ []))) refl
     by false =
         let s = session_from n uses in
         let o = Call.feed w s piece buffer in
-        ap (λ p. preview_face p later laterUses found) ((looks_ahead w s piece).feeds buffer enough)
-        ∙ face_seen later laterUses found o.session o.output o.answer (calls_answer w s (of_feed piece buffer)).numbered
+        ap (λ p. preview_face p later later_uses found) ((looks_ahead w s piece).feeds buffer enough)
+        ∙ face_seen later later_uses found o.session o.output o.answer (calls_answer w s (of_feed piece buffer)).numbered

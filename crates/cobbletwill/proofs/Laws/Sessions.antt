@@ -46,28 +46,28 @@ unchanged n found before after r over small meant kept accepted session e =
 -- PREVIEWS
 
 -- numbers with a status above 2 are refused, and nothing is changed
-pub refused_preview : (w : List ℕ) (n : SessionNumbers) (uses piece laterUses : List ℕ) (found answer : ℕ) → 2 < n.status → answer ≡ no_session (sound w)
-    → Foresees w n uses piece laterUses found (record { answer = answer; accepted = false; session = n }) laterUses found
+pub refused_preview : (w : List ℕ) (n : SessionNumbers) (uses piece later_uses : List ℕ) (found answer : ℕ) → 2 < n.status → answer ≡ no_session (sound w)
+    → Foresees w n uses piece later_uses found (record { answer = answer; accepted = false; session = n }) later_uses found
 unfolding preview
-refused_preview w n uses piece laterUses found answer above e later =
-    rw (lt-ltb 2 n.status above) (ap (λ a. previewed a later laterUses found) e)
+refused_preview w n uses piece later_uses found answer above e later =
+    rw (lt-ltb 2 n.status above) (ap (λ a. previewed a later later_uses found) e)
 
 -- an answer and what else is handed over, where what was not accepted left the counts of uses as found
-seen_over : (a : Answer) (ok : Bool) (s : Session) (later : SessionNumbers) (laterUses : List ℕ) (found : ℕ) → ok ≡ is_accepted a →
-    (ok ≡ false → s.uses ≡ laterUses) → previewed (answer_code (answer_of a)) (cond ok (numbers_of s) later) s.uses (written_after (answer_of a) found)
-    ≡ preview_face (seen_by (answer_of a) s) later laterUses found
-seen_over (Accepted count status) ok s later laterUses found e same = rw e refl
-seen_over (Refused n) ok s later laterUses found e same = rw e (ap (λ u. previewed n later u found) (same e))
+seen_over : (a : Answer) (ok : Bool) (s : Session) (later : SessionNumbers) (later_uses : List ℕ) (found : ℕ) → ok ≡ is_accepted a →
+    (ok ≡ false → s.uses ≡ later_uses) → previewed (answer_code (answer_of a)) (cond ok (numbers_of s) later) s.uses (written_after (answer_of a) found)
+    ≡ preview_face (seen_by (answer_of a) s) later later_uses found
+seen_over (Accepted count status) ok s later later_uses found e same = rw e refl
+seen_over (Refused n) ok s later later_uses found e same = rw e (ap (λ u. previewed n later u found) (same e))
 
 -- of other numbers, what a preview of their session came to is handed over
-pub foreseen : (w : List ℕ) (n : SessionNumbers) (kept : Kept) (uses piece laterUses : List ℕ) (found : ℕ) (r : Went) (over : CalledNumbers)
-    (usesLeft : List ℕ) (written : ℕ) → n.status ≤ 2 → Keeps n kept → Said r kept laterUses usesLeft →
-    Previews w (together kept uses) piece r.answer (together r.kept usesLeft) → over.accepted ≡ r.accepted →
+pub foreseen : (w : List ℕ) (n : SessionNumbers) (kept : Kept) (uses piece later_uses : List ℕ) (found : ℕ) (r : Went) (over : CalledNumbers)
+    (uses_left : List ℕ) (written : ℕ) → n.status ≤ 2 → Keeps n kept → Said r kept later_uses uses_left →
+    Previews w (together kept uses) piece r.answer (together r.kept uses_left) → over.accepted ≡ r.accepted →
     over.answer ≡ answer_code (answer_of r.answer) → over.session ≡ numbers_of (session_of (together r.kept [])) →
-    written ≡ written_after (answer_of r.answer) found → Foresees w n uses piece laterUses found over usesLeft written
+    written ≡ written_after (answer_of r.answer) found → Foresees w n uses piece later_uses found over uses_left written
 unfolding preview
-foreseen w n kept uses piece laterUses found r over usesLeft written small meant said seen accepted answered session counted later =
+foreseen w n kept uses piece later_uses found r over uses_left written small meant said seen accepted answered session counted later =
     rw (le-ltb 2 n.status small)
-    ((λ i. previewed (answered i) (cond (accepted i) (session i) later) usesLeft (counted i))
-    ∙ seen_over r.answer r.accepted (session_of (together r.kept usesLeft)) later laterUses found said.accepted (λ e. (said.unchanged e).1)
-    ∙ ap (λ o. preview_face o later laterUses found) (seen ∙ ap (λ s. Preview.preview w s piece) (meant uses)))
+    ((λ i. previewed (answered i) (cond (accepted i) (session i) later) uses_left (counted i))
+    ∙ seen_over r.answer r.accepted (session_of (together r.kept uses_left)) later later_uses found said.accepted (λ e. (said.unchanged e).1)
+    ∙ ap (λ o. preview_face o later later_uses found) (seen ∙ ap (λ s. Preview.preview w s piece) (meant uses)))

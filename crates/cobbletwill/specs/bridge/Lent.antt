@@ -17,5 +17,5 @@ Unchanged r found = r.accepted ≡ false → r.session ≡ found
 -- a preview by value over numbers: whatever the later session was found as, it is then the one that a feed would leave where the preview is
 -- accepted, and else as found
 abbrev pub Foresees : List ℕ → SessionNumbers → List ℕ → List ℕ → List ℕ → ℕ → CalledNumbers → List ℕ → ℕ → Type 0
-Foresees w n uses piece laterUses found r usesLeft written =
-    (later : SessionNumbers) → previewed r.answer (cond r.accepted r.session later) usesLeft written ≡ preview w n uses piece later laterUses found
+Foresees w n uses piece later_uses found r uses_left written =
+    (later : SessionNumbers) → previewed r.answer (cond r.accepted r.session later) uses_left written ≡ preview w n uses piece later later_uses found

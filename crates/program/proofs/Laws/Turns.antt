@@ -46,7 +46,7 @@ module _ (w : List ℕ) (s : Session) where
       waits (call_by o (from_words w) s [] true buffer).answer ≡ true → ⊥
   finished (refused n) buffer h e = false≢true e
   finished (accepted u) buffer h e =
-      let tells = call_tells w h.sound_words s [] true h.sound-session h.passed.0 in
+      let tells = call_tells w h.sound_words s [] true h.sound_session_lem h.passed.0 in
       let ended : NotOpen (resumed (from_words w) s [] true).status = subst NotOpen (sym tells.status) (trace_ended (from_words w) 0 (store s ++ [])) in
       open_not (resumed (from_words w) s [] true).status ended e
 

@@ -31,7 +31,7 @@ use Rattle.typed.proofs.Laws.Promised.{typed_rules}
 use Rattle.session.proofs.Laws.Caller.{code_serves}
 use Rattle.session.proofs.Laws.Foreseen.{preview_tells}
 use Rattle.chain.proofs.Laws.Caller.{code_chain_serves}
-use Rattle.cobbletwill.proofs.Laws.Answers.{checks-answer, converts-answer, compiles-answer}
+use Rattle.cobbletwill.proofs.Laws.Answers.{checks_answer, converts_answer, compiles_answer}
 use Rattle.cobbletwill.proofs.Laws.Caller.{face_serves}
 use Rattle.cobbletwill.proofs.Laws.Claims.{faithful, feeds_answer, finishes_answer, other_statuses, finishes_end, previews_answer, previews_feed}
 use Rattle.cobbletwill.proofs.Laws.ChainCaller.{face_chain_serves}
@@ -53,9 +53,9 @@ promises = record {
   compile_answers = compile_answers;
   calls_answer = calls_answer;
   calls_keep = calls_keep;
-  c_checks_answer = checks-answer;
-  c_converts_answer = converts-answer;
-  c_compiles_answer = compiles-answer;
+  c_checks_answer = checks_answer;
+  c_converts_answer = converts_answer;
+  c_compiles_answer = compiles_answer;
   c_feeds_answer = feeds_answer;
   c_finishes_answer = finishes_answer;
   c_finishes_end = finishes_end;

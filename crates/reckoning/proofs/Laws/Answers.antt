@@ -27,11 +27,11 @@ use Rattle.reckoning.proofs.Laws.Trace.{trace, log_of, status_of}
 use Rattle.reckoning.proofs.Laws.Rounds.{bounded, counted_most}
 use Rattle.reckoning.proofs.Laws.Kept.{trace_few, sound_facts, call_tells, kept_sound}
 
-pub called-by : (w : List ℕ) (s : Session) (c : Call) →
+pub called_by_lem : (w : List ℕ) (s : Session) (c : Call) →
     called w s c ≡ call_by (admits w s (length (piece c)) (room c)) (from_words w) s (piece c) (ends c) (buffer_of c)
 unfolding feed finish
-called-by w s (of_feed p buffer) = refl
-called-by w s (of_finish buffer) = refl
+called_by_lem w s (of_feed p buffer) = refl
+called_by_lem w s (of_finish buffer) = refl
 
 -- what 13 to 15 let pass: an open session, so many characters received in all, and so much output at most
 abbrev pub Passed : Status → ℕ → ℕ → ℕ → Type 0
@@ -42,17 +42,17 @@ is_open_lem Open t = refl
 is_open_lem Closed t = absurd t
 is_open_lem Stopped t = absurd t
 
-pub pass-cases : (P : Outcome (Unit {0}) → Type 0) (s : Status) (total most room : ℕ) →
+pub pass_cases : (P : Outcome (Unit {0}) → Type 0) (s : Status) (total most room : ℕ) →
     P (refused 13) → P (refused 14) → P (refused 15) → (Passed s total most room → P (accepted tt)) →
     Cases P ((not (is_open s), refused 13) ∷ (ltb limit total, refused 14) ∷ (ltb room most, refused 15) ∷ []) (accepted tt)
-pass-cases P s total most room a b c f = (
+pass_cases P s total most room a b c f = (
   λ _. a,
   λ x. (λ _. b, λ y. (λ _. c, λ z. f (is_open_lem s (not_not (is_open s) x), nltb→le limit total y, nltb→le room most z))),
 )
 
 pub record Admitted (w : List ℕ) (s : Session) (n room : ℕ) : Type 0 where
   pub sound_words : T (sound w)
-  pub sound-session : T (sound_session w s)
+  pub sound_session_lem : T (sound_session w s)
   pub passed : Passed s.status (s.received + n) (expansion_word w * (s.count + n)) room
 
 abbrev refusals : List ℕ
@@ -69,15 +69,15 @@ admission w s n room =
       λ _. tt,
       λ x. (
         λ _. tt,
-        λ y. pass-cases (Admits w s n room) s.status (s.received + n) (expansion_word w * (s.count + n)) room tt tt tt
-            (λ p. record { sound_words = not_not (sound w) x; sound-session = not_not (sound_session w s) y; passed = p }),
+        λ y. pass_cases (Admits w s n room) s.status (s.received + n) (expansion_word w * (s.count + n)) room tt tt tt
+            (λ p. record { sound_words = not_not (sound w) x; sound_session_lem = not_not (sound_session w s) y; passed = p }),
       ),
     )
 
 -- a run writes at most E for each character held and read
-pub text-most : (w : List ℕ) (s : Session) (p : List ℕ) (e : Bool) → T (sound w) → T (sound_session w s) → s.status ≡ Open →
+pub text_most : (w : List ℕ) (s : Session) (p : List ℕ) (e : Bool) → T (sound w) → T (sound_session w s) → s.status ≡ Open →
     length (text_of (from_words w).write (resumed (from_words w) s p e).final.log) ≤ expansion_word w * (s.count + length p)
-text-most w s p e W kept o =
+text_most w s p e W kept o =
     let A = from_words w in
     let E = expansion_word w in
     let G = sound_good w W in
@@ -100,9 +100,9 @@ module _ (w : List ℕ) (s : Session) (c : Call) where
   abbrev text : List ℕ
   text = text_of (from_words w).write (resumed (from_words w) s (piece c) (ends c)).final.log
 
-  text-fits : Admitted w s (length (piece c)) (room c) → length text ≤ room c
-  text-fits a =
-      let most = text-most w s (piece c) (ends c) a.sound_words a.sound-session a.passed.0 in
+  text_fits : Admitted w s (length (piece c)) (room c) → length text ≤ room c
+  text_fits a =
+      let most = text_most w s (piece c) (ends c) a.sound_words a.sound_session_lem a.passed.0 in
       let enough = a.passed.2 in
       omega arith
 
@@ -121,43 +121,43 @@ module _ (w : List ℕ) (s : Session) (c : Call) where
 
   whole_by : (o : Outcome (Unit {0})) → Tested o → length (outcome o).output ≡ room c
   whole_by (refused k) h = refl
-  whole_by (accepted x) h = over_whole text (buffer_of c) (text-fits h)
+  whole_by (accepted x) h = over_whole text (buffer_of c) (text_fits h)
 
-  keeps-by : (o : Outcome (Unit {0})) (a : Answer) → Tested o → length s.held ≡ 8 → (outcome o).answer ≡ accepted a →
+  keeps_by : (o : Outcome (Unit {0})) (a : Answer) → Tested o → length s.held ≡ 8 → (outcome o).answer ≡ accepted a →
       T (sound_session w (outcome o).session) × (length (outcome o).session.held ≡ 8)
-  keeps-by (refused k) a h eight e = absurd (accepted_not a k (sym e))
-  keeps-by (accepted x) a h eight e = (
-    kept_sound w h.sound_words s (piece c) (ends c) h.sound-session h.passed.0 eight h.passed.1,
+  keeps_by (refused k) a h eight e = absurd (accepted_not a k (sym e))
+  keeps_by (accepted x) a h eight e = (
+    kept_sound w h.sound_words s (piece c) (ends c) h.sound_session_lem h.passed.0 eight h.passed.1,
     length_pad 8 (resumed (from_words w) s (piece c) (ends c)).final.store,
   )
 
   stays_by : (o : Outcome (Unit {0})) → Tested o → T (sound_session w s) → length s.held ≡ 8 →
       T (sound_session w (outcome o).session) × (length (outcome o).session.held ≡ 8)
   stays_by (refused k) h t eight = (t, eight)
-  stays_by (accepted x) h t eight = keeps-by (accepted x) _ h eight refl
+  stays_by (accepted x) h t eight = keeps_by (accepted x) _ h eight refl
 
   -- a call, accepted or refused, leaves a sound session of eight places sound, and of eight places
   pub call_stays : T (sound_session w s) → length s.held ≡ 8 → T (sound_session w (called w s c).session) × (length (called w s c).session.held ≡ 8)
   call_stays t eight =
-      let n = length (piece c) in rw (called-by w s c) (stays_by (admits w s n (room c)) (admission w s n (room c)) t eight)
+      let n = length (piece c) in rw (called_by_lem w s c) (stays_by (admits w s n (room c)) (admission w s n (room c)) t eight)
 
-  call-answers : CallAnswers s (buffer_of c) (called w s c)
-  call-answers =
+  call_answers : CallAnswers s (buffer_of c) (called w s c)
+  call_answers =
       let o = admits w s (length (piece c)) (room c) in
       let h = admission w s (length (piece c)) (room c) in
-      rw (called-by w s c) (record { numbered = numbered_by o h; unchanged = unchanged_by o; beyond = beyond_by o; whole = whole_by o h })
+      rw (called_by_lem w s c) (record { numbered = numbered_by o h; unchanged = unchanged_by o; beyond = beyond_by o; whole = whole_by o h })
 
 -- DEMAND 1, for feed and finish
 pub calls_answer : CallsAnswer
 unfolding CallsAnswer
-calls_answer w s c = call-answers w s c
+calls_answer w s c = call_answers w s c
 
 -- an accepted call keeps soundness
 pub calls_keep : CallsKeep
 unfolding CallsKeep
 calls_keep w s c a eight e =
     let n = length (piece c) in
-    rw (called-by w s c) (keeps-by w s c (admits w s n (room c)) a (admission w s n (room c)) eight (rw (called-by w s c) at e))
+    rw (called_by_lem w s c) (keeps_by w s c (admits w s n (room c)) a (admission w s n (room c)) eight (rw (called_by_lem w s c) at e))
 
 -- REQUEST [2], of a sound session
 pub sound_adds_up : SoundAddsUp
@@ -167,17 +167,17 @@ sound_adds_up w s W t =
     record { sum = f.sum; lacking = f.lacking; undefaulted = f.undefaulted; unmarked = f.unmarked }
 
 -- any list of calls leaves a sound session of eight places sound
-pub calls-stay : (w : List ℕ) (cs : List Call) (v : Served) → T (sound_session w v.session) → length v.session.held ≡ 8 →
+pub calls_stay : (w : List ℕ) (cs : List Call) (v : Served) → T (sound_session w v.session) → length v.session.held ≡ 8 →
     T (sound_session w (serve w cs v).session)
 unfolding serve
-calls-stay w [] v t eight = t
-calls-stay w (c ∷ cs) v t eight = let k = call_stays w v.session c t eight in calls-stay w cs (serve_call w v c) k.0 k.1
+calls_stay w [] v t eight = t
+calls_stay w (c ∷ cs) v t eight = let k = call_stays w v.session c t eight in calls_stay w cs (serve_call w v c) k.0 k.1
 
 -- and a session that does not add up is refused by 12
 pub refuses_others : RefusesOthers
 unfolding RefusesOthers SoundAddsUp admits
 refuses_others w s c W n =
     let unsound : T (not (sound_session w s)) = not_T (sound_session w s) (λ t. n (sound_adds_up w s W t)) in
-    ap (λ (o : CallOutcome). o.answer) (called-by w s c)
+    ap (λ (o : CallOutcome). o.answer) (called_by_lem w s c)
     ∙ ap (λ o. (call_by o (from_words w) s (piece c) (ends c) (buffer_of c)).answer)
     (select_next _ _ _ (ap not (of_T (sound w) W)) ∙ select_here _ _ _ (of_T (not (sound_session w s)) unsound))

@@ -213,7 +213,7 @@ fed w s p buffer a z = did w s p false buffer a (admits w s (length p) (length b
 pub admitted_accepts : (w : List ℕ) (s : Session) (n room : ℕ) → Admitted w s n room → admits w s n room ≡ accepted tt
 admitted_accepts w s n room a =
     let W = of_T (sound w) a.sound_words in
-    let S = of_T (sound_session w s) a.sound-session in
+    let S = of_T (sound_session w s) a.sound_session_lem in
     let o = ap is_open a.passed.0 in
     sym (session_open w s n room W S o) ∙ sym (has_room (expansion_word w) s.received s.count n room a.passed.1 a.passed.2)
 
@@ -228,11 +228,11 @@ unfolding PartsAccepted
 parts_accepted w s e8 p q b a z b₁ r₁ =
     let h = (fed w s (p ++ q) b a z).admitted in
     let W = h.sound_words in
-    let sn = h.sound-session in
+    let sn = h.sound_session_lem in
     let o = h.passed.0 in
     let l = h.passed.1 in
     let fits : s.received + length p ≤ limit = omega (arith, length-append p q) in
-    let h₁ : Admitted w s (length p) (length b₁) = record { sound_words = W; sound-session = sn; passed = (o, fits, r₁) } in
+    let h₁ : Admitted w s (length p) (length b₁) = record { sound_words = W; sound_session_lem = sn; passed = (o, fits, r₁) } in
     let z₁ = feed_accepts w s p b₁ h₁ in
     let a₁ : Answer = record { count = length (text_on w s p false); status = (ran_on w s p false).status } in
     let d₁ = fed w s p b₁ a₁ z₁ in
@@ -247,7 +247,7 @@ parts_accepted w s e8 p q b a z b₁ r₁ =
           ∙ ap (λ x. received_by x (s.received + length p) (consumed s + covered (ran_on w s p false).final.log)) Open-after in
           let total : s₁.received + length q ≤ limit = omega (arith, length-append p q) in (
             record { count = length (text_on w s₁ q false); status = (ran_on w s₁ q false).status },
-            feed_accepts w s₁ q b₂ (record { sound_words = W; sound-session = kept; passed = (status, total, r₂) }),
+            feed_accepts w s₁ q b₂ (record { sound_words = W; sound_session_lem = kept; passed = (status, total, r₂) }),
           ),
     )
 
@@ -267,7 +267,7 @@ feeds_join w s e8 p q b₁ b₂ b a₁ a₂ a z₁ z₂ z =
     let h = d₁.admitted in
     let Open-after = open_between w s p q b₁ b₂ a₁ a₂ d₁ d₂ in
     let W = h.sound_words in
-    let sn = h.sound-session in
+    let sn = h.sound_session_lem in
     let o = h.passed.0 in
     let fits = h.passed.1 in
     let text : text_on w s p false ++ text_on w s₁ q false ≡ text_on w s (p ++ q) false =
@@ -293,11 +293,11 @@ stops_join w s e8 p q b₁ b a₁ a z₁ st z =
     let d = fed w s (p ++ q) b a z in
     let h = d₁.admitted in
     let stopped : (ran_on w s p false).status ≡ Stopped = ap (λ (x : Answer). x.status) d₁.answer ∙ st in
-    let run = stop_runs w h.sound_words s h.sound-session h.passed.0 e8 p stopped q false in
+    let run = stop_runs w h.sound_words s h.sound_session_lem h.passed.0 e8 p stopped q false in
     let text : text_on w s (p ++ q) false ≡ text_on w s p false = ap (λ (x : Ended). text_of (from_words w).write x.final.log) run in (
       d₁.text ∙ sym text ∙ sym d.text,
       sym d₁.answer ∙ sym (ap (λ (x : Ended). record { count = length (text_of (from_words w).write x.final.log); status = x.status }) run) ∙ d.answer,
-      d₁.session ∙ sym (stop_session w h.sound_words s h.sound-session h.passed.0 e8 p stopped q false) ∙ sym d.session,
+      d₁.session ∙ sym (stop_session w h.sound_words s h.sound_session_lem h.passed.0 e8 p stopped q false) ∙ sym d.session,
     )
 
 -- and a finish after the whole

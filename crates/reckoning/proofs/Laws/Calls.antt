@@ -37,7 +37,7 @@ use Rattle.reckoning.proofs.Laws.Run.{Tells, run_tells, run_waits}
 use Rattle.reckoning.proofs.Laws.Swap.{trace_alike, trace_emits, text_same}
 use Rattle.reckoning.proofs.Laws.Uses.{uses_append}
 use Rattle.reckoning.proofs.Laws.Kept.{fresh_sound, kept_sound, sound_facts}
-use Rattle.reckoning.proofs.Laws.Answers.{called-by, Passed, pass-cases}
+use Rattle.reckoning.proofs.Laws.Answers.{called_by_lem, Passed, pass_cases}
 
 -- Logs and buffers.
 
@@ -269,7 +269,7 @@ module _ (t : Table) (w : List ℕ) (K : Matched t w) where
         let r = ran t i.characters i.ended in
         let n = length (piece c) in
         by_cases Reckons _ (accepted tt)
-        (pass-cases Reckons r.status (length i.characters + n) (expansion t * (length r.final.store + n)) (room c) tt tt tt (λ p. p))
+        (pass_cases Reckons r.status (length i.characters + n) (expansion t * (length r.final.store + n)) (room c) tt tt tt (λ p. p))
 
     stands_by : (o : Outcome (Unit {0})) → Reckons o → Standing (served_by o) (input_by t o i c)
     stands_by (refused k) e = record {
@@ -290,7 +290,7 @@ module _ (t : Table) (w : List ℕ) (K : Matched t w) where
         let s : admits w v.session (length (piece c)) (room c) ≡ o =
         ap (λ z. admits w z (length (piece c)) (room c)) S.session
         ∙ admits_reckoned i.characters i.ended S.characters c (subst (λ z. T (sound_session w z)) S.session S.kept) in
-        rw (called-by w v.session c, s) (stands_by o reckons)
+        rw (called_by_lem w v.session c, s) (stands_by o reckons)
 
   stands_all : (cs : List Call) → Each (λ c. Characters (piece c)) cs → (v : Served) (i : Input) → Standing v i → Standing (serve w cs v) (reckon t cs i)
   unfolding serve reckon

@@ -29,7 +29,7 @@ use Rattle.reckoning.proofs.Laws.Trace.{Trace, trace, log_of, held_of, status_of
 use Rattle.reckoning.proofs.Laws.Rounds.{not_open, trace_ended}
 use Rattle.reckoning.proofs.Laws.Kept.{fresh_sound, kept_sound, sound_facts}
 use Rattle.reckoning.proofs.Laws.Admitting.{select_next, select_none}
-use Rattle.reckoning.proofs.Laws.Answers.{is_open_lem, Admitted, text-most}
+use Rattle.reckoning.proofs.Laws.Answers.{is_open_lem, Admitted, text_most}
 use Rattle.reckoning.proofs.Laws.Calls.{told, fresh_told, text_later, session_later}
 use Rattle.reckoning.proofs.Laws.InTurn.{outcomes_of, state_after}
 
@@ -118,10 +118,10 @@ chain_tests w₁ w₂ s₁ s₂ c =
 -- What the chain's tests passed is what each machine's own tests ask: the first over the piece, the second over what the first writes.
 module _ (w₁ w₂ : List ℕ) (s₁ s₂ : Session) (p : List ℕ) (e : Bool) (middle room : ℕ) (h : ChainAdmitted w₁ w₂ s₁ s₂ (length p) middle room) where
   pub first_admitted : Admitted w₁ s₁ (length p) middle
-  first_admitted = record { sound_words = h.words₁; sound-session = h.kept₁; passed = (h.open₁, h.limit₁, h.enough) }
+  first_admitted = record { sound_words = h.words₁; sound_session_lem = h.kept₁; passed = (h.open₁, h.limit₁, h.enough) }
 
   between_least : length (text_on w₁ s₁ p e) ≤ least_middle w₁ s₁ (length p)
-  between_least = text-most w₁ s₁ p e h.words₁ h.kept₁ h.open₁
+  between_least = text_most w₁ s₁ p e h.words₁ h.kept₁ h.open₁
 
   pub between_fits : length (text_on w₁ s₁ p e) ≤ middle
   between_fits = omega (arith, between_least, h.enough)
@@ -133,7 +133,7 @@ module _ (w₁ w₂ : List ℕ) (s₁ s₂ : Session) (p : List ℕ) (e : Bool) 
       let most = mul-le-mul_left (expansion_word w₂) sum in
       let lim = h.limit₂ in
       let enough = h.room_left in
-      record { sound_words = h.words₂; sound-session = h.kept₂; passed = (h.open₂, omega arith, omega arith) }
+      record { sound_words = h.words₂; sound_session_lem = h.kept₂; passed = (h.open₂, omega arith, omega arith) }
 
 -- One machine, whose session is told by the trace over u, goes on over p.
 pub record GoesOn (w : List ℕ) (s : Session) (u p : List ℕ) (e : Bool) : Type 0 where
@@ -206,7 +206,7 @@ module _ (w₁ w₂ : List ℕ) where
 
     fits₂ : s₂.received + length text₁ ≤ limit
     fits₂ =
-        let k = text-most w₁ s₁ p e' a.words₁ a.kept₁ a.open₁ in
+        let k = text_most w₁ s₁ p e' a.words₁ a.kept₁ a.open₁ in
         let l = a.limit₂ in
         omega arith
 

@@ -36,7 +36,7 @@ use Rattle.reckoning.proofs.Laws.Trace.{trace, log_of, held_of, status_of, graft
 use Rattle.reckoning.proofs.Laws.Rounds.{NotOpen, not_open, trace_ended, trace_graft, graft_open, graft_stopped, Counted, bounded}
 use Rattle.reckoning.proofs.Laws.Run.{NotClosed, run_unended}
 use Rattle.reckoning.proofs.Laws.Kept.{trace_few}
-use Rattle.reckoning.proofs.Laws.Answers.{text-most}
+use Rattle.reckoning.proofs.Laws.Answers.{text_most}
 use Rattle.reckoning.proofs.Laws.Meaning.{ending}
 use Rattle.reckoning.proofs.Laws.Whole.{meaning_is}
 use Rattle.reckoning.proofs.Laws.Swap.{trace_emits, text_same, text_characters}
@@ -401,7 +401,7 @@ module _ (w₁ w₂ : List ℕ) (s₁ s₂ : Session) (c : ChainCall) where
       let text₁ = text_on w₁ s₁ p e in
       let e₂ = e && is_closed (ran_on w₁ s₁ p e).status in
       let text = text_on w₂ s₂ text₁ e₂ in
-      let most : length text ≤ expansion_word w₂ * (s₂.count + length text₁) = text-most w₂ s₂ text₁ e₂ h.words₂ h.kept₂ h.open₂ in
+      let most : length text ≤ expansion_word w₂ * (s₂.count + length text₁) = text_most w₂ s₂ text₁ e₂ h.words₂ h.kept₂ h.open₂ in
       let enough = (second_admitted w₁ w₂ s₁ s₂ p e (length c.middle) (room c.call) h).passed.2 in
       record {
         numbered = tt;

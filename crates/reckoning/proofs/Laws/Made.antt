@@ -58,7 +58,7 @@ module _ (w : List ℕ) (s : Session) (u buffer : List ℕ) (eight : length s.he
   W = a.sound_words
 
   abbrev K : T (sound_session w s)
-  K = a.sound-session
+  K = a.sound_session_lem
 
   abbrev o : s.status ≡ Open
   o = a.passed.0
@@ -101,7 +101,7 @@ module _ (w : List ℕ) (s : Session) (u buffer : List ℕ) (eight : length s.he
         let few = room_kept in
         let size : length rest ≡ length buffer - length text = ap length rest_is ∙ length-drop (length text) buffer in
         let lim = (sound_facts w s' kept).limited in
-        record { sound_words = W; sound-session = kept; passed = (Open-after, omega arith, omega arith) }
+        record { sound_words = W; sound_session_lem = kept; passed = (Open-after, omega arith, omega arith) }
 
     finish_joins : (text ++ text_on w s' [] true ≡ text_on w s u true) × (left_on w s' [] true ≡ left_on w s u true) × ((ran_on w s' [] true).status ≡ (ran_on w s u true).status)
     finish_joins =

@@ -9,7 +9,7 @@ use Rattle.reckoning.specs.Calls.{CallOutcome}
 use Rattle.reckoning.specs.Reckoning.{Call, Served, before, unserved, called, and_then, serve_call, serve}
 use Rattle.reckoning.specs.Claims.{OutcomesAgree, SoundAddsUp}
 use Rattle.reckoning.specs.Serves.{SessionCaller, Demand3, UsesAddUp, NothingHeld, Serves}
-use Rattle.reckoning.proofs.Laws.Answers.{sound_adds_up, calls-stay}
+use Rattle.reckoning.proofs.Laws.Answers.{sound_adds_up, calls_stay}
 use Rattle.reckoning.proofs.Laws.Demand3.{outcomes_agree}
 use Rattle.reckoning.proofs.Laws.Needs.{nothing_held}
 use Rattle.reckoning.proofs.Laws.InTurn.{outcomes_of, Tells, every_list}
@@ -39,7 +39,7 @@ module _ (caller : SessionCaller) (tells : TellsCalls caller) where
   unfolding UsesAddUp SoundAddsUp
   uses w s W sure eight =
       every_list (called w) (λ o. o.session) (caller w) (tells w) s _
-      (λ cs. rw (seen_served w cs (before s)) (let k = calls-stay w cs (before s) sure eight in (k, sound_adds_up w _ W k)))
+      (λ cs. rw (seen_served w cs (before s)) (let k = calls_stay w cs (before s) sure eight in (k, sound_adds_up w _ W k)))
 
   -- REQUEST [9]
   held : NothingHeld caller

@@ -35,7 +35,7 @@ use Rattle.session.specs.declared.call.Answer.TheVariants.{Accepted, Refused}
 use Rattle.session.specs.declared.call.Went.{Went}
 use Rattle.reckoning.proofs.Laws.Uses.{facts_uses}
 use Rattle.reckoning.proofs.Laws.Kept.{Stands, SoundFacts, sound_facts, kept_sound}
-use Rattle.reckoning.proofs.Laws.Answers.{Admitted, Admits, admission, text-most}
+use Rattle.reckoning.proofs.Laws.Answers.{Admitted, Admits, admission, text_most}
 use Rattle.reckoning.proofs.Laws.Preview.{preview_call}
 use Rattle.session.proofs.Laws.Counting.{counted_sound}
 
@@ -75,7 +75,7 @@ module _ (w : List ℕ) (found : Kept) (uses piece : List ℕ) (ended : Bool) (r
   s = session_of (together found uses)
 
   facts : SoundFacts w s
-  facts = sound_facts w s a.sound-session
+  facts = sound_facts w s a.sound_session_lem
 
   pub count_inside : s.count ≤ length s.held
   count_inside = omega (arith, facts.places)
@@ -111,7 +111,7 @@ module _ (w : List ℕ) (found : Kept) (uses piece : List ℕ) (ended : Bool) (r
   left = later s (length piece) (length text) r
 
   left_facts : SoundFacts w left
-  left_facts = sound_facts w left (kept_sound w a.sound_words s piece ended a.sound-session a.passed.0 eight a.passed.1)
+  left_facts = sound_facts w left (kept_sound w a.sound_words s piece ended a.sound_session_lem a.passed.0 eight a.passed.1)
 
   module _ (ran : Ran) (has : Lent) (f : EndsAs w (store s ++ piece) r uses ran has) where
     held_count : ran.at - ran.from ≡ length r.final.store
@@ -168,7 +168,7 @@ pub went_whole : (w : List ℕ) (s : Session) (piece : List ℕ) (ended : Bool) 
     went_on (from_words w) s piece ended buffer ≡ call_by (accepted tt) (from_words w) s piece ended buffer
 went_whole w s piece ended buffer e =
     let a = admitted w s (length piece) (length buffer) e in
-    let most = text-most w s piece ended a.sound_words a.sound-session a.passed.0 in
+    let most = text_most w s piece ended a.sound_words a.sound_session_lem a.passed.0 in
     let o = call_by (accepted tt) (from_words w) s piece ended buffer in
     let fits = put_over (text_of (from_words w).write (resumed (from_words w) s piece ended).final.log) buffer (le_trans most a.passed.2) in
     λ i. record { answer = o.answer; session = o.session; output = fits i }

@@ -15,7 +15,7 @@ use Rattle.automaton.specs.Automaton.{Automaton, from_words}
 use Rattle.reckoning.specs.Session.{Session, fresh}
 use Rattle.reckoning.specs.Calls.{CallOutcome, admits, resumed, call_by}
 use Rattle.reckoning.specs.Reckoning.{Call, piece, room, ends, buffer_of, called}
-use Rattle.reckoning.proofs.Laws.Answers.{called-by}
+use Rattle.reckoning.proofs.Laws.Answers.{called_by_lem}
 use Rattle.station.specs.Two.{Turn, count_of, turn_by, turn, next, if_compiled}
 
 counted_by_lem : (o : Outcome (Unit {0})) (m : Automaton) (s : Session) (piece : List ℕ) (ended : Bool) (buffer : List ℕ) →
@@ -27,7 +27,7 @@ counted_by_lem (accepted u) m s piece ended buffer =
 
 -- a call's count is within the buffer that it leaves
 pub counted : (w : List ℕ) (s : Session) (c : Call) (o : CallOutcome) → o ≡ called w s c → count_of o.answer ≤ length o.output
-counted w s c o e = rw (e, called-by w s c) (counted_by_lem (admits w s (length (piece c)) (room c)) (from_words w) s (piece c) (ends c) (buffer_of c))
+counted w s c o e = rw (e, called_by_lem w s c) (counted_by_lem (admits w s (length (piece c)) (room c)) (from_words w) s (piece c) (ends c) (buffer_of c))
 
 -- the rest of xs from k on, lent and left as ys
 module _ (k : ℕ) (xs : List ℕ) where

@@ -26,7 +26,7 @@ use Rattle.reckoning.specs.Calls.{CallOutcome, admits, received_by, resumed, cal
 use Rattle.reckoning.specs.Reckoning.{Call, of_feed, of_finish, piece, buffer_of, room, ends, called}
 use Rattle.reckoning.specs.Claims.{CallsAnswer}
 use Rattle.reckoning.proofs.Laws.Kept.{sound_facts, fresh_sound, kept_sound}
-use Rattle.reckoning.proofs.Laws.Answers.{called-by, calls_answer}
+use Rattle.reckoning.proofs.Laws.Answers.{called_by_lem, calls_answer}
 use Rattle.station.specs.Two.{Turn, count_of, passed_by, turn, feed_on, finish_on, rest_of, pieces, in_two}
 use Rattle.station.specs.Claims.{rest_from, after_first, after_second, Passes}
 use Rattle.station.proofs.Laws.Calls.{counted, goes_on}
@@ -68,7 +68,7 @@ module _ (w : List ℕ) (W : T (sound w)) where
       let out : Outcome (Unit {0}) → CallOutcome = λ o. call_by o (from_words w) s (piece c) (ends c) (buffer_of c) in
       let r = resumed (from_words w) s (piece c) (ends c) in
       let text = text_of (from_words w).write r.final.log in
-      rw (called-by w s c)
+      rw (called_by_lem w s c)
       (by_cases (λ o. After (out o) k (total + n)) _ (accepted tt) (
         λ x. absurd (contrary (sound w) W x),
         λ _. (

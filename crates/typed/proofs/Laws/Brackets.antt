@@ -13,7 +13,7 @@ use Rattle.expression.proofs.Laws.Places.{there, behind_at}
 use Rattle.typed.specs.declared.sink.Streamed.{Streamed}
 use Rattle.typed.specs.bridge.Reader.{then_read, any_number, plain, element, ends_bracket, elements}
 use Rattle.typed.specs.bridge.Stream.{State, Ready, feed_range, feed_ranges}
-use Rattle.typed.specs.bridge.Answers.{state_of, readState, pastOne, Reads}
+use Rattle.typed.specs.bridge.Answers.{state_of, read_state, past_one, Reads}
 use Rattle.typed.proofs.Laws.Patterns.{element_strict}
 use Rattle.typed.proofs.Laws.Turns.{state_got, state_refused, then_refused, then_on, fed_all, one_more}
 
@@ -51,12 +51,12 @@ module _ (p : ℕ) (st : State) (t : List ℕ) where
 -- past the bracket that closes
 module _ (s : List ℕ) (at : ℕ) (r : Streamed) (loaded buffer : List ℕ) where
   pub past_reads : {w : Read State} → at ≤ r.next → r.next ≤ length s → (r.refused ≡ false → ends_bracket (drop r.next s) ≡ true) →
-      readState s r loaded buffer ≡ w →
-      Reads s at (pastOne r).refused (pastOne r).next (state_of (pastOne r).sink loaded buffer) (then_read w past)
+      read_state s r loaded buffer ≡ w →
+      Reads s at (past_one r).refused (past_one r).next (state_of (past_one r).sink loaded buffer) (then_read w past)
   past_reads {w} f l closes e = by r.refused refl
     where
       by : (b : Bool) → r.refused ≡ b →
-          Reads s at (pastOne r).refused (pastOne r).next (state_of (pastOne r).sink loaded buffer) (then_read w past)
+          Reads s at (past_one r).refused (past_one r).next (state_of (past_one r).sink loaded buffer) (then_read w past)
       by true h =
           let is : w ≡ refused = sym e ∙ state_refused s r loaded buffer h in
           rw h (record { from = f; to = l; same = sym (ap (λ d. then_read d past) is ∙ then_refused past) })
@@ -71,7 +71,7 @@ module _ (s : List ℕ) (at : ℕ) (r : Streamed) (loaded buffer : List ℕ) whe
                 ∙ sym (ap (λ d. then_read d past) is ∙ then_on (state_of r.sink loaded buffer) (drop r.next s) past);
           })
 
-  pub past_ready : Ready (state_of r.sink loaded buffer) → Ready (state_of (pastOne r).sink loaded buffer)
+  pub past_ready : Ready (state_of r.sink loaded buffer) → Ready (state_of (past_one r).sink loaded buffer)
   past_ready h = by r.refused
     where
       by : (b : Bool) → Ready (state_of (cond b r (record { refused = false; next = r.next + 1; sink = r.sink })).sink loaded buffer)

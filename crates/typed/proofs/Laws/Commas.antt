@@ -17,7 +17,7 @@ use Rattle.expression.proofs.Laws.Steps.{operator_there, operator_none}
 use Rattle.typed.specs.declared.sink.Streamed.{Streamed}
 use Rattle.typed.specs.bridge.Reader.{then_read}
 use Rattle.typed.specs.bridge.Stream.{State, Ready, feed_tree, feed_outputs}
-use Rattle.typed.specs.bridge.Answers.{state_of, readState, Streams}
+use Rattle.typed.specs.bridge.Answers.{state_of, read_state, Streams}
 use Rattle.typed.proofs.Laws.Turns.{state_got, state_refused}
 
 -- a list read behind others is put behind them
@@ -79,7 +79,7 @@ first_fed st t = by (expression_of t) ∙ ap (map_read (λ ts. feed_outputs ts s
     by (got a r) = sym (map_map (λ ts. feed_outputs ts st) (λ x. a ∷ x) (more r))
 
 pub list_begins : (s : List ℕ) (at : ℕ) (st : State) (r : Streamed) (loaded buffer : List ℕ) → Streams s at (map_read (λ a. feed_tree a st) (expression_of (drop at s))) r loaded buffer
-    → feed_more (readState s r loaded buffer) ≡ map_read (λ ts. feed_outputs ts st) (items expression_of (drop at s))
+    → feed_more (read_state s r loaded buffer) ≡ map_read (λ ts. feed_outputs ts st) (items expression_of (drop at s))
 list_begins s at st r loaded buffer h = ap feed_more h.reads.same ∙ first_fed st (drop at s)
 
 -- where a comma comes, and where none does
@@ -90,25 +90,25 @@ module _ (s : List ℕ) (a : Streamed) (loaded buffer : List ℕ) (o : Operator)
   abbrev rest : List ℕ
   rest = drop a.next s
 
-  comma_fed : (o.code ≡ 0 → ⊥) → feed_more (readState s a loaded buffer) ≡ map_read (λ ts. feed_outputs ts now) (items expression_of (drop o.next s))
+  comma_fed : (o.code ≡ 0 → ⊥) → feed_more (read_state s a loaded buffer) ≡ map_read (λ ts. feed_outputs ts now) (items expression_of (drop o.next s))
   unfolding feed_more then_read
   comma_fed there = by a.refused refl
     where
-      by : (b : Bool) → a.refused ≡ b → feed_more (readState s a loaded buffer) ≡ map_read (λ ts. feed_outputs ts now) (items expression_of (drop o.next s))
+      by : (b : Bool) → a.refused ≡ b → feed_more (read_state s a loaded buffer) ≡ map_read (λ ts. feed_outputs ts now) (items expression_of (drop o.next s))
       by true e = absurd (there (is.code ∙ ap (λ b. cond b 0 (operator is_comma (skip rest))) e))
       by false e =
           let yes = operator_there is_comma (skip rest) (λ z. there (is.code ∙ ap (λ b. cond b 0 (operator is_comma (skip rest))) e ∙ z)) in
           ap feed_more (state_got s a loaded buffer e) ∙ ap (map_read (λ ts. feed_outputs ts now)) (more_comma rest yes ∙ ap (items expression_of) (sym (is.rest there)))
 
   pub list_goes_on : (o.code ≡ 0 → ⊥) → (r : Streamed) (loaded' buffer' : List ℕ) → Streams s o.next (map_read (λ t. feed_tree t now) (expression_of (drop o.next s))) r loaded' buffer'
-      → feed_more (readState s r loaded' buffer') ≡ feed_more (readState s a loaded buffer)
+      → feed_more (read_state s r loaded' buffer') ≡ feed_more (read_state s a loaded buffer)
   list_goes_on there r loaded' buffer' h = list_begins s o.next now r loaded' buffer' h ∙ sym (comma_fed there)
 
-  pub list_ends : o.code ≡ 0 → feed_more (readState s a loaded buffer) ≡ readState s a loaded buffer
+  pub list_ends : o.code ≡ 0 → feed_more (read_state s a loaded buffer) ≡ read_state s a loaded buffer
   unfolding feed_more then_read map_read
   list_ends none = by a.refused refl
     where
-      by : (b : Bool) → a.refused ≡ b → feed_more (readState s a loaded buffer) ≡ readState s a loaded buffer
+      by : (b : Bool) → a.refused ≡ b → feed_more (read_state s a loaded buffer) ≡ read_state s a loaded buffer
       by true e = let h = state_refused s a loaded buffer e in ap feed_more h ∙ sym h
       by false e =
           let h = state_got s a loaded buffer e in
@@ -123,7 +123,7 @@ pub record Listing (s : List ℕ) (a₀ : Streamed) (loaded₀ buffer₀ : List 
   pub buffer_length : length buffer ≡ length buffer₀
   pub ready : Ready (state_of a.sink loaded buffer)
   pub op : Operates s is_comma a.refused a.next o
-  pub same : feed_more (readState s a loaded buffer) ≡ feed_more (readState s a₀ loaded₀ buffer₀)
+  pub same : feed_more (read_state s a loaded buffer) ≡ feed_more (read_state s a₀ loaded₀ buffer₀)
 
 -- the ways through brackets
 module _ (st : State) (t u : List ℕ) (e : skip t ≡ u) where

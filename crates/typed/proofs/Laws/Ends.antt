@@ -13,7 +13,7 @@ use Rattle.meaning.specs.Table.{Range}
 use Rattle.expression.specs.bridge.Text.{Read, refused, got, map_read, first, behind}
 use Rattle.typed.specs.Grammar.{Pattern, in_quotes}
 use Rattle.typed.specs.bridge.Reader.{plain, elements, alone, item, closing}
-use Rattle.typed.specs.bridge.Answers.{closingOf, endingOf}
+use Rattle.typed.specs.bridge.Answers.{closing_of, ending_of}
 
 pub item_bracket : (t : List ℕ) → first t ≡ 91 → item t ≡ elements (behind t)
 unfolding item
@@ -27,37 +27,37 @@ module _ (n : ℕ) (anchored : Bool) (t : List ℕ) where
   abbrev mark : Bool → Read Bool
   mark b = cond b (got anchored (behind t)) refused
 
-  pub closing_empty : n ≡ 0 → closingOf n anchored t ≡ refused
-  unfolding closingOf
+  pub closing_empty : n ≡ 0 → closing_of n anchored t ≡ refused
+  unfolding closing_of
   closing_empty e = ap (λ b. cond b refused (mark (eqb (first t) 34))) (eq-eqb n 0 e)
 
-  pub closing_mark : (n ≡ 0 → ⊥) → first t ≡ 34 → closingOf n anchored t ≡ got anchored (behind t)
-  unfolding closingOf
+  pub closing_mark : (n ≡ 0 → ⊥) → first t ≡ 34 → closing_of n anchored t ≡ got anchored (behind t)
+  unfolding closing_of
   closing_mark e h = ap (λ b. cond b refused (mark (eqb (first t) 34))) (ne_eqb n 0 e) ∙ ap mark (eq-eqb (first t) 34 h)
 
-  pub closing_other : (n ≡ 0 → ⊥) → (first t ≡ 34 → ⊥) → closingOf n anchored t ≡ refused
-  unfolding closingOf
+  pub closing_other : (n ≡ 0 → ⊥) → (first t ≡ 34 → ⊥) → closing_of n anchored t ≡ refused
+  unfolding closing_of
   closing_other e h = ap (λ b. cond b refused (mark (eqb (first t) 34))) (ne_eqb n 0 e) ∙ ap mark (ne_eqb (first t) 34 h)
 
 module _ (n : ℕ) (t : List ℕ) where
-  pub ending_anchored : first t ≡ 36 → endingOf n t ≡ closingOf n true (behind t)
-  unfolding endingOf
-  ending_anchored e = ap (λ b. cond b (closingOf n true (behind t)) (closingOf n false t)) (eq-eqb (first t) 36 e)
+  pub ending_anchored : first t ≡ 36 → ending_of n t ≡ closing_of n true (behind t)
+  unfolding ending_of
+  ending_anchored e = ap (λ b. cond b (closing_of n true (behind t)) (closing_of n false t)) (eq-eqb (first t) 36 e)
 
-  pub ending_plain : (first t ≡ 36 → ⊥) → endingOf n t ≡ closingOf n false t
-  unfolding endingOf
-  ending_plain e = ap (λ b. cond b (closingOf n true (behind t)) (closingOf n false t)) (ne_eqb (first t) 36 e)
+  pub ending_plain : (first t ≡ 36 → ⊥) → ending_of n t ≡ closing_of n false t
+  unfolding ending_of
+  ending_plain e = ap (λ b. cond b (closing_of n true (behind t)) (closing_of n false t)) (ne_eqb (first t) 36 e)
 
 -- the pattern of items whose end is read
 abbrev pub ended : List (List Range) → Bool → Pattern
 ended ps a = record { items = ps; anchored = a }
 
-pub pattern_end : (ps : List (List Range)) (t : List ℕ) → closing ps t ≡ map_read (ended ps) (endingOf (length ps) t)
-unfolding closing endingOf closingOf map_read
+pub pattern_end : (ps : List (List Range)) (t : List ℕ) → closing ps t ≡ map_read (ended ps) (ending_of (length ps) t)
+unfolding closing ending_of closing_of map_read
 pattern_end ps t = by (eqb (first t) 36)
   where
     shut : (a : Bool) (u : List ℕ) (qs : List (List Range)) → cond (is_empty qs) refused (cond (eqb (first u) 34) (got (ended ps a) (behind u)) refused)
-        ≡ map_read (ended ps) (closingOf (length qs) a u)
+        ≡ map_read (ended ps) (closing_of (length qs) a u)
     shut a u [] = refl
     shut a u (q ∷ qs) =
         quote (eqb (first u) 34)
@@ -68,6 +68,6 @@ pattern_end ps t = by (eqb (first t) 36)
         quote false = refl
 
     by : (b : Bool) → (let end = cond b (behind t) t in cond (is_empty ps) refused (cond (eqb (first end) 34) (got (ended ps b) (behind end)) refused))
-        ≡ map_read (ended ps) (cond b (closingOf (length ps) true (behind t)) (closingOf (length ps) false t))
+        ≡ map_read (ended ps) (cond b (closing_of (length ps) true (behind t)) (closing_of (length ps) false t))
     by true = shut true (behind t) ps
     by false = shut false t ps

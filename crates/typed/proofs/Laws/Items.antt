@@ -16,7 +16,7 @@ use Rattle.expression.specs.bridge.Text.{Read, refused, got, map_read}
 use Rattle.expression.proofs.Laws.Sound.{map_got}
 use Rattle.typed.specs.bridge.Reader.{then_read, several, item, ends_items, closing, pattern_of}
 use Rattle.typed.specs.bridge.Stream.{State, feed, feed_ranges, feed_items, feed_pattern}
-use Rattle.typed.specs.bridge.Answers.{counting, endingOf, Reads}
+use Rattle.typed.specs.bridge.Answers.{counting, ending_of, Reads}
 use Rattle.typed.proofs.Laws.Feeding.{feed_idle}
 use Rattle.typed.proofs.Laws.Readings.{read_some, fed_one, fed_none}
 use Rattle.typed.proofs.Laws.Ends.{ended, pattern_end}
@@ -127,7 +127,7 @@ pub pattern_none : (t : List ℕ) → several item ends_items 9 t ≡ refused �
 unfolding pattern_of then_read
 pattern_none t e = ap (λ d. then_read d closing) e
 
-pub pattern_read : (t : List ℕ) (ps : List (List Range)) (u : List ℕ) → several item ends_items 9 t ≡ got ps u → pattern_of t ≡ map_read (ended ps) (endingOf (length ps) u)
+pub pattern_read : (t : List ℕ) (ps : List (List Range)) (u : List ℕ) → several item ends_items 9 t ≡ got ps u → pattern_of t ≡ map_read (ended ps) (ending_of (length ps) u)
 unfolding pattern_of then_read
 pattern_read t ps u e = ap (λ d. then_read d closing) e ∙ pattern_end ps u
 
@@ -142,12 +142,12 @@ items_again {s = s} {next = next} {count = count} {b = b} {after = after} t st {
 
 -- a pattern whose end is refused, and one that is read
 module _ (t : List ℕ) {st after : State} {count : ℕ} {rest : List ℕ} (first : Items t st after count rest) where
-  pub pattern_unended : endingOf count rest ≡ refused → pattern_of t ≡ refused
-  pattern_unended e = pattern_read t first.items rest first.read ∙ fed_none (ended first.items) (ap (λ n. endingOf n rest) first.counted ∙ e)
+  pub pattern_unended : ending_of count rest ≡ refused → pattern_of t ≡ refused
+  pattern_unended e = pattern_read t first.items rest first.read ∙ fed_none (ended first.items) (ap (λ n. ending_of n rest) first.counted ∙ e)
 
-  pub pattern_whole : (anchored : Bool) (u : List ℕ) → endingOf count rest ≡ got anchored u → pattern_of t ≡ got (ended first.items anchored) u
+  pub pattern_whole : (anchored : Bool) (u : List ℕ) → ending_of count rest ≡ got anchored u → pattern_of t ≡ got (ended first.items anchored) u
   pattern_whole anchored u e =
-      pattern_read t first.items rest first.read ∙ fed_one (ended first.items) (ap (λ n. endingOf n rest) first.counted ∙ e) refl
+      pattern_read t first.items rest first.read ∙ fed_one (ended first.items) (ap (λ n. ending_of n rest) first.counted ∙ e) refl
 
   -- the rule's record, and then the items behind it
   pub pattern_fed : {begun end : State} (start : State) (anchored : Bool) → begun ≡ feed (rule_record count anchored) start → end ≡ feed_items 0 first.items begun →

@@ -35,7 +35,7 @@ use Rattle.typed.specs.declared.sink.Streamed.{Streamed}
 use Rattle.typed.specs.bridge.Reader.{lines_of}
 use Rattle.typed.specs.bridge.Outcome.{checked_records, text_records}
 use Rattle.typed.specs.bridge.Stream.{State, feed_lines, nothing_read, weight, Ready}
-use Rattle.typed.specs.bridge.Answers.{state_of, Streams, freshSink, Written}
+use Rattle.typed.specs.bridge.Answers.{state_of, Streams, fresh_sink, Written}
 use Rattle.typed.proofs.Laws.Bytes.{records_whole, records_bytes}
 use Rattle.typed.proofs.Laws.Lines.{lines_sound}
 use Rattle.typed.proofs.Laws.Decided.{text_checked}
@@ -52,7 +52,7 @@ start_ready buffer =
       reading = λ r e. subst (λ x. Fitting x × (0 ≤ 8 * weight x)) (accepted_same started r e) (started_fitting, omega arith);
     }
 
-pub begun : {k : Sink} → k ≡ freshSink → (buffer : List ℕ) → state_of k (replicate loaded_size 0) buffer ≡ nothing_read buffer
+pub begun : {k : Sink} → k ≡ fresh_sink → (buffer : List ℕ) → state_of k (replicate loaded_size 0) buffer ≡ nothing_read buffer
 begun e buffer = ap₂ (λ k l. state_of k l buffer) e (sym (pad_zeros loaded_size))
 
 -- the lines that were read, and the state that they were fed into

@@ -11,15 +11,15 @@ use Rattle.expression.specs.bridge.Text.{Read, refused, got, map_read}
 use Rattle.typed.specs.declared.sink.Streamed.{Streamed}
 use Rattle.typed.specs.bridge.Reader.{then_read, any_number}
 use Rattle.typed.specs.bridge.Stream.{State, Ready}
-use Rattle.typed.specs.bridge.Answers.{state_of, readState, goes_on_lem, Reads, Streams}
+use Rattle.typed.specs.bridge.Answers.{state_of, read_state, goes_on, Reads, Streams}
 use Rattle.typed.proofs.Laws.Several.{any_stop, any_step}
 
 -- a reading that is not refused, and one that is
 pub state_got : (s : List ℕ) (r : Streamed) (loaded buffer : List ℕ) → r.refused ≡ false →
-    readState s r loaded buffer ≡ got (state_of r.sink loaded buffer) (drop r.next s)
+    read_state s r loaded buffer ≡ got (state_of r.sink loaded buffer) (drop r.next s)
 state_got s r loaded buffer e = rw e
 
-pub state_refused : (s : List ℕ) (r : Streamed) (loaded buffer : List ℕ) → r.refused ≡ true → readState s r loaded buffer ≡ refused
+pub state_refused : (s : List ℕ) (r : Streamed) (loaded buffer : List ℕ) → r.refused ≡ true → read_state s r loaded buffer ≡ refused
 state_refused s r loaded buffer e = rw e
 
 pub then_refused : {A B : Type 0} (f : A → List ℕ → Read B) → then_read refused f ≡ refused
@@ -31,11 +31,11 @@ unfolding then_read
 then_on a t f = refl
 
 -- a loop goes on only if the last reading was not refused and nothing ends it
-pub on_read : (stop : List ℕ → Bool) (no-reading : Bool) (t : List ℕ) → goes_on_lem stop no-reading t ≡ true → no-reading ≡ false
+pub on_read : (stop : List ℕ → Bool) (no-reading : Bool) (t : List ℕ) → goes_on stop no-reading t ≡ true → no-reading ≡ false
 on_read stop true t e = let z : ◌≡◌ {A = ℕ} 0 1 = ap (λ b. cond b 1 0) e in absurd (omega arith)
 on_read stop false t e = refl
 
-pub on_unstopped : (stop : List ℕ → Bool) (no-reading : Bool) (t : List ℕ) → goes_on_lem stop no-reading t ≡ true → stop t ≡ false
+pub on_unstopped : (stop : List ℕ → Bool) (no-reading : Bool) (t : List ℕ) → goes_on stop no-reading t ≡ true → stop t ≡ false
 on_unstopped stop true t e = let z : ◌≡◌ {A = ℕ} 0 1 = ap (λ b. cond b 1 0) e in absurd (omega arith)
 on_unstopped stop false t e = by (stop t) e
   where
@@ -43,7 +43,7 @@ on_unstopped stop false t e = by (stop t) e
     by true k = let z : ◌≡◌ {A = ℕ} 0 1 = ap (λ b. cond b 1 0) k in absurd (omega arith)
     by false k = refl
 
-pub off_stopped : (stop : List ℕ → Bool) (t : List ℕ) → goes_on_lem stop false t ≡ false → stop t ≡ true
+pub off_stopped : (stop : List ℕ → Bool) (t : List ℕ) → goes_on stop false t ≡ false → stop t ≡ true
 off_stopped stop t e = by (stop t) e
   where
     by : (b : Bool) → not b ≡ false → b ≡ true
@@ -56,8 +56,8 @@ pub record Onward {B : Type 0} (s : List ℕ) (at : ℕ) (stop : List ℕ → Bo
   pub from : at ≤ r.next
   pub to : r.next ≤ length s
   pub ready : Ready (state_of r.sink loaded buffer)
-  pub going : more ≡ goes_on_lem stop r.refused (drop r.next s)
-  pub same : then_read (readState s r loaded buffer) left ≡ whole
+  pub going : more ≡ goes_on stop r.refused (drop r.next s)
+  pub same : then_read (read_state s r loaded buffer) left ≡ whole
 
 -- an item is read and fed, and then what is left
 module _ {B : Type 0} (s : List ℕ) {at : ℕ} (stop : List ℕ → Bool) {left left' : State → List ℕ → Read B} {whole : Read B}
@@ -66,10 +66,10 @@ module _ {B : Type 0} (s : List ℕ) {at : ℕ} (stop : List ℕ → Bool) {left
   pub onward_turn : {r : Streamed} {loaded buffer : List ℕ} {more : Bool} (r' : Streamed) (loaded' buffer' : List ℕ) (more' : Bool) →
       Onward s at stop left whole r loaded buffer more → more ≡ true →
       Streams s r.next (reads (state_of r.sink loaded buffer) (drop r.next s)) r' loaded' buffer' →
-      more' ≡ goes_on_lem stop r'.refused (drop r'.next s) →
+      more' ≡ goes_on stop r'.refused (drop r'.next s) →
       Onward s at stop left' whole r' loaded' buffer' more'
-  onward_turn {r} {loaded} {buffer} {more} r' loaded' buffer' more' on goes_on x goes =
-      let e : goes_on_lem stop r.refused (drop r.next s) ≡ true = sym on.going ∙ goes_on in
+  onward_turn {r} {loaded} {buffer} {more} r' loaded' buffer' more' on onward x goes =
+      let e : goes_on stop r.refused (drop r.next s) ≡ true = sym on.going ∙ onward in
       let f = on.from in
       let g = x.reads.from in
       record {
@@ -99,7 +99,7 @@ onward_end s stop {left} {whole} {r} {loaded} {buffer} f none on stopped = by r.
     by false e =
         let t = drop r.next s in
         let st = state_of r.sink loaded buffer in
-        let end : stop t ≡ true = off_stopped stop t (ap (λ b. goes_on_lem stop b t) (sym e) ∙ sym on.going ∙ stopped) in
+        let end : stop t ≡ true = off_stopped stop t (ap (λ b. goes_on stop b t) (sym e) ∙ sym on.going ∙ stopped) in
         sym (none e st t end) ∙ sym (then_on st t left)
         ∙ ap (λ d. then_read d left) (sym (state_got s r loaded buffer e)) ∙ on.same
 
@@ -107,7 +107,7 @@ onward_end s stop {left} {whole} {r} {loaded} {buffer} f none on stopped = by r.
 pub onward_stop : {B : Type 0} (s : List ℕ) {at : ℕ} (stop : List ℕ → Bool) {left : State → List ℕ → Read B} {whole : Read B} {r : Streamed} {loaded buffer : List ℕ} {more : Bool} →
     Onward s at stop left whole r loaded buffer more → more ≡ false → r.refused ≡ false → stop (drop r.next s) ≡ true
 onward_stop s stop {r = r} on stopped e =
-    off_stopped stop (drop r.next s) (ap (λ b. goes_on_lem stop b (drop r.next s)) (sym e) ∙ sym on.going ∙ stopped)
+    off_stopped stop (drop r.next s) (ap (λ b. goes_on stop b (drop r.next s)) (sym e) ∙ sym on.going ∙ stopped)
 
 -- any number of items, each fed by f
 module _ {A : Type 0} (item : List ℕ → Read A) (stop : List ℕ → Bool) (f : A → State → State) where
@@ -134,7 +134,7 @@ module _ {A : Type 0} (item : List ℕ → Read A) (stop : List ℕ → Bool) (f
 -- the measure of such a loop falls: what is unread, and whether it goes on
 pub falls : {A : Type 0} (s : List ℕ) (item : List ℕ → Read A) (strict : (t : List ℕ) (a : A) (r : List ℕ) → item t ≡ got a r → length r < length t) (stop : List ℕ → Bool)
     (at : ℕ) (no-reading : Bool) (next : ℕ) (st : State) (more : Bool) (f : A → State) →
-    Reads s at no-reading next st (map_read f (item (drop at s))) → more ≡ goes_on_lem stop no-reading (drop next s) →
+    Reads s at no-reading next st (map_read f (item (drop at s))) → more ≡ goes_on stop no-reading (drop next s) →
     (length s - next) + cond more 1 0 < (length s - at) + 1
 unfolding map_read
 falls {A} s item strict stop at true next st more f x goes =

@@ -44,20 +44,20 @@ special bracket c = cond bracket (in_brackets c) (in_quotes c)
 abbrev pub state_of : Sink → List ℕ → List ℕ → State
 state_of k loaded buffer = record { fine = k.fine; check = step_of k.step; loaded = loaded; count = k.count; buffer = buffer }
 
-abbrev pub readState : List ℕ → Streamed → List ℕ → List ℕ → Read State
-readState s r loaded buffer = cond r.refused refused (got (state_of r.sink loaded buffer) (drop r.next s))
+abbrev pub read_state : List ℕ → Streamed → List ℕ → List ℕ → Read State
+read_state s r loaded buffer = cond r.refused refused (got (state_of r.sink loaded buffer) (drop r.next s))
 
 pub record Streams (s : List ℕ) (at : ℕ) (d : Read State) (r : Streamed) (loaded buffer : List ℕ) : Type 0 where
   pub reads : Reads s at r.refused r.next (state_of r.sink loaded buffer) d
   pub ready : Ready (state_of r.sink loaded buffer)
 
 -- a loop's readings go on: the last was not refused, and nothing ends them
-abbrev pub goes_on_lem : (List ℕ → Bool) → Bool → List ℕ → Bool
-goes_on_lem stop no-reading t = not no-reading && not (stop t)
+abbrev pub goes_on : (List ℕ → Bool) → Bool → List ℕ → Bool
+goes_on stop no-reading t = not no-reading && not (stop t)
 
 -- the place behind the next character, where the reading is not refused
-abbrev pub pastOne : Streamed → Streamed
-pastOne r = cond r.refused r (record { refused = false; next = r.next + 1; sink = r.sink })
+abbrev pub past_one : Streamed → Streamed
+past_one r = cond r.refused r (record { refused = false; next = r.next + 1; sink = r.sink })
 
 -- the items of a pattern, fed from position 0, and their number
 abbrev pub counting : State → List (List Range) → State × ℕ
@@ -69,16 +69,16 @@ pub record CountsItems (s : List ℕ) (at : ℕ) (st : State) (r : Counted) (loa
   pub ready : Ready (state_of r.streamed.sink loaded buffer)
 
 -- nothing read yet
-abbrev pub freshSink : Sink
-freshSink = record { fine = true; step = Next started; count = 0 }
+abbrev pub fresh_sink : Sink
+fresh_sink = record { fine = true; step = Next started; count = 0 }
 
 -- the second pass over a text that is accepted leaves its records at the buffer's start, if they fit
 abbrev pub Written : List ℕ → List ℕ → List ℕ → Type 0
 Written text before after = (b : List ℕ) → text_records text ≡ accepted b → length b ≤ length before → after ≡ over b before
 
 -- the end of a pattern of so many items, behind its anchor: whether it is anchored
-unfoldable pub closingOf : ℕ → Bool → List ℕ → Read Bool
-closingOf n anchored t = cond (eqb n 0) refused (cond (eqb (first t) 34) (got anchored (behind t)) refused)
+unfoldable pub closing_of : ℕ → Bool → List ℕ → Read Bool
+closing_of n anchored t = cond (eqb n 0) refused (cond (eqb (first t) 34) (got anchored (behind t)) refused)
 
-unfoldable pub endingOf : ℕ → List ℕ → Read Bool
-endingOf n t = cond (eqb (first t) 36) (closingOf n true (behind t)) (closingOf n false t)
+unfoldable pub ending_of : ℕ → List ℕ → Read Bool
+ending_of n t = cond (eqb (first t) 36) (closing_of n true (behind t)) (closing_of n false t)

@@ -9,8 +9,8 @@ use Rattle.cobbletwill.specs.declared.sessions.SessionNumbers.{SessionNumbers}
 use Rattle.cobbletwill.proofs.sessions.kept_from.Goals as goal
 
 -- a session of the numbers and the counts of uses but for its status
-abbrev withStatus : SessionNumbers → List ℕ → Status → Session
-withStatus n uses s =
+abbrev with_status : SessionNumbers → List ℕ → Status → Session
+with_status n uses s =
     record {
       status = s;
       state = n.state;
@@ -23,4 +23,4 @@ withStatus n uses s =
     }
 
 pub returns : goal.returns
-returns c = λ uses. ap (withStatus c.args.numbers uses) c.status_from.ensures
+returns c = λ uses. ap (with_status c.args.numbers uses) c.status_from.ensures

@@ -9,9 +9,9 @@ use Rattle.cobbletwill.specs.declared.sessions.SessionNumbers.{SessionNumbers}
 use Rattle.cobbletwill.proofs.sessions.numbers_of.Goals as goal
 
 -- the numbers of a session but for its status
-abbrev withStatus : Session → ℕ → SessionNumbers
-withStatus s n =
+abbrev with_status : Session → ℕ → SessionNumbers
+with_status s n =
     record { received = s.received; tally = record { produced = s.produced; steps = s.steps }; status = n; state = s.state; held_count = s.count; held = s.held }
 
 pub returns : goal.returns
-returns c = ap (withStatus (session_of (together c.args.kept []))) c.status_number.ensures
+returns c = ap (with_status (session_of (together c.args.kept []))) c.status_number.ensures

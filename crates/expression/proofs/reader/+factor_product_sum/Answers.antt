@@ -5,7 +5,7 @@ use Prim.Native.Nat.{◌+◌}
 use native.Mathlib.Omega.{arith}
 use lib.ListN.{drop}
 use Rattle.expression.specs.Parts.{parts}
-use Rattle.expression.specs.bridge.Text.{behind, closed, join, chained, is_sign, is_star, within, sum as sum_of, product as productOf, factor as factorOf}
+use Rattle.expression.specs.bridge.Text.{behind, closed, join, chained, is_sign, is_star, within, sum as sum_of, product as product_of, factor as factor_of}
 use Rattle.expression.proofs.Laws.Chains.{factor_shrinks, product_shrinks, within_shrinks}
 use Rattle.expression.proofs.Laws.Steps.{turn, ending, refuses}
 use Rattle.expression.proofs.Laws.Places.{closed_refused, behind_at, factor_open, factor_other, within_none, within_deeper}
@@ -53,7 +53,7 @@ factor-returns t c =
     }
 
 pub product-loop-op-init : goal.product-loop-op-init
-unfolding productOf
+unfolding product_of
 product-loop-op-init t c =
     let r = c.factor-so_far.ensures in
     record {
@@ -61,7 +61,7 @@ product-loop-op-init t c =
       to = r.to;
       small = r.small;
       op = c.star-op.ensures;
-      same = ap (chained (join parts) is_star (factorOf parts (within parts c.args.depth))) r.same;
+      same = ap (chained (join parts) is_star (factor_of parts (within parts c.args.depth))) r.same;
     }
 
 pub product-loop-op-preserved : goal.product-loop-op-preserved
@@ -77,7 +77,7 @@ product-loop-op-preserved t c =
       small = j.small;
       op = c.star-op-in-loop-op.ensures;
       same =
-          sym (turn a.s.now is_star refl (factorOf parts (within parts a.depth)) (factor_shrinks parts (within parts a.depth) (within_shrinks parts a.depth)) _ _ _ _ i.op h c.factor-right.ensures j)
+          sym (turn a.s.now is_star refl (factor_of parts (within parts a.depth)) (factor_shrinks parts (within parts a.depth) (within_shrinks parts a.depth)) _ _ _ _ i.op h c.factor-right.ensures j)
           ∙ i.same;
     }
 
@@ -90,7 +90,7 @@ product-returns t c =
       to = i.to;
       small = i.small;
       same =
-          sym (ending a.s.now is_star refl (factorOf parts (within parts a.depth)) (factor_shrinks parts (within parts a.depth) (within_shrinks parts a.depth)) _ _ i.op c.loop-op-test.false)
+          sym (ending a.s.now is_star refl (factor_of parts (within parts a.depth)) (factor_shrinks parts (within parts a.depth) (within_shrinks parts a.depth)) _ _ i.op c.loop-op-test.false)
           ∙ i.same;
     }
 
@@ -103,7 +103,7 @@ sum-loop-op-init t c =
       to = r.to;
       small = r.small;
       op = c.sign-op.ensures;
-      same = ap (chained (join parts) is_sign (productOf parts (within parts c.args.depth))) r.same;
+      same = ap (chained (join parts) is_sign (product_of parts (within parts c.args.depth))) r.same;
     }
 
 pub sum-loop-op-preserved : goal.sum-loop-op-preserved
@@ -119,7 +119,7 @@ sum-loop-op-preserved t c =
       small = j.small;
       op = c.sign-op-in-loop-op.ensures;
       same =
-          sym (turn a.s.now is_sign refl (productOf parts (within parts a.depth)) (product_shrinks parts (within parts a.depth) (within_shrinks parts a.depth)) _ _ _ _ i.op h c.product-right.ensures j)
+          sym (turn a.s.now is_sign refl (product_of parts (within parts a.depth)) (product_shrinks parts (within parts a.depth) (within_shrinks parts a.depth)) _ _ _ _ i.op h c.product-right.ensures j)
           ∙ i.same;
     }
 
@@ -132,6 +132,6 @@ sum-returns t c =
       to = i.to;
       small = i.small;
       same =
-          sym (ending a.s.now is_sign refl (productOf parts (within parts a.depth)) (product_shrinks parts (within parts a.depth) (within_shrinks parts a.depth)) _ _ i.op c.loop-op-test.false)
+          sym (ending a.s.now is_sign refl (product_of parts (within parts a.depth)) (product_shrinks parts (within parts a.depth) (within_shrinks parts a.depth)) _ _ i.op c.loop-op-test.false)
           ∙ i.same;
     }

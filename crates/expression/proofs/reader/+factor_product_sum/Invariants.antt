@@ -3,7 +3,7 @@
 use Prim.Native.Nat.{◌+◌, ◌-◌, ◌*◌}
 use lib.ListN.{length, drop}
 use Rattle.expression.specs.Parts.{parts}
-use Rattle.expression.specs.bridge.Text.{is_sign, is_star, within, sum as sum_of, product as productOf, factor as factorOf}
+use Rattle.expression.specs.bridge.Text.{is_sign, is_star, within, sum as sum_of, product as product_of, factor as factor_of}
 use Rattle.expression.proofs.Laws.Steps.{Going}
 use Rattle.expression.proofs.reader.+factor_product_sum.Given as goal
 
@@ -18,14 +18,14 @@ decreases-sum l = 3 * (length l.s.now - l.at) + 2
 
 abbrev pub invariant-product-loop-op : goal.invariant-product-loop-op
 invariant-product-loop-op l =
-    Going l.s l.at is_star (factorOf parts (within parts l.depth)) (productOf parts (within parts l.depth) (drop l.at l.s)) l.so_far l.op
+    Going l.s l.at is_star (factor_of parts (within parts l.depth)) (product_of parts (within parts l.depth) (drop l.at l.s)) l.so_far l.op
 
 abbrev pub decreases-product-loop-op : goal.decreases-product-loop-op
 decreases-product-loop-op l = length l.s - l.so_far.next
 
 abbrev pub invariant-sum-loop-op : goal.invariant-sum-loop-op
 invariant-sum-loop-op l =
-    Going l.s l.at is_sign (productOf parts (within parts l.depth)) (sum_of parts (within parts l.depth) (drop l.at l.s)) l.so_far l.op
+    Going l.s l.at is_sign (product_of parts (within parts l.depth)) (sum_of parts (within parts l.depth) (drop l.at l.s)) l.so_far l.op
 
 abbrev pub decreases-sum-loop-op : goal.decreases-sum-loop-op
 decreases-sum-loop-op l = length l.s - l.so_far.next

@@ -10,8 +10,8 @@ use Rattle.session.specs.declared.tally.Tally.{Tally}
 use Rattle.session.proofs.kept.fresh.Goals as goal
 
 -- a fresh session but for its tally
-abbrev withTally : Tally → Session
-withTally t =
+abbrev with_tally : Tally → Session
+with_tally t =
     record {
       status = Open;
       state = 0;
@@ -25,4 +25,4 @@ withTally t =
 
 pub returns : goal.returns
 unfolding fresh pad
-returns c = ap withTally c.zero.ensures
+returns c = ap with_tally c.zero.ensures

@@ -9,7 +9,7 @@ use lib.Seq.{length-take-le, paste, paste-zero}
 use Rattle.meaning.specs.Block.{at, entry_value, block_output}
 use Rattle.meaning.proofs.Laws.Writing.{written_more, written_all}
 use Rattle.automaton.specs.Sound.{block_at}
-use Rattle.session.proofs.run.write_default.Invariants.{defaultText}
+use Rattle.session.proofs.run.write_default.Invariants.{default_text}
 use Rattle.session.proofs.run.write_default.Goals as goal
 use Rattle.session.proofs.run.write_default.Goals.{Start, Then-number-eq1}
 
@@ -73,7 +73,7 @@ returns-then-number-eq1 c =
 pub loop-j-init : goal.loop-j-init
 loop-j-init c =
     let a = c.args in
-    (c.group_outputs-number.ensures, omega arith, refl, paste-zero a.output.now a.count (defaultText a.words.now a.text.now a.place))
+    (c.group_outputs-number.ensures, omega arith, refl, paste-zero a.output.now a.count (default_text a.words.now a.text.now a.place))
 
 pub entry_value-requires-in-loop-j : goal.entry_value-requires-in-loop-j
 entry_value-requires-in-loop-j c =

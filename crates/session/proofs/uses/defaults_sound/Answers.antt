@@ -21,12 +21,12 @@ use Rattle.session.proofs.uses.defaults_sound.Goals.{After-default_mode}
 abbrev asked : ℕ → ℕ → ℕ → Bool
 asked n singles pairs = all_of (implies (not (used n)) (eqb singles 0) ∷ implies (not (eqb n 2)) (eqb pairs 0) ∷ [])
 
-abbrev byMode : Mode → Bool → Bool → Bool
-byMode Absent x y = x && y
-byMode Single x y = y
-byMode Paired x y = true
+abbrev mode_asks : Mode → Bool → Bool → Bool
+mode_asks Absent x y = x && y
+mode_asks Single x y = y
+mode_asks Paired x y = true
 
-by_mode : (n singles pairs : ℕ) → n ≤ 2 → byMode (word_mode n) (eqb singles 0) (eqb pairs 0) ≡ asked n singles pairs
+by_mode : (n singles pairs : ℕ) → n ≤ 2 → mode_asks (word_mode n) (eqb singles 0) (eqb pairs 0) ≡ asked n singles pairs
 unfolding all_of
 by_mode zero x y h = simp and-true
 by_mode (suc zero) x y h = simp and-true
@@ -34,9 +34,9 @@ by_mode (suc (suc zero)) x y h = refl
 by_mode (suc (suc (suc n))) x y h = absurd (omega arith)
 
 known : (d : After-default_mode) (m : Mode) → m ≡ the_mode d.default_mode.result → let a = d.args in
-    byMode m (eqb a.singles 0) (eqb a.pairs 0) ≡ asked (at a.words.now 5) a.singles a.pairs
+    mode_asks m (eqb a.singles 0) (eqb a.pairs 0) ≡ asked (at a.words.now 5) a.singles a.pairs
 known d m e = let a = d.args in
-    ap (λ k. byMode k (eqb a.singles 0) (eqb a.pairs 0)) (e ∙ d.default_mode.ensures)
+    ap (λ k. mode_asks k (eqb a.singles 0) (eqb a.pairs 0)) (e ∙ d.default_mode.ensures)
     ∙ by_mode (at a.words.now 5) a.singles a.pairs (sound_header_lem a.words.now d.requires).default
 
 pub default_mode-requires : goal.default_mode-requires

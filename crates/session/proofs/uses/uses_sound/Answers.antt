@@ -22,8 +22,8 @@ use Rattle.session.proofs.uses.uses_sound.Goals as goal
 use Rattle.session.proofs.uses.uses_sound.Goals.{After-others_unused, Else-singles-uses, In-Left, In-Left-without_rule, Start}
 
 -- what the rules took, and with the default
-abbrev byRules : Start → ℕ
-byRules s = sum_below (rule_count s.args.words.now) (λ g. at s.args.uses.now g * at (block_at s.args.words.now g) 0)
+abbrev by_rules : Start → ℕ
+by_rules s = sum_below (rule_count s.args.words.now) (λ g. at s.args.uses.now g * at (block_at s.args.words.now g) 0)
 
 abbrev used : Start → ℕ
 used s = characters_used s.args.words.now s.args.uses.now
@@ -36,7 +36,7 @@ sum-fails s d = sym (all_stops _ (ne_eqb (used s) s.args.consumed d))
 abbrev start : In-Left → Start
 start k = (goal.at.In-Left k).Start
 
-left-of : (k : In-Left) → byRules (goal.at.In-Left k).Start + k.in-Left.left ≡ k.args.consumed
+left-of : (k : In-Left) → by_rules (goal.at.In-Left k).Start + k.in-Left.left ≡ k.args.consumed
 left-of k = enough_less _ _ _ (sym k.without_rules.ensures ∙ ap rest_of k.in-Left.is)
 
 singles-of : (k : In-Left-without_rule) → at k.args.uses.now pair_number * 2 + k.in-Left-without_rule.singles ≡ k.in-Left.left
@@ -59,7 +59,7 @@ past-sum c = let s = entry c in
 pub returns-in_default : goal.returns-in_default
 unfolding characters_used
 returns-in_default c =
-    let lacking : c.args.consumed < byRules (goal.at.returns-in_default c).Start = lacking_less _ _ (sym c.without_rules.ensures ∙ ap rest_of c.in_default.is) in
+    let lacking : c.args.consumed < by_rules (goal.at.returns-in_default c).Start = lacking_less _ _ (sym c.without_rules.ensures ∙ ap rest_of c.in_default.is) in
     sum-fails (goal.at.returns-in_default c).Start (omega arith)
 
 pub without_rule-requires : goal.without_rule-requires

@@ -6,7 +6,7 @@ use Prim.Native.Nat.{ℕ}
 use native.Mathlib.Omega.{arith}
 use lib.ListN.{drop}
 use Rattle.expression.proofs.Laws.Places.{there, behind_at}
-use Rattle.typed.specs.bridge.Answers.{closingOf}
+use Rattle.typed.specs.bridge.Answers.{closing_of}
 use Rattle.typed.proofs.Laws.Ends.{ending_anchored, ending_plain}
 use Rattle.typed.proofs.pattern.ending.Goals as goal
 
@@ -28,7 +28,7 @@ returns-then-c-eq36 c =
       to = r.to;
       same =
           r.same
-          ∙ ap (closingOf a.items true) (behind_at s a.at)
+          ∙ ap (closing_of a.items true) (behind_at s a.at)
           ∙ sym (ending_anchored a.items (drop a.at s) (sym c.code_at-c.ensures ∙ c.if-c-eq36.true));
     }
 
