@@ -4,7 +4,9 @@
 Reads the definitions of crates/*/specs (bridges aside), the record of all promises (crates/promises/specs/Promises.antt) and its theorem, and
 holds the pages to them: README's table of promises and its count of lines, and in docs/PROMISES.md what each demand and request stands on, the
 files with their lines, and the types of the code and the names of the kit that they cite. Refuses a believed definition that cites a bridge,
-one that nothing uses (so a claim that is no promise), an entry point without a stored contract, and a `requires` at an entry point.
+one that nothing uses (so a claim that is no promise), an entry point without a stored contract, a `requires` at an entry point, a stored contract of
+another function than it is written down for, and a function of the library for C that is more than a call of the function of its name, or says
+something else.
 
 usage: pages.py [--write]      with --write the pages are made anew, else they are compared
 """
@@ -25,7 +27,9 @@ CONSEQUENCES = {"meaning/Digits", "automaton/Digits", "meaning/AnyOrder", "autom
 
 WORD = r"[^\s(){},;.:λ«»]+"
 HEAD = rf"( *)(?:(?:unfoldable|abbrev) )?(pub )?(?:(record|data) )?({WORD})(?: |$)"
-SPECS = r"Rattle·(\w+?)(?:·specs)?\.specs\.(.+)$"
+SPECS = r"Rattle\.(\w+)\.specs\.(.+)$"
+# What Rattle makes of the code stands beside the definitions: its types, and of each function its signature and its code.
+MADE = ("declared.", "contracts.")
 
 
 def fail(text):
@@ -43,6 +47,14 @@ def uses(text):
             path, _, alias = item.partition(" as ")
             found.append((path.strip(), None, alias.strip() or path.strip().split(".")[-1]))
     return found
+
+
+def written(path):
+    """The key of the file of definitions, of a crate of ours, to which a `use` path leads, a bridge's too; else None."""
+    match = re.match(SPECS, path)
+    if match and (ROOT / f"crates/{match[1]}").is_dir() and not match[2].startswith(MADE):
+        return f"{match[1]}/{match[2]}"
+    return None
 
 
 class Definition:
@@ -65,6 +77,8 @@ class File:
         title = re.match(r"(?:--.*\n)*", self.text)[0]
         self.title = " ".join(line[2:].strip() for line in title.splitlines()).rstrip(".")
         self.uses = uses(self.text)
+        if any("as" in (names or []) for _, names, _ in self.uses):
+            fail(f"{self.link} brings a name under another one")
         self.definitions = {}
         # each name that a definition brings, its constructors among them, and the definition's name
         self.names = {}
@@ -100,16 +114,15 @@ class File:
     def specs(self):
         """The files of definitions that this one cites: key, names brought or none, name for the module or none."""
         for path, names, alias in self.uses:
-            match = re.match(SPECS, path)
-            if match and (ROOT / f"crates/{match[1]}").is_dir() and not match[2].startswith("declared"):
-                yield f"{match[1]}/{match[2]}", names, alias
+            if key := written(path):
+                yield key, names, alias
 
 
 def believed():
     """The files of definitions by key, in the order of crates.txt and of each specs/Lib.antt."""
     paths = {path for path in ROOT.glob("crates/*/specs/[A-Z]*.antt") if path.stem != "Lib"}
     files = {}
-    for crate in re.findall(r"^(\w+):", (ROOT / "crates.txt").read_text(), re.M):
+    for crate in re.findall(r"^(\w+)(?: staticlib)?:", (ROOT / "crates.txt").read_text(), re.M):
         folder = ROOT / f"crates/{crate}/specs"
         modules = re.findall(r"^pub mod ([A-Z]\w*)", (folder / "Lib.antt").read_text(), re.M) if folder.exists() else []
         for module in modules:
@@ -127,7 +140,7 @@ def cited_by(files, file, name):
     """The definitions that a definition cites: (key of the file, name)."""
     text = file.text_of(name)
     words = set(re.findall(rf"(?<![\w.])({WORD})", text))
-    words |= {f"_{word}_" for word in words}
+    words |= {f"◌{word}◌" for word in words}
     for word in words & file.names.keys():
         yield file.key, file.names[word]
     for key, names, alias in file.specs():
@@ -159,11 +172,16 @@ def unused(files):
 
 
 def resolve(found, text):
-    """The names of a text that `use` items bring: (name, path), in the text's order."""
-    for word in dict.fromkeys(re.findall(rf"{WORD}(?:\.{WORD})?", text)):
+    """The names of a text that `use` items bring: (name, path), in the text's order. Behind a dot stands a field, or what a module has."""
+    brought = {}
+    for word in re.findall(rf"{WORD}(?:\.{WORD})?", text):
+        head = word.split(".")[0]
         for path, names, alias in found:
-            if (names is not None and word in names) or (alias and word.split(".")[0] == alias):
-                yield word, path
+            if names is not None and head in names:
+                brought.setdefault((head, path))
+            elif alias == head:
+                brought.setdefault((word, path))
+    yield from brought
 
 
 def promises(files):
@@ -179,7 +197,7 @@ def promises(files):
         elif line.startswith("pub ") and groups:
             name, _, kind = line[4:].partition(" : ")
             said = re.sub(r"^.*→ ", "", kind)
-            definitions = [(word, path) for word, path in resolve(spec.uses, said) if re.match(SPECS, path) and "·lists." not in path]
+            definitions = [(word, path) for word, path in resolve(spec.uses, said) if written(path) and ".lists." not in path]
             theorems = list(resolve(uses(proof), shown.get(name, "")))
             if not sentence or not definitions or not theorems:
                 fail(f"the promise {name} has no sentence, no definition or no theorem")
@@ -192,22 +210,51 @@ def promises(files):
     return groups
 
 
+def function(path, name):
+    """A function of a file of code: its parameters, its result, its clauses with each name by its whole path, and its body."""
+    text = re.sub(r"//.*", "", path.read_text())
+    found = re.search(rf"fn {name}\((.*?)\)(.*?)^\{{$(.*?)^\}}$", text, re.M | re.S)
+    if not found:
+        fail(f"{path.relative_to(ROOT)} has no function {name}")
+    whole = {}
+    for module, names, alias in uses("\n".join(re.findall(r"^ghost (use [^;]*);$", text, re.M))):
+        whole |= {alias: module} if alias else {brought: f"{module}.{brought}" for brought in names}
+    whole |= {parameter: parameter for parameter in re.findall(r"(\w+):", found[1])}
+    result, ensures, clauses = " ".join(found[2].split()).partition(" ensures ")
+    said = re.sub(rf"(?<![\w.])({WORD})", lambda word: whole.get(word[0], word[0]), ensures + clauses)
+    parameters, body = (re.sub(r",(?=\)|$)", "", re.sub(r"\s+", "", code)) for code in (found[1], found[3]))
+    return parameters, result, said, body
+
+
 def entry_points():
-    """The number of stored contracts. Every C function has one, and no function that has one has a `requires`."""
-    stored = re.findall(r"^  -- (?:(\w+)::(\w+)::)?(\w+)$", (ROOT / "crates/promises/specs/Contracts.antt").read_text(), re.M)
+    """The number of stored contracts. Each is of the function that it is written down for; every C function calls one that has one, does nothing else
+    and says the same; and no function that has one has a `requires`, nor has a C function."""
+    spec = (ROOT / "crates/promises/specs/Promised.antt").read_text()
+    stored = re.findall(rf"^  -- (?:(\w+)::(\w+)::)?(\w+)\n  pub {WORD} : EntryPoint ({WORD})\.ended ({WORD})\.name ({WORD})\.code$", spec, re.M)
+    if len(stored) != len(re.findall(r"\bEntryPoint\b(?! *\})", spec.partition("pub record")[2])):
+        fail("crates/promises/specs/Promised.antt has a stored contract without the name of its function")
+    modules = {alias: path for path, names, alias in uses(spec) if names is None}
     exported = {}
     for path in sorted(ROOT.glob("crates/*/src/**/*.rt")):
         for name in re.findall(r'extern "C" fn (\w+)', path.read_text()):
             exported[name] = path
-    for name in exported.keys() - {name for _, _, name in stored}:
-        fail(f"no contract of {name} is stored in crates/promises/specs/Contracts.antt")
-    for crate, module, name in stored:
-        path = ROOT / f"crates/{crate}/src/{module}.rt" if crate else exported.get(name)
-        head = path and path.exists() and re.search(rf"fn {name}\b.*?^\{{$", path.read_text(), re.M | re.S)
-        if not head:
-            fail(f"no function {name} is found for its stored contract")
-        if "requires" in head[0]:
+    for name in exported.keys() - {name for _, _, name, *_ in stored}:
+        fail(f"no contract of {name} is stored in crates/promises/specs/Promised.antt")
+    for crate, module, name, ended, named, coded in stored:
+        where = re.match(rf"Rattle\.(\w+)\.specs\.contracts\.((?:\w+\.)*){name}$", modules.get(ended, ""))
+        if not where or (crate and where.groups() != (crate, f"{module}.")) or (not crate and name not in exported):
+            fail(f"the contract that is stored of {name} is of {modules.get(ended)}")
+        owner, inner = where.groups()
+        if named != coded or modules.get(named) != f"Rattle.{owner}.proofs.{inner}{name}.Symbol":
+            fail(f"the contract that is stored of {name} is of the code of {modules.get(named)}")
+        path = ROOT / f"crates/{owner}/src/{inner.replace('.', '/').rstrip('/') or 'lib'}.rt"
+        asked = function(path, name)
+        if "requires" in asked[1] + asked[2]:
             fail(f"{name} asks something of its caller")
+        if not crate:
+            given = ",".join(re.findall(r"(\w+):", asked[0]))
+            if function(exported[name], name) != (*asked[:3], f"{owner}::{inner.replace('.', '::')}{name}({given})"):
+                fail(f"{exported[name].relative_to(ROOT)} has {name} say or do something else than a call of {owner}'s")
     if not exported or len(stored) <= len(exported):
         fail("the stored contracts are not those of the C functions and of those in Rattle")
     return len(stored)
@@ -215,7 +262,7 @@ def entry_points():
 
 def place(path):
     """The file of a `use` path."""
-    crate, kind, rest = re.match(r"Rattle·(\w+?)(?:·\w+)?\.(specs|proofs)\.(?:proofs\.)?(.+)$", path).groups()
+    crate, kind, rest = re.match(r"Rattle\.(\w+)\.(specs|proofs)\.(.+)$", path).groups()
     return f"crates/{crate}/{kind}/{rest.replace('.', '/')}.antt"
 
 
@@ -240,7 +287,7 @@ def stands_on(files, groups):
         starts = set()
         for _, pairs, _ in fields:
             for word, path in pairs:
-                file = files["/".join(re.match(SPECS, path).groups())]
+                file = files[written(path)]
                 starts.add((file.key, file.names[word.split(".")[-1]]))
         needed = {}
         for key, name in closure(files, starts):
@@ -264,7 +311,7 @@ def declared(files):
     types = set()
     for file in files.values():
         for path, _, _ in file.uses:
-            match = re.match(r"Rattle·(\w+?)(?:·specs)?\.specs\.declared\.(.+)\.(\w+?)(?:\.the-variants)?$", path)
+            match = re.match(r"Rattle\.(\w+)\.specs\.declared\.(.+)\.(\w+)$", path.removesuffix(".TheVariants"))
             if match:
                 types.add(match.groups())
     rows, total = ["| type of the code | lines |", "|---|---:|"], 0
@@ -284,7 +331,7 @@ def kit(files):
     modules = {}
     for file in files.values():
         for path, names, alias in file.uses:
-            match = re.match(r"Rattle·(\w+)", path)
+            match = re.match(r"Rattle\.(\w+)", path)
             if not match or not (ROOT / f"crates/{match[1]}").is_dir():
                 modules.setdefault(path, set()).update(names or [alias])
     rows = ["| module of the kit | names |", "|---|---|"]
