@@ -1,4 +1,4 @@
-# `make demo` converts two samples, unproved; `make build` proves and builds the library and the program; `make test` is the gate;
+# `make demo` converts two samples by the proved library; `make build` proves and builds the library and the program; `make test` is the gate;
 # `make install` installs the library; `make tables` builds the tables; `make bench` times the library
 # beside the build before and beside rivals.
 .PHONY: demo build test install tables bench fmt
@@ -39,14 +39,16 @@ tables: target/staticlib/libcobbletwill.a
 	    echo "$$folder" && target/cargo/release/build_table "$$folder/rules.txt" "$$folder/rules.tab" || exit 1; \
 	done
 
-# The library, proved, beside that of an earlier commit and beside rivals; prints the tables of docs/PERFORMANCE.md. BEFORE is the landing before
-# this one, and each landing sets it anew; the tables of the page are of BEFORE=f79dcd3, but for that of chains.
-BEFORE ?= 05edb7e
+# The library, proved, beside that of an earlier commit, proved too, and beside rivals; prints the tables of docs/PERFORMANCE.md. BEFORE is the landing
+# before this one, and each landing sets it anew; here it is the first commit whose library this kit builds, since it reads no landing before. The
+# tables of the page were made with the kits of their time, of BEFORE=f79dcd3, but for that of chains.
+BEFORE ?= 04238c8
 bench:
 	@command -v flex > /dev/null || { echo 'bench: flex is missing; apt-get install flex' >&2; exit 1; }
 	@bash .ci/build
 	@bash compare/before.sh $(BEFORE)
 	cargo run --release --offline --locked --quiet --manifest-path compare/Cargo.toml --target-dir target/cargo --features before,flex --bin bench
 
+# The layout of every crate's files; the gate refuses another.
 fmt:
-	rt fmt
+	@for folder in crates/*/; do (cd "$$folder" && rt fmt) || exit 1; done

@@ -2,7 +2,8 @@
 # takes off the stack pointer, and the deepest of its calls; one that calls none may use 128 bytes below its stack pointer (the red zone of
 # x86-64). Of memcpy and memset, which are not in the library, the return address alone is counted.
 # `-v nested=NAME -v turns=N` names a function that calls itself, by way of others or not, and is entered at most N times before it is left.
-# Fails on what it can't add up: another change of the stack pointer, a call through a pointer, a cycle of calls that is not through `nested`.
+# Fails on what it can't add up: another change of the stack pointer, a call through a pointer, an address of a function that is not called there, a
+# cycle of calls that is not through `nested`.
 
 /^[0-9a-f]+ <.*>:$/ {
     name = $2
@@ -16,7 +17,7 @@ operation == "push" && /^ +[0-9a-f]+:\t/ { frame[name] += 8 }
     if ($2 == "sub" && amount ~ /^\$0x[0-9a-f]+,/) frame[name] += number(substr(amount, 4, index(amount, ",") - 4))
     else if ($2 != "add" || amount !~ /^\$0x[0-9a-f]+,/) fail(name " changes the stack pointer by: " $0)
 }
-# A jump through a register is a match; Rattle has no calls through pointers.
+# A jump through a register is a match, where no address of a function is taken.
 /\tcall +\*/ { fail(name " calls through a pointer: " $0) }
 # The relocation of a call, or of a jump to another function.
 /R_X86_64_PLT32/ && operation ~ /^(call|jmp)$/ {
@@ -26,7 +27,14 @@ operation == "push" && /^ +[0-9a-f]+:\t/ { frame[name] += 8 }
     if (!((name, callee) in called)) calls[name] = calls[name] " " callee
     called[name, callee]
 }
+/R_X86_64_/ && !(/R_X86_64_PLT32/ && operation ~ /^(call|jmp)$/) {
+    target = $3
+    sub(/[-+]0x[0-9a-f]+$/, "", target)
+    if (sub(/^\.text\.?/, "", target)) fail(name " takes the address of " target)
+    taken[target] = name
+}
 END {
+    for (target in taken) if (target in frame) fail(taken[target] " takes the address of " target)
     if (failed) exit 1
     for (name in frame) if (name ~ /^cobbletwill_/) print name, deepest(name)
     if (failed) exit 1

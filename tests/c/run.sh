@@ -5,6 +5,10 @@ set -euo pipefail
 trap 'echo "tests/c: line $LINENO of $0 failed" >&2' ERR
 cd "$(dirname "$0")/../.."
 
+# For copies of the sources: rt wants none below the repository.
+tree=$(mktemp -d)
+trap 'rm -rf "$tree"' EXIT
+
 library=target/staticlib/libcobbletwill.a
 out=target/tests-c
 rm -rf "$out"
@@ -106,11 +110,10 @@ refuses() { if bash .ci/proved "$1" "$2" 2> "$out/said"; then fail "$3 counts as
 refuses . "$out/other.a" "another library"
 grep -qF 'is another file than the one that was proved' "$out/said"
 refuses . "$out/none.a" "a library that is not there"
-mkdir "$out/tree"
-cp -r crates crates.txt "$out/tree"
-bash .ci/proved "$out/tree" "$library"
-echo >> "$out/tree/crates/lists/specs/Lists.antt"
-refuses "$out/tree" "$library" "a library of other sources"
+cp -r --parents crates.txt crates/*/src crates/*/specs crates/*/proofs "$tree"
+bash .ci/proved "$tree" "$library"
+echo >> "$tree/crates/lists/specs/Lists.antt"
+refuses "$tree" "$library" "a library of other sources"
 grep -qF 'the sources are others than those that were proved' "$out/said"
 
 # An installed copy, by pkg-config if it is here, of one version.
