@@ -32,7 +32,8 @@ fn admit_open(
         return Verdict::Refused(14);
     }
     let least = first_most * (first_held + size);
-    if least > 1099511627776 - second_received {
+    let second_piece = least;
+    if second_piece > 1099511627776 - second_received {
         return Verdict::Refused(14);
     }
     if middle < least {

@@ -65,6 +65,9 @@ fn end_of(loaded: &[u16], place: usize, coefficient: u16, least: bool) -> u16
     place_end(loaded, place, (coefficient < 32768) == least)
 }
 
+// The first number of 16 bits that stands for a coefficient below 0.
+const NEGATIVE: u64 = 32768;
+
 // A coefficient of 16 bits times a character, added.
 fn with_product(d: Difference, coefficient: u16, character: u16) -> Difference
     requires { (d.plus ≤ 2 ^ 40) × (d.minus ≤ 2 ^ 40) }
@@ -73,7 +76,7 @@ fn with_product(d: Difference, coefficient: u16, character: u16) -> Difference
 {
     let a = coefficient as u64;
     let c = character as u64;
-    if a < 32768 {
+    if a < NEGATIVE {
         return Difference {
             plus: d.plus + a * c,
             minus: d.minus,

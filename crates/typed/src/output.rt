@@ -14,6 +14,9 @@ use expression::part::Part;
 use expression::reader::expression;
 use expression::symbol::{code_at, skip};
 
+// The greatest coefficient of signed 16 bits.
+const GREATEST: i64 = 32767;
+
 // No part left its limits, and each coefficient is in signed 16 bits.
 fn within17(part: Part) -> bool
     requires { Small part.numbers }
@@ -29,7 +32,7 @@ fn within17(part: Part) -> bool
         if z < -32768 {
             return false;
         }
-        if 32767 < z {
+        if GREATEST < z {
             return false;
         }
         i += 1;

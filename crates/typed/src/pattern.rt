@@ -267,6 +267,9 @@ fn feed_item(
     feed_character(s, at, position, sink, loaded, buffer)
 }
 
+// How many items a pattern has at most.
+const MOST_ITEMS: u8 = 8;
+
 // One more item, where there are fewer than 8.
 fn feed_next(
     s: &[u16],
@@ -282,7 +285,7 @@ fn feed_next(
         Streams s.now at (map_read (λ x. feed_ranges items x found) (cond (ltb items 8) (item_of (drop at s.now)) refused))
         result loaded.new buffer.new }
 {
-    if items < 8 {
+    if items < MOST_ITEMS {
         return feed_item(s, at, items, sink, loaded, buffer);
     }
     Streamed {

@@ -14,8 +14,8 @@ overflow_add-result c =
     let a = c.args in
     omega (arith, product_small a.coefficient a.character (omega arith) (omega arith))
 
-pub returns-then-a-lt32768 : goal.returns-then-a-lt32768
-returns-then-a-lt32768 c =
+pub returns-then-a-lt-NEGATIVE : goal.returns-then-a-lt-NEGATIVE
+returns-then-a-lt-NEGATIVE c =
     let a = c.args in
     let small = product_small a.coefficient a.character (omega arith) (omega arith) in
     record { sum = product_plus a.d.plus a.d.minus a.coefficient a.character (omega arith); small = (omega arith, omega arith) }

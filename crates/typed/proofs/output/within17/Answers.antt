@@ -24,20 +24,20 @@ returns-then-z-ltminus32768 c =
     let i = c.loop-i in
     sym (within_large p i.i i.invariant.0 (omega arith) (too_low 32767 (get_or p.numbers i.i (pos 0)) c.z-1.given c.if-z-ltminus32768.true))
 
-pub returns-then-z-gt32767 : goal.returns-then-z-gt32767
-returns-then-z-gt32767 c =
+pub returns-then-z-gt-GREATEST : goal.returns-then-z-gt-GREATEST
+returns-then-z-gt-GREATEST c =
     let p = c.args.part in
     let n = c.requires.count in
     let l = c.loop-i-test.true in
     let i = c.loop-i in
-    sym (within_large p i.i i.invariant.0 (omega arith) (too_high 32767 (get_or p.numbers i.i (pos 0)) c.z-1.given c.if-z-gt32767.true))
+    sym (within_large p i.i i.invariant.0 (omega arith) (too_high 32767 (get_or p.numbers i.i (pos 0)) c.z-1.given c.if-z-gt-GREATEST.true))
 
 pub loop-i-preserved : goal.loop-i-preserved
 loop-i-preserved c =
     let x = c.args.part.numbers in
     let l = c.loop-i-test.true in
     let i = c.loop-i in
-    (omega arith, omega arith, below_more _ _ i.invariant.2 (λ h. between 32767 (get_or x i.i (pos 0)) c.z-1.given c.if-z-ltminus32768.false c.if-z-gt32767.false))
+    (omega arith, omega arith, below_more _ _ i.invariant.2 (λ h. between 32767 (get_or x i.i (pos 0)) c.z-1.given c.if-z-ltminus32768.false c.if-z-gt-GREATEST.false))
 
 pub returns : goal.returns
 returns c =
