@@ -211,11 +211,11 @@ def promises(files):
 
 
 def function(path, name):
-    """A function of a file of code: its parameters, its result, its clauses with each name by its whole path, and its body."""
+    """A public function of a file of code, no method: its parameters, its result, its clauses with each name by its whole path, and its body."""
     text = re.sub(r"//.*", "", path.read_text())
-    found = re.search(rf"fn {name}\((.*?)\)(.*?)^\{{$(.*?)^\}}$", text, re.M | re.S)
+    found = re.search(rf"^pub (?:extern \"C\" )?fn {name}\((.*?)\)(.*?)^\{{$(.*?)^\}}$", text, re.M | re.S)
     if not found:
-        fail(f"{path.relative_to(ROOT)} has no function {name}")
+        fail(f"{path.relative_to(ROOT)} has no public function {name}")
     whole = {}
     for module, names, alias in uses("\n".join(re.findall(r"^ghost (use [^;]*);$", text, re.M))):
         whole |= {alias: module} if alias else {brought: f"{module}.{brought}" for brought in names}

@@ -1,7 +1,7 @@
 -- Request [1] of document 02, "Hexadecimal digits out", for machine words: an entry's words, the sizes, sound entries and what they write, one
 -- field a sentence.
 use Rattle.std.specs.Prelude.{List, [], ◌++◌, ◌≢◌, ◌≡◌, ℕ, ◌+◌, ◌*◌, ◌%◌, ◌≤◌, ◌<◌, T, pos, length, get_or}
-use Rattle.std.proofs.Math.Option.{some}
+use Rattle.std.specs.Prelude.{Some}
 use Rattle.meaning.specs.Table.{Output, sum, digit, Group, Table, rule_at, default_number}
 use Rattle.meaning.specs.WellFormed.{WellFormed}
 use Rattle.meaning.specs.Value.{value}
@@ -49,7 +49,7 @@ pub record DigitWords : Type 0 where
   -- coefficient.": in the words of every table, whatever follows them, the blocks of its rules and of its default
   pub rule_entries : (t : Table) (rest : List ℕ) → WellFormed t → (r j : ℕ) → r < length t.rules → j < length (rule_at t r).outputs →
       EntryOf (block_at (words t ++ rest) r) j (output_at (rule_at t r) j)
-  pub default_entries : (t : Table) (rest : List ℕ) → WellFormed t → (g : Group) → t.default ≡ some g → (j : ℕ) → j < length g.outputs →
+  pub default_entries : (t : Table) (rest : List ℕ) → WellFormed t → (g : Group) → t.default ≡ Some g → (j : ℕ) → j < length g.outputs →
       EntryOf (block_at (words t ++ rest) default_number) j (output_at g j)
   -- "Sound words have a known sort, and a digit entry has one of the four shifts and just one coefficient, of 1, below K": each entry in use
   pub sound_rules : (w : List ℕ) → T (sound w) → (r j : ℕ) → r < rule_count w → j < at (block_at w r) 2 → KnownEntry (block_at w r) j

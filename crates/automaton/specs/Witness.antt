@@ -1,6 +1,6 @@
 -- Request [6] of document 02, "Rules that can never be chosen": the check of a rule number, what it answers and leaves.
 use Rattle.std.specs.Prelude.{List, ◌↔◌, ◌≡◌, ℕ, ◌≤◌, length}
-use Rattle.std.proofs.Math.Option.{Option, none, some}
+use Rattle.std.specs.Prelude.{Option, None, Some}
 use Rattle.meaning.specs.Refusal.{Outcome, refused, accepted}
 use Rattle.meaning.specs.Table.{Table}
 use Rattle.meaning.specs.Claims.{Keeps}
@@ -23,13 +23,13 @@ pub record Checked (b buffer : List ℕ) (r : ℕ) (a : Outcome (Option (List �
 -- what an answer for a table says of rule number r, one field a sentence
 pub record Exact (t : Table) (r : ℕ) (a : Outcome (Option (List ℕ))) : Type 0 where
   -- "says of a given rule number whether some input makes the definition choose it"
-  pub live : Live t r ↔ ((v : List ℕ) × (a ≡ accepted (some v)))
+  pub live : Live t r ↔ ((v : List ℕ) × (a ≡ accepted (Some v)))
   -- "For a live rule it gives such an input, free but of at most 9 characters, on which the rule is the first choice."
-  pub shown : (v : List ℕ) → a ≡ accepted (some v) → Shows t r v
+  pub shown : (v : List ℕ) → a ≡ accepted (Some v) → Shows t r v
   -- "A number that no rule has is dead."
-  pub number : length t.rules ≤ r → a ≡ accepted none
+  pub number : length t.rules ≤ r → a ≡ accepted None
   -- "A rule is called dead exactly when no input of any length has the definition choose it anywhere."
-  pub dead : (a ≡ accepted none) ↔ Dead t r
+  pub dead : (a ≡ accepted None) ↔ Dead t r
 
 -- "with compiling's buffer and refusals": every check refuses exactly as compiling does, and what it answers for a table that it accepts is exact
 pub record RuleChecked (b buffer : List ℕ) (r : ℕ) (a : Outcome (Option (List ℕ))) : Type 0 where

@@ -1,4 +1,3 @@
 pub mod Admitting
 pub mod Going
-pub mod Calling
 pub mod Caller

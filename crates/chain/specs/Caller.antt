@@ -7,13 +7,15 @@ use Rattle.reckoning.specs.ChainServes.{ChainCaller}
 use Rattle.session.specs.Keeping.{session_of}
 use Rattle.session.specs.declared.kept.Session.{Session}
 use Rattle.chain.specs.Promised.{outcome_of, Feeds, Finishes}
-use Rattle.chain.specs.declared.call.Answer.{Answer}
+use Rattle.std.specs.Prelude.{Result}
+use Rattle.rules.specs.declared.refusal.Refusal.{Refusal}
+use Rattle.chain.specs.declared.call.Written.{Written}
 
 -- A call that was made: what it was lent, and what came back.
 pub record Made : Type 0 where
   pub call : Call
   pub middle : List ℕ
-  pub answer : Answer
+  pub answer : Result Written Refusal
   pub first : Session
   pub second : Session
   pub middle_left : List ℕ

@@ -1,99 +1,99 @@
 // The tests of a chain's call: 11 to 14, each for the first and then the second, then 18 and 15.
-ghost use Rattle.std.specs.Prelude.{◌≡◌, ◌≤◌, length};
+ghost use Rattle.std.specs.Prelude.{◌≡◌, ◌≤◌, length, MatchResult};
 ghost use Rattle.meaning.specs.Direct.{limit};
-ghost use Rattle.rules.specs.Answers.{check_of};
+ghost use Rattle.meaning.specs.Refusal.{accepted, refused};
+ghost use Rattle.rules.specs.Answers.{outcome_of, number_of};
 ghost use Rattle.reckoning.specs.Chain.{admits_chain};
 ghost use Rattle.session.specs.Keeping.{together, session_of};
 ghost use Rattle.chain.specs.bridge.Both.{room_tests};
 
-use rules::convert::Verdict;
+use rules::refusal::Refusal;
 use session::kept::{Kept, Status, is_sound_session};
-use words::read::expansion;
-use words::sound_words::is_sound;
+use words::read::Machine;
 
-// Refusals 14, 18 and 15, of two open sessions, each with its E, the characters that it has received and those that it holds. "Refusal 14 tests
-// both sessions, the second with the least middle length as its piece": that length is worked out once the first has passed, so that it is small.
-fn admit_open(
-    first_most: u64,
-    first_received: u64,
-    first_held: u64,
-    second_most: u64,
-    second_received: u64,
-    second_held: u64,
-    size: u64,
-    middle: u64,
-    room: u64,
-) -> Verdict
-    requires first_most_bound { (first_most ≤ 8) × (first_received ≤ limit) × (first_held ≤ first_received) }
-    requires second_most_bound { (second_most ≤ 8) × (second_received ≤ limit) × (second_held ≤ second_received) }
-    ensures { check_of result ≡ room_tests first_most first_received first_held second_most second_received second_held size middle room }
-{
-    if size > 1099511627776 - first_received {
-        return Verdict::Refused(14);
-    }
-    let least = first_most * (first_held + size);
-    let second_piece = least;
-    if second_piece > 1099511627776 - second_received {
-        return Verdict::Refused(14);
-    }
-    if middle < least {
-        return Verdict::Refused(18);
-    }
-    if room < second_most * (second_held + least) {
-        return Verdict::Refused(15);
-    }
-    Verdict::Accepted
+// What the room that a call needs is worked out from: a machine's E, and how many characters its session has received and holds.
+#[derive(Clone, Copy)]
+struct Needs {
+    most: u64,
+    received: u64,
+    held: u64,
+    ghost small: { (most ≤ 8) × (received ≤ limit) × (held ≤ received) },
 }
 
-// "Each of 11 to 14 is tested for the first, then the second", for a piece of `size` characters and buffers of so much room.
-pub(crate) fn admit(
-    first_words: &[u16],
+// Refusals 14, 18 and 15, of two open sessions. "Refusal 14 tests both sessions, the second with the least middle length as its piece": that
+// length is worked out once the first has passed, so that it is small.
+fn admit_open(first: Needs, second: Needs, size: u64, middle: u64, room: u64) -> Result<(), Refusal>
+    ensures { outcome_of result
+        ≡ room_tests first.most first.received first.held second.most second.received second.held size middle room }
+{
+    if size > 1099511627776 - first.received {
+        return Err(Refusal::TooLong);
+    }
+    let least = first.most * (first.held + size);
+    let second_piece = least;
+    if second_piece > 1099511627776 - second.received {
+        return Err(Refusal::TooLong);
+    }
+    if middle < least {
+        return Err(Refusal::ShortMiddle);
+    }
+    if room < second.most * (second.held + least) {
+        return Err(Refusal::ShortOutput);
+    }
+    Ok(())
+}
+
+// "Each of 11 to 14 is tested for the first, then the second", for a piece of `size` characters and buffers of so much room: both machines of the words.
+pub(crate) fn admit<'a>(
+    first_words: &'a [u16],
     first: Kept,
     first_uses: &[u64; 34],
-    second_words: &[u16],
+    second_words: &'a [u16],
     second: Kept,
     second_uses: &[u64; 34],
     size: usize,
     middle: usize,
     room: usize,
-) -> Verdict
-    ensures first_uses_len { (length first_uses.now ≡ 34) × (length second_uses.now ≡ 34) }
-    ensures result_value { check_of result
-        ≡ admits_chain first_words.now second_words.now (session_of (together first first_uses.now))
-        (session_of (together second second_uses.now)) size middle room }
+) -> Result<(Machine<'a>, Machine<'a>), Refusal>
+    ensures { let tests = admits_chain first_words.now second_words.now (session_of (together first first_uses.now))
+        (session_of (together second second_uses.now)) size middle room in
+        MatchResult result (λ both. (both.0.words.all ≡ first_words.entry) × (both.1.words.all ≡ second_words.entry) × (tests ≡ accepted tt))
+        (λ r. tests ≡ refused (number_of r)) }
 {
-    // No work for the machine: lent as slices, the arrays are known to have their 34 places.
-    let first_places = &first_uses[..];
-    let second_places = &second_uses[..];
-    if !is_sound(first_words) {
-        return Verdict::Refused(11);
-    }
-    if !is_sound(second_words) {
-        return Verdict::Refused(11);
-    }
-    if !is_sound_session(first_words, first, first_uses) {
-        return Verdict::Refused(12);
-    }
-    if !is_sound_session(second_words, second, second_uses) {
-        return Verdict::Refused(12);
-    }
-    let first_status = first.status;
-    let Status::Open = first_status else {
-        return Verdict::Refused(13);
+    let Some(one) = Machine::new(first_words) else {
+        return Err(Refusal::UnsoundWords);
     };
-    let second_status = second.status;
-    let Status::Open = second_status else {
-        return Verdict::Refused(13);
+    let Some(other) = Machine::new(second_words) else {
+        return Err(Refusal::UnsoundWords);
+    };
+    if !is_sound_session(one, first, first_uses) {
+        return Err(Refusal::UnsoundSession);
+    }
+    if !is_sound_session(other, second, second_uses) {
+        return Err(Refusal::UnsoundSession);
+    }
+    if first.status != Status::Open {
+        return Err(Refusal::Ended);
+    }
+    if second.status != Status::Open {
+        return Err(Refusal::Ended);
+    }
+    let first_needs = Needs {
+        most: one.words.expansion() as u64,
+        received: first.received,
+        held: first.held_count as u64,
+    };
+    let second_needs = Needs {
+        most: other.words.expansion() as u64,
+        received: second.received,
+        held: second.held_count as u64,
     };
     admit_open(
-        expansion(first_words) as u64,
-        first.received,
-        first.held_count as u64,
-        expansion(second_words) as u64,
-        second.received,
-        second.held_count as u64,
+        first_needs,
+        second_needs,
         size as u64,
         middle as u64,
         room as u64,
-    )
+    )?;
+    Ok((one, other))
 }

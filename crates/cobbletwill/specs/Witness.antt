@@ -1,6 +1,6 @@
 -- Request [6] as C sees it: what a check of a rule number answers and leaves, and what holds of it, one field a sentence.
 use Rattle.std.specs.Prelude.{List, [], ◌∷◌, ◌≢◌, ◌↔◌, ◌≡◌, ℕ, ◌≤◌, T, eqb, length, take, drop}
-use Rattle.std.proofs.Math.Option.{Option, none, some}
+use Rattle.std.specs.Prelude.{Option, None, Some}
 use Rattle.lists.specs.Lists.{any, pad}
 use Rattle.meaning.specs.Refusal.{Outcome, refused, accepted}
 use Rattle.meaning.specs.Table.{Table}
@@ -14,14 +14,14 @@ use Rattle.automaton.specs.Witness.{Checked}
 -- 0 for a live rule, 66, which no refusal has, for a dead one; "A refusal answers its number"
 abbrev pub witness_code : Outcome (Option (List ℕ)) → ℕ
 witness_code (refused n) = n
-witness_code (accepted none) = 66
-witness_code (accepted (some v)) = 0
+witness_code (accepted None) = 66
+witness_code (accepted (Some v)) = 0
 
 -- ten numbers: the input's length and its nine places, or what was found
 abbrev pub input_after : Outcome (Option (List ℕ)) → List ℕ → List ℕ
 input_after (refused n) found = found
-input_after (accepted none) found = pad 10 []
-input_after (accepted (some v)) found = length v ∷ pad 9 v
+input_after (accepted None) found = pad 10 []
+input_after (accepted (Some v)) found = length v ∷ pad 9 v
 
 -- Of table, words and input as found and rule number r: the answer, and the words and the input left. "such an input, free": what the check came
 -- to is any outcome that it may come to.

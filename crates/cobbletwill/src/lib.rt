@@ -5,15 +5,18 @@
 pub mod chains;
 pub mod sessions;
 
-ghost use Rattle.std.specs.Prelude.{◌∷◌, ◌≡◌, length};
+ghost use Rattle.std.specs.Prelude.{◌∷◌, ◌≡◌};
+ghost use Rattle.rules.specs.Answers.{outcome_of};
+ghost use Rattle.cobbletwill.specs.Face.{check_code};
 ghost use Rattle.cobbletwill.specs.Promised.{Checks, Converts, Compiles, TestsWords};
 ghost use Rattle.cobbletwill.specs.Witness.{Witnessed};
 ghost use Rattle.cobbletwill.specs.Typed.{TypedFace};
 
-use machine::compile::{Compiled, compile};
-use rules::convert::{Conversion, Verdict, check, convert};
-use typed::text::{Typed, from_text};
-use witness::check::{Input, Judgement, witness};
+use machine::compile::compile;
+use rules::convert::{End, check, convert};
+use rules::refusal::Refusal;
+use typed::text::from_text;
+use witness::check::{Input, witness};
 use words::sound_words::is_sound;
 
 // The version of the library, 0.11.0 in one number: 65536 times the first, 256 times the second, and the third.
@@ -23,15 +26,21 @@ pub fn cobbletwill_version() -> u32
     2816
 }
 
+// 0 for a table that is accepted, else the number of its refusal.
+fn code(answer: Result<(), Refusal>) -> u32
+    ensures { result ≡ check_code (outcome_of answer) }
+{
+    match answer {
+        Ok(()) => 0,
+        Err(refusal) => u32::from(refusal.number()),
+    }
+}
+
 // 0 for a table that keeps the rules, else the number of its refusal, 1 to 7.
 pub fn cobbletwill_check(table: &[u8]) -> u32
     ensures { Checks table.now result }
 {
-    let verdict = check(table);
-    match verdict {
-        Verdict::Accepted => 0,
-        Verdict::Refused(number) => number as u32,
-    }
+    code(check(table))
 }
 
 // 0 for closed and 64 for stopped, with the place and the number of characters written set; else the number of the refusal, 1 to 7, 14 or 15, and nothing changed.
@@ -45,25 +54,16 @@ pub fn cobbletwill_convert(
     ensures { Converts table.now input.now output.old place.old written.old
         result output.new place.new written.new }
 {
-    let conversion = convert(table, input, output);
-    match conversion {
-        Conversion::Closed {
-            place: reached,
-            count,
-        } => {
-            *place = reached as u64;
-            *written = count as u64;
-            0
+    match convert(table, input, output) {
+        Ok(conversion) => {
+            *place = conversion.place as u64;
+            *written = conversion.count as u64;
+            match conversion.end {
+                End::Closed => 0,
+                End::Stopped => 64,
+            }
         }
-        Conversion::Stopped {
-            place: reached,
-            count,
-        } => {
-            *place = reached as u64;
-            *written = count as u64;
-            64
-        }
-        Conversion::Refused(number) => number as u32,
+        Err(refusal) => u32::from(refusal.number()),
     }
 }
 
@@ -71,26 +71,15 @@ pub fn cobbletwill_convert(
 pub fn cobbletwill_compile(table: &[u8], words: &mut [u16]) -> u32
     ensures { Compiles table.now words.old result words.new }
 {
-    let compiled = compile(table, words);
-    match compiled {
-        Compiled::Accepted => 0,
-        Compiled::Refused(number) => number as u32,
-    }
+    code(compile(table, words))
 }
 
 // The input goes to the ten numbers: its length, then its nine places.
 fn put_input(input: Input, numbers: &mut [u16; 10])
-    requires { length input.characters ≡ 9 }
     ensures { numbers.new ≡ input.length ∷ input.characters }
 {
-    let characters = input.characters;
-    let to = &mut numbers[..];
-    to[0] = input.length;
-    let mut i: usize = 0;
-    while i < 9 {
-        to[i + 1] = characters[i];
-        i += 1;
-    }
+    numbers[0] = input.length;
+    numbers[1..].copy_from_slice(&input.characters);
 }
 
 // 0 for a live rule with an input set on which it is the first choice, 66 for a dead rule with the input of no character set; else the number of the
@@ -98,18 +87,16 @@ fn put_input(input: Input, numbers: &mut [u16; 10])
 pub fn cobbletwill_witness(table: &[u8], words: &mut [u16], rule: u32, input: &mut [u16; 10]) -> u32
     ensures { Witnessed table.now words.old rule input.old result words.new input.new }
 {
-    let judged = witness(table, words, rule);
-    let judgement = judged.judgement;
-    match judgement {
-        Judgement::Live => {
-            put_input(judged.input, input);
+    match witness(table, words, rule) {
+        Ok(Some(shown)) => {
+            put_input(shown, input);
             0
         }
-        Judgement::Dead => {
-            put_input(judged.input, input);
+        Ok(None) => {
+            *input = [0; 10];
             66
         }
-        Judgement::Refused(number) => number as u32,
+        Err(refusal) => u32::from(refusal.number()),
     }
 }
 
@@ -117,13 +104,12 @@ pub fn cobbletwill_witness(table: &[u8], words: &mut [u16], rule: u32, input: &m
 pub fn cobbletwill_from_text(text: &[u16], table: &mut [u8], length: &mut u64) -> u32
     ensures { TypedFace text.now table.old length.old result table.new length.new }
 {
-    let typed = from_text(text, table);
-    match typed {
-        Typed::Accepted(size) => {
+    match from_text(text, table) {
+        Ok(size) => {
             *length = size as u64;
             0
         }
-        Typed::Refused(number) => number as u32,
+        Err(refusal) => u32::from(refusal.number()),
     }
 }
 
@@ -131,8 +117,5 @@ pub fn cobbletwill_from_text(text: &[u16], table: &mut [u8], length: &mut u64) -
 pub fn cobbletwill_is_sound(words: &[u16]) -> u32
     ensures { TestsWords words.now result }
 {
-    if is_sound(words) {
-        return 1;
-    }
-    0
+    u32::from(is_sound(words))
 }

@@ -1,15 +1,17 @@
 // Sessions as C holds them: feed, finish and preview over plain numbers. The crate `cobbletwill_c` exports three of these functions, and
 // include/cobbletwill.h declares them. A session is lent in two parts, its counts of uses by themselves, so that a feed or a finish changes these
 // in place and copies none of them.
-ghost use Rattle.std.specs.Prelude.{[], ◌≡◌};
+ghost use Rattle.std.specs.Prelude.{[], ◌≡◌, ◌<◌, ◌≤◌, MatchOption};
+ghost use Rattle.rules.specs.Answers.{number_of};
 ghost use Rattle.automaton.specs.Sound.{sound};
 ghost use Rattle.session.specs.Keeping.{meant_status, together, session_of};
-ghost use Rattle.session.specs.Promised.{answer_of};
+ghost use Rattle.session.specs.Promised.{answer_of, written_of};
 ghost use Rattle.cobbletwill.specs.Sessions as Spec;
 ghost use Rattle.cobbletwill.specs.Promised.{Feeds, Finishes, Previews};
-ghost use Rattle.cobbletwill.specs.bridge.Lent.{Keeps, Unchanged, Foresees};
+ghost use Rattle.cobbletwill.specs.bridge.Lent.{Keeps, session_after};
 
-use session::call::{Answer, Went, feed_kept, finish_kept, preview_kept};
+use rules::refusal::Refusal;
+use session::call::{Went, feed_kept, finish_kept, preview_kept};
 use session::kept::{Kept, Status};
 use session::tally::Tally;
 use words::numbers::StateNo;
@@ -17,7 +19,7 @@ use words::sound_words::is_sound;
 
 // A session of plain numbers, so that no value of any field is undefined, without its counts of uses: 48 bytes without gaps. All 0 is fresh.
 #[repr(C)]
-#[derive(Clone, Copy)]
+#[derive(Clone, Copy, Debug, PartialEq, Eq)]
 pub struct SessionNumbers {
     pub received: u64,
     pub tally: Tally,
@@ -28,33 +30,45 @@ pub struct SessionNumbers {
     pub held: [u16; 8],
 }
 
-// What a call by value comes to: its answer as a number, whether it was accepted, and the session as it leaves it.
-#[derive(Clone, Copy)]
-pub struct CalledNumbers {
-    pub answer: u32,
-    pub accepted: bool,
-    pub session: SessionNumbers,
-}
-
-// The status of a number up to 2.
-fn status_from(number: u32) -> Status
-    ensures { meant_status result ≡ Spec.status_from number }
-{
-    match number {
-        0 => Status::Open,
-        1 => Status::Closed,
-        _ => Status::Stopped,
+impl SessionNumbers {
+    // What the numbers keep. Those with a status above 2 are no session's.
+    pub(crate) fn kept(&self) -> Option<Kept>
+        ensures { MatchOption result (2 < self.now.status) (λ kept. (self.now.status ≤ 2) × Keeps self.now kept) }
+    {
+        let status = match self.status {
+            0 => Status::Open,
+            1 => Status::Closed,
+            2 => Status::Stopped,
+            _ => return None,
+        };
+        Some(Kept {
+            status,
+            state: StateNo(self.state),
+            held: self.held,
+            held_count: self.held_count,
+            received: self.received,
+            tally: self.tally,
+        })
     }
 }
 
-// A session's status as it is kept.
-fn status_number(status: Status) -> u32
-    ensures { result ≡ Spec.status_number (meant_status status) }
-{
-    match status {
-        Status::Open => 0,
-        Status::Closed => 1,
-        Status::Stopped => 2,
+impl From<Kept> for SessionNumbers {
+    ghost from_gives = { λ kept numbers. numbers ≡ Spec.numbers_of (session_of (together kept [])) };
+
+    fn from(kept: Kept) -> SessionNumbers {
+        let held = kept.held;
+        SessionNumbers {
+            received: kept.received,
+            // number by number: a load of all 16 bytes, soon after the two stores of 8 that made them, stalls, for some 5 ns a call
+            tally: Tally {
+                produced: kept.tally.produced,
+                steps: kept.tally.steps,
+            },
+            status: kept.status as u32,
+            state: kept.state.0,
+            held_count: kept.held_count,
+            held,
+        }
     }
 }
 
@@ -69,147 +83,35 @@ pub(crate) fn status_code(status: Status) -> u32
     }
 }
 
-// What numbers with a status up to 2 keep.
-pub(crate) fn kept_from(numbers: SessionNumbers) -> Kept
-    ensures { Keeps numbers result }
-{
-    let held = numbers.held;
-    let tally = numbers.tally;
-    Kept {
-        status: status_from(numbers.status),
-        state: StateNo(numbers.state),
-        held,
-        held_count: numbers.held_count,
-        received: numbers.received,
-        tally,
-    }
-}
-
-// The numbers of a kept.
-pub(crate) fn numbers_of(kept: Kept) -> SessionNumbers
-    ensures { result ≡ Spec.numbers_of (session_of (together kept [])) }
-{
-    let status = kept.status;
-    let held = kept.held;
-    SessionNumbers {
-        received: kept.received,
-        // number by number: a load of all 16 bytes, soon after the two stores of 8 that made them, stalls, for some 5 ns a call
-        tally: Tally {
-            produced: kept.tally.produced,
-            steps: kept.tally.steps,
-        },
-        status: status_number(status),
-        state: kept.state.0,
-        held_count: kept.held_count,
-        held,
-    }
-}
-
 // The refusal of numbers that are no session's: "12 session not sound", after 11.
-pub(crate) fn no_session(words: &[u16]) -> u32
-    ensures { result ≡ Spec.no_session (sound words.now) }
+pub(crate) fn no_session(words: &[u16]) -> Refusal
+    ensures { number_of result ≡ Spec.no_session (sound words.now) }
 {
     if is_sound(words) {
-        return 12;
+        Refusal::UnsoundSession
+    } else {
+        Refusal::UnsoundWords
     }
-    11
 }
 
-// What C gets of a call. The number of characters written is told where the call was accepted.
-fn hand_over(called: Went, written: &mut u64) -> CalledNumbers
-    ensures accepted { result.accepted ≡ called.accepted }
-    ensures answer { result.answer ≡ Spec.answer_code (answer_of called.answer) }
-    ensures session { result.session ≡ Spec.numbers_of (session_of (together called.kept [])) }
-    ensures written { written.new ≡ Spec.written_after (answer_of called.answer) written.old }
+// What C gets of a call: its status, with the session that it leaves and the number of characters written set, or the number of its refusal.
+fn hand_over(
+    called: Result<Went<Kept>, Refusal>,
+    session: &mut SessionNumbers,
+    written: &mut u64,
+) -> u32
+    ensures answer { result ≡ Spec.answer_code (answer_of (written_of called)) }
+    ensures session { session.new ≡ session_after called session.old }
+    ensures written { written.new ≡ Spec.written_after (answer_of (written_of called)) written.old }
 {
-    let answer = called.answer;
-    let accepted = called.accepted;
-    let session = numbers_of(called.kept);
-    match answer {
-        Answer::Accepted { count, status } => {
-            *written = count as u64;
-            CalledNumbers {
-                answer: status_code(status),
-                accepted,
-                session,
-            }
+    match called {
+        Ok(went) => {
+            *session = SessionNumbers::from(went.left);
+            *written = went.written.count as u64;
+            status_code(went.written.status)
         }
-        Answer::Refused(number) => CalledNumbers {
-            answer: number as u32,
-            accepted,
-            session,
-        },
+        Err(refusal) => u32::from(refusal.number()),
     }
-}
-
-// A feed of the session that the numbers are.
-fn feed_numbers(
-    words: &[u16],
-    numbers: SessionNumbers,
-    uses: &mut [u64; 34],
-    piece: &[u16],
-    output: &mut [u16],
-    written: &mut u64,
-) -> CalledNumbers
-    ensures unchanged { Unchanged result numbers }
-    ensures written_after { Spec.left result.answer result.session uses.new output.new written.new
-        ≡ Spec.feed words.now numbers uses.old piece.now output.old written.old }
-{
-    if numbers.status > 2 {
-        return CalledNumbers {
-            answer: no_session(words),
-            accepted: false,
-            session: numbers,
-        };
-    }
-    let called = feed_kept(words, kept_from(numbers), uses, piece, output);
-    hand_over(called, written)
-}
-
-// A finish of the session that the numbers are.
-fn finish_numbers(
-    words: &[u16],
-    numbers: SessionNumbers,
-    uses: &mut [u64; 34],
-    output: &mut [u16],
-    written: &mut u64,
-) -> CalledNumbers
-    ensures unchanged { Unchanged result numbers }
-    ensures written_after { Spec.left result.answer result.session uses.new output.new written.new
-        ≡ Spec.finish words.now numbers uses.old output.old written.old }
-{
-    if numbers.status > 2 {
-        return CalledNumbers {
-            answer: no_session(words),
-            accepted: false,
-            session: numbers,
-        };
-    }
-    let called = finish_kept(words, kept_from(numbers), uses, output);
-    hand_over(called, written)
-}
-
-// A preview of the session that the numbers are. The later session's counts of uses are written where it is accepted.
-fn preview_numbers(
-    words: &[u16],
-    numbers: SessionNumbers,
-    uses: &[u64; 34],
-    piece: &[u16],
-    counts: &mut [u64; 34],
-    written: &mut u64,
-) -> CalledNumbers
-    ensures { Foresees words.now numbers uses.now piece.now counts.old written.old
-        result counts.new written.new }
-{
-    if numbers.status > 2 {
-        return CalledNumbers {
-            answer: no_session(words),
-            accepted: false,
-            session: numbers,
-        };
-    }
-    let called = preview_kept(words, kept_from(numbers), uses, piece, counts);
-    hand_over(called, written)
 }
 
 // 0 closed, 64 stopped, 65 open, with the session and the number of characters written set; else the number of the refusal, 11 to 15, and
@@ -225,12 +127,11 @@ pub fn cobbletwill_feed_parts(
     ensures { Feeds words.now session.old uses.old piece.now output.old written.old
         (Spec.left result session.new uses.new output.new written.new) }
 {
-    let found = *session;
-    let called = feed_numbers(words, found, uses, piece, output, written);
-    if called.accepted {
-        *session = called.session;
-    }
-    called.answer
+    let Some(kept) = session.kept() else {
+        return u32::from(no_session(words).number());
+    };
+    let called = feed_kept(words, kept, uses, piece, output);
+    hand_over(called, session, written)
 }
 
 // The same for the end of the input.
@@ -244,12 +145,11 @@ pub fn cobbletwill_finish_parts(
     ensures { Finishes words.now session.old uses.old output.old written.old
         (Spec.left result session.new uses.new output.new written.new) }
 {
-    let found = *session;
-    let called = finish_numbers(words, found, uses, output, written);
-    if called.accepted {
-        *session = called.session;
-    }
-    called.answer
+    let Some(kept) = session.kept() else {
+        return u32::from(no_session(words).number());
+    };
+    let called = finish_kept(words, kept, uses, output);
+    hand_over(called, session, written)
 }
 
 // 64 stopped, 65 open, with the later session and the number of characters that a feed would write set; else the number of the refusal, 11 to
@@ -266,10 +166,9 @@ pub fn cobbletwill_preview_parts(
     ensures { Previews words.now session.now uses.now piece.now later.old counts.old
         written.old (Spec.previewed result later.new counts.new written.new) }
 {
-    let found = *session;
-    let called = preview_numbers(words, found, uses, piece, counts, written);
-    if called.accepted {
-        *later = called.session;
-    }
-    called.answer
+    let Some(kept) = session.kept() else {
+        return u32::from(no_session(words).number());
+    };
+    let called = preview_kept(words, kept, uses, piece, counts);
+    hand_over(called, later, written)
 }

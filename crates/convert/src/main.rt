@@ -7,10 +7,8 @@ use program::table::read_table;
 
 fn main(rt: HostRuntime) {
     let mut table = [0u8; 32768];
-    let found = read_table(&rt, &mut table);
-    if !found.readable {
+    let Some(size) = read_table(&rt, &mut table) else {
         return;
-    }
-    let read = found.size;
-    run(&rt, &table[..read]);
+    };
+    run(&rt, &table[..size]);
 }

@@ -1,30 +1,37 @@
 -- A part brought to its constant and coefficients.
-use Rattle.std.specs.Prelude.{Bool, true, false, ◌&&◌, cond, List, [], ◌∷◌, map, ℕ, ◌+◌, eqb, ltb, ℤ, pos, negsuc, ◌+ℤ◌, ◌-ℤ◌, ◌*ℤ◌, get_or, replicate, set}
+use Rattle.std.specs.Prelude.{Bool, false, cond, List, [], ◌∷◌, map, ℕ, ◌+◌, eqb, ltb, ℤ, pos, negsuc, ◌+ℤ◌, ◌-ℤ◌, ◌*ℤ◌, get_or, drop, replicate, set, Option, Some, None}
 use Rattle.std.specs.Int.Signed.{mag}
-use Rattle.expression.specs.declared.part.Part.{Part}
+use Rattle.lists.specs.Lists.{all}
 use Rattle.expression.specs.Grammar.{Algebra}
+
+-- the constant and the coefficients by position, or none where refusal 17 was met
+abbrev pub Part : Type 0
+Part = Option (List ℤ)
+
+-- its numbers, which say nothing where refusal 17 was met
+abbrev pub numbers : Part → List ℤ
+numbers None = replicate 9 (pos 0)
+numbers (Some ns) = ns
 
 -- in signed 32 bits; `mag` is n for n and for -(n + 1)
 abbrev pub small : ℤ → Bool
 small z = ltb (mag z) 2147483648
 
-unfoldable pub all_small : List ℤ → Bool
-all_small [] = true
-all_small (z ∷ zs) = small z && all_small zs
-
--- refusal 17 was met: the numbers say nothing any more
-unfoldable pub broken : Part
-broken = record { fine = false; numbers = replicate 9 (pos 0) }
-
 -- "a constant or coefficient of any part outside signed 32 bits"
-unfoldable pub checked : Bool → List ℤ → Part
-checked f ns = cond (f && all_small ns) (record { fine = true; numbers = ns }) broken
+unfoldable pub checked : List ℤ → Part
+checked ns = cond (all small ns) (Some ns) None
 
 unfoldable pub number_part : ℕ → Part
-number_part v = record { fine = true; numbers = set (replicate 9 (pos 0)) 0 (pos v) }
+number_part v = Some (set (replicate 9 (pos 0)) 0 (pos v))
 
 unfoldable pub place_part : ℕ → Part
-place_part k = record { fine = true; numbers = set (replicate 9 (pos 0)) (k + 1) (pos 1) }
+place_part k = Some (set (replicate 9 (pos 0)) (k + 1) (pos 1))
+
+-- what two parts make, if refusal 17 met neither
+unfoldable pub both : (List ℤ → List ℤ → Part) → Part → Part → Part
+both f None b = None
+both f (Some a) None = None
+both f (Some a) (Some b) = f a b
 
 unfoldable pub zip : (ℤ → ℤ → ℤ) → List ℤ → List ℤ → List ℤ
 zip f [] bs = []
@@ -35,29 +42,25 @@ abbrev pub is_zero : ℤ → Bool
 is_zero (pos n) = eqb n 0
 is_zero (negsuc n) = false
 
-unfoldable pub all_zero : List ℤ → Bool
-all_zero [] = true
-all_zero (z ∷ zs) = is_zero z && all_zero zs
-
 -- no coefficient other than 0
 unfoldable pub flat : List ℤ → Bool
-flat [] = true
-flat (c ∷ ks) = all_zero ks
+flat ns = all is_zero (drop 1 ns)
 
-unfoldable pub scaled : Bool → List ℤ → ℤ → Part
-scaled f ns k = checked f (map (λ z. z *ℤ k) ns)
+unfoldable pub scaled : List ℤ → ℤ → Part
+scaled ns k = checked (map (λ z. z *ℤ k) ns)
 
 unfoldable pub plus_part : Part → Part → Part
-plus_part a b = checked (a.fine && b.fine) (zip ◌+ℤ◌ a.numbers b.numbers)
+plus_part a b = both (λ x y. checked (zip ◌+ℤ◌ x y)) a b
 
 unfoldable pub minus_part : Part → Part → Part
-minus_part a b = checked (a.fine && b.fine) (zip ◌-ℤ◌ a.numbers b.numbers)
+minus_part a b = both (λ x y. checked (zip ◌-ℤ◌ x y)) a b
 
 -- "a product both of whose factors then have a coefficient other than 0"
+unfoldable pub product_of : List ℤ → List ℤ → Part
+product_of x y = cond (flat y) (scaled x (get_or y 0 (pos 0))) (cond (flat x) (scaled y (get_or x 0 (pos 0))) None)
+
 unfoldable pub times_part : Part → Part → Part
-times_part a b =
-    cond (flat b.numbers) (scaled (a.fine && b.fine) a.numbers (get_or b.numbers 0 (pos 0)))
-    (cond (flat a.numbers) (scaled (a.fine && b.fine) b.numbers (get_or a.numbers 0 (pos 0))) broken)
+times_part a b = both product_of a b
 
 abbrev pub parts : Algebra Part
 parts = record { number = number_part; place = place_part; plus = plus_part; minus = minus_part; times = times_part }

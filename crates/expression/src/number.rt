@@ -1,55 +1,31 @@
 // Decimal numbers up to 65535.
-ghost use Rattle.std.specs.Prelude.{◌≡◌, ◌≤◌, length};
-ghost use Rattle.expression.specs.bridge.Answers.{Counts};
+ghost use Rattle.std.specs.Prelude.{◌≡◌, ◌≤◌, length, drop};
+ghost use Rattle.expression.specs.Grammar.{is_digit};
+ghost use Rattle.expression.specs.bridge.Text.{digits as digits_of};
+ghost use Rattle.expression.specs.bridge.Answers.{Answers};
 
-#[derive(Clone, Copy)]
-pub struct Number {
-    pub refused: bool,
-    pub next: usize,
-    pub value: u64,
-}
-
-fn wide(c: u16) -> u64
-    ensures { result ≡ c }
+fn digit(c: u16) -> bool
+    ensures { result ≡ is_digit c }
 {
-    c as u64
+    matches!(c, 48..=57)
 }
 
-pub fn digits(s: &[u16], at: usize) -> Number
+// The number at a place and the place behind it, or None (refusal 16).
+#[tactic(auto, using(crate::proofs::Laws::Symbols::numbers))]
+pub fn digits(s: &[u16], at: usize) -> Option<(u16, usize)>
     requires { at ≤ length s.now }
-    ensures { Counts s.now at result }
+    ensures { Answers (λ v. v) s.now at (digits_of 0 (drop at s.now)) result }
 {
-    let mut v: u64 = 0;
-    let mut i = at;
-    while i < s.len() {
+    let mut v: u32 = 0;
+    for i in at..s.len() {
         let c = s[i];
-        if c < 48 {
-            return Number {
-                refused: false,
-                next: i,
-                value: v,
-            };
+        if !digit(c) {
+            return Some((v as u16, i));
         }
-        if 57 < c {
-            return Number {
-                refused: false,
-                next: i,
-                value: v,
-            };
-        }
-        v = v * 10 + wide(c - 48);
+        v = v * 10 + u32::from(c - 48);
         if 65535 < v {
-            return Number {
-                refused: true,
-                next: i,
-                value: 0,
-            };
+            return None;
         }
-        i += 1;
     }
-    Number {
-        refused: false,
-        next: i,
-        value: v,
-    }
+    Some((v as u16, s.len()))
 }

@@ -1,150 +1,86 @@
 // Parts of an expression, brought to constant and coefficients: their sums, differences and products, each within its limits.
-ghost use Rattle.std.specs.Prelude.{◌≡◌, ◌&&◌, ◌≤◌, ◌<◌, length};
-ghost use Rattle.std.specs.Int.Signed.{mag};
-ghost use Rattle.expression.specs.Parts.{flat as flat_of, broken as broken_part, checked as checked_part, scaled as scaled_part, number_part, place_part, plus_part, minus_part, times_part};
+ghost use Rattle.std.specs.Prelude.{◌≡◌, ℕ, ◌<◌, List, ℤ, Some, length};
 ghost use Rattle.expression.specs.bridge.Forms.{Small};
 
-// A part brought to its constant (the first number) and its coefficients by position. Not fine: refusal 17 was met.
+// The constant (the first number) and the coefficients by position, in signed 32 bits. Where refusal 17 is met there is no part.
 #[derive(Clone, Copy)]
 pub struct Part {
-    pub fine: bool,
-    pub numbers: [i64; 9],
+    pub numbers: [i32; 9],
+    pub ghost small: { Small numbers },
 }
 
-pub fn broken() -> Part
-    ensures { result ≡ broken_part }
-{
-    Part {
-        fine: false,
-        numbers: [0i64; 9],
-    }
-}
+impl Part {
+    ghost use Rattle.expression.specs.Parts.{checked, number_part, place_part, flat, scaled, plus_part, minus_part, times_part};
+    ghost use Rattle.expression.specs.bridge.Answers.{Gives, kept};
 
-pub fn constant(v: u64) -> Part
-    requires { v ≤ 65535 }
-    ensures { result ≡ number_part v }
-{
-    let mut n = [0i64; 9];
-    n[0] = v as i64;
-    Part {
-        fine: true,
-        numbers: n,
+    #[tactic(auto, unfolding(crate::specs::Parts::number_part), using(crate::proofs::Laws::Numbers::back))]
+    pub fn constant(v: u16) -> Part
+        ensures { Some result.numbers ≡ number_part v }
+    {
+        let mut numbers = [0; 9];
+        numbers[0] = i32::from(v);
+        Part { numbers }
     }
-}
 
-pub fn place(k: usize) -> Part
-    requires { k < 8 }
-    ensures { result ≡ place_part k }
-{
-    let mut n = [0i64; 9];
-    n[k + 1] = 1;
-    Part {
-        fine: true,
-        numbers: n,
+    #[tactic(auto, unfolding(crate::specs::Parts::place_part))]
+    pub fn place(k: usize) -> Part
+        requires { k < 8 }
+        ensures { Some result.numbers ≡ place_part k }
+    {
+        let mut numbers = [0; 9];
+        numbers[k + 1] = 1;
+        Part { numbers }
     }
-}
 
-// The numbers with each in signed 32 bits, or broken.
-fn checked(fine: bool, ns: [i64; 9]) -> Part
-    requires { length ns ≡ 9 }
-    ensures { result ≡ checked_part fine ns }
-{
-    if !fine {
-        return broken();
-    }
-    let mut i = 0;
-    while i < 9 {
-        let z = ns[i];
-        if z < -2147483648 {
-            return broken();
+    // The part whose numbers `f` gives, if it gives each.
+    fn filled<F: Fn(usize) -> Option<i32>>(f: F) -> Option<Part>
+        requires { (k : ℕ) → k < 9 → F.pre f k }
+        ensures { (ns : List ℤ) → length ns ≡ 9 → Gives (F.post f) ns → kept result ≡ checked ns }
+    {
+        let mut numbers = [0; 9];
+        for k in 0..9 {
+            numbers[k] = f(k)?;
         }
-        if 2147483647 < z {
-            return broken();
+        Some(Part { numbers })
+    }
+
+    #[tactic(auto, unfolding(crate::specs::Parts::plus_part, crate::specs::Parts::both), using(crate::proofs::Laws::Numbers::sums))]
+    pub fn checked_add(&self, other: &Part) -> Option<Part>
+        ensures { kept result ≡ plus_part (Some self.now.numbers) (Some other.now.numbers) }
+    {
+        Part::filled(|k| self.numbers[k].checked_add(other.numbers[k]))
+    }
+
+    #[tactic(auto, unfolding(crate::specs::Parts::minus_part, crate::specs::Parts::both), using(crate::proofs::Laws::Numbers::sums))]
+    pub fn checked_sub(&self, other: &Part) -> Option<Part>
+        ensures { kept result ≡ minus_part (Some self.now.numbers) (Some other.now.numbers) }
+    {
+        Part::filled(|k| self.numbers[k].checked_sub(other.numbers[k]))
+    }
+
+    fn scaled(&self, by: i32) -> Option<Part>
+        ensures { kept result ≡ scaled self.now.numbers by }
+    {
+        Part::filled(|k| self.numbers[k].checked_mul(by))
+    }
+
+    // No coefficient other than 0.
+    fn is_flat(&self) -> bool
+        ensures { result ≡ flat self.now.numbers }
+    {
+        self.numbers[1..].iter().all(|k| *k == 0)
+    }
+
+    #[tactic(auto, using(crate::proofs::Laws::Numbers::products))]
+    pub fn checked_mul(&self, other: &Part) -> Option<Part>
+        ensures { kept result ≡ times_part (Some self.now.numbers) (Some other.now.numbers) }
+    {
+        if other.is_flat() {
+            self.scaled(other.numbers[0])
+        } else if self.is_flat() {
+            other.scaled(self.numbers[0])
+        } else {
+            None
         }
-        i += 1;
     }
-    Part {
-        fine: true,
-        numbers: ns,
-    }
-}
-
-fn both(a: bool, b: bool) -> bool
-    ensures { result ≡ (a && b) }
-{
-    a && b
-}
-
-pub fn plus(a: Part, b: Part) -> Part
-    requires { Small a.numbers × Small b.numbers }
-    ensures { result ≡ plus_part a b }
-{
-    let x = a.numbers;
-    let y = b.numbers;
-    let mut z = [0i64; 9];
-    let mut i = 0;
-    while i < 9 {
-        z[i] = x[i] + y[i];
-        i += 1;
-    }
-    checked(both(a.fine, b.fine), z)
-}
-
-pub fn minus(a: Part, b: Part) -> Part
-    requires { Small a.numbers × Small b.numbers }
-    ensures { result ≡ minus_part a b }
-{
-    let x = a.numbers;
-    let y = b.numbers;
-    let mut z = [0i64; 9];
-    let mut i = 0;
-    while i < 9 {
-        z[i] = x[i] - y[i];
-        i += 1;
-    }
-    checked(both(a.fine, b.fine), z)
-}
-
-fn scaled(fine: bool, x: [i64; 9], k: i64) -> Part
-    requires { Small x × (mag k < 2147483648) }
-    ensures { result ≡ scaled_part fine x k }
-{
-    let mut z = [0i64; 9];
-    let mut i = 0;
-    while i < 9 {
-        z[i] = x[i] * k;
-        i += 1;
-    }
-    checked(fine, z)
-}
-
-// No coefficient other than 0.
-fn flat(x: [i64; 9]) -> bool
-    requires { length x ≡ 9 }
-    ensures { result ≡ flat_of x }
-{
-    let mut i = 1;
-    while i < 9 {
-        if x[i] != 0 {
-            return false;
-        }
-        i += 1;
-    }
-    true
-}
-
-pub fn times(a: Part, b: Part) -> Part
-    requires { Small a.numbers × Small b.numbers }
-    ensures { result ≡ times_part a b }
-{
-    let x = a.numbers;
-    let y = b.numbers;
-    let fine = both(a.fine, b.fine);
-    if flat(y) {
-        return scaled(fine, x, y[0]);
-    }
-    if flat(x) {
-        return scaled(fine, y, x[0]);
-    }
-    broken()
 }

@@ -2,80 +2,70 @@
 ghost use Rattle.std.specs.Prelude.{◌≡◌, ◌≤◌, length, drop};
 ghost use Rattle.expression.specs.Grammar.{is_blank};
 ghost use Rattle.expression.specs.bridge.Text.{is_sign, is_star, first};
-ghost use Rattle.expression.specs.bridge.Answers.{Skipped, Operates};
+ghost use Rattle.expression.specs.bridge.Answers.{Skipped, Follows, Operates};
 
-// An operator's character, 0 for none, and the place behind it.
-#[derive(Clone, Copy)]
-pub struct Operator {
-    pub code: u16,
-    pub next: usize,
+#[derive(Clone, Copy, Debug, PartialEq, Eq)]
+pub enum Operation {
+    Plus,
+    Minus,
+    Times,
 }
 
 fn blank(c: u16) -> bool
     ensures { result ≡ is_blank c }
 {
-    c == 32 || (c == 10 || c == 13)
+    matches!(c, 10 | 13 | 32)
 }
 
+// The place where the next symbol begins.
+#[tactic(auto, using(crate::proofs::Laws::Symbols::skips))]
 pub fn skip(s: &[u16], at: usize) -> usize
     requires { at ≤ length s.now }
     ensures { Skipped s.now at result }
 {
-    let mut i = at;
-    while i < s.len() {
+    for i in at..s.len() {
         if !blank(s[i]) {
             return i;
         }
-        i += 1;
     }
-    i
+    s.len()
 }
 
 // The character at a place, 0 at the end.
 pub fn code_at(s: &[u16], at: usize) -> u16
     ensures { result ≡ first (drop at s.now) }
 {
-    if at < s.len() { s[at] } else { 0 }
+    s.get(at).copied().unwrap_or(0)
 }
 
-pub fn sign(s: &[u16], refused: bool, at: usize) -> Operator
-    requires { at ≤ length s.now }
-    ensures { Operates s.now is_sign refused at result }
+// The place behind the next symbol, if it is the character `c`.
+#[tactic(auto, using(crate::proofs::Laws::Places::places))]
+pub fn behind(s: &[u16], at: usize, c: u16) -> Option<usize>
+    requires at_in_bounds { at ≤ length s.now }
+    requires character { c ≡ 0 → ⊥ }
+    ensures { Follows c s.now at result }
 {
-    if refused {
-        return Operator { code: 0, next: at };
-    }
     let j = skip(s, at);
-    let c = code_at(s, j);
-    if c == 43 {
-        return Operator {
-            code: 43,
-            next: j + 1,
-        };
+    if code_at(s, j) == c {
+        Some(j + 1)
+    } else {
+        None
     }
-    if c == 45 {
-        return Operator {
-            code: 45,
-            next: j + 1,
-        };
-    }
-    Operator { code: 0, next: j }
 }
 
-pub fn star(s: &[u16], refused: bool, at: usize) -> Operator
+pub fn sign(s: &[u16], at: usize) -> Option<(Operation, usize)>
     requires { at ≤ length s.now }
-    ensures { Operates s.now is_star refused at result }
+    ensures { Operates is_sign s.now at result }
 {
-    if refused {
-        return Operator { code: 0, next: at };
+    match behind(s, at, 43) {
+        Some(next) => Some((Operation::Plus, next)),
+        None => Some((Operation::Minus, behind(s, at, 45)?)),
     }
-    let j = skip(s, at);
-    let c = code_at(s, j);
-    if c == 42 {
-        return Operator {
-            code: 42,
-            next: j + 1,
-        };
-    }
-    Operator { code: 0, next: j }
+}
+
+pub fn star(s: &[u16], at: usize) -> Option<(Operation, usize)>
+    requires { at ≤ length s.now }
+    ensures { Operates is_star s.now at result }
+{
+    Some((Operation::Times, behind(s, at, 42)?))
 }

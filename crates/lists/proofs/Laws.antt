@@ -6,3 +6,5 @@ pub mod Parts
 pub mod Last
 pub mod Reordered
 pub mod Sets
+pub mod Options
+pub mod Iterating

@@ -1,6 +1,6 @@
 -- Tests over lists, searches and folds: what the kit's libraries leave out.
 use Rattle.std.specs.Prelude.{Bool, true, false, ◌&&◌, ◌||◌, cond, List, [], ◌∷◌, ◌++◌, ℕ, zero, suc, ◌+◌, max, eqb}
-use Rattle.std.proofs.Math.Option.{Option, none, some}
+use Rattle.std.specs.Prelude.{Option, None, Some}
 
 abbrev pub all : {A : Type 0} → (A → Bool) → List A → Bool
 all p [] = true
@@ -56,8 +56,8 @@ last_d d (x ∷ xs) = last_d x xs
 
 -- the first number, counted from i, at whose element the test passes
 abbrev pub find_from : {A : Type 0} → ℕ → (A → Bool) → List A → Option ℕ
-find_from i p [] = none
-find_from i p (x ∷ xs) = elim (p x) [ true ↦ some i | false ↦ find_from (suc i) p xs ]
+find_from i p [] = None
+find_from i p (x ∷ xs) = elim (p x) [ true ↦ Some i | false ↦ find_from (suc i) p xs ]
 
 abbrev pub same_list : List ℕ → List ℕ → Bool
 same_list [] [] = true
@@ -85,13 +85,13 @@ is_empty [] = true
 is_empty (x ∷ xs) = false
 
 abbrev pub is_some : {A : Type 0} → Option A → Bool
-is_some none = false
-is_some (some a) = true
+is_some None = false
+is_some (Some a) = true
 
 abbrev pub or_else : {A : Type 0} → A → Option A → A
-or_else a none = a
-or_else a (some b) = b
+or_else a None = a
+or_else a (Some b) = b
 
 abbrev pub optional : {A : Type 0} → Option A → List A
-optional none = []
-optional (some a) = a ∷ []
+optional None = []
+optional (Some a) = a ∷ []

@@ -1,13 +1,17 @@
-// Sets of rules kept as numbers, rule r by bit r: built by doubling and adding, taken apart by halves.
-ghost use Rattle.std.specs.Prelude.{◌&&◌, not, ◌≡◌, ◌+◌, ◌*◌, ◌^◌, ◌≤◌, ◌<◌, eqb, ltb, length};
+// Sets of rules kept as numbers, rule r by bit r.
+ghost use Rattle.std.specs.Prelude.{Bool, ◌&&◌, not, ◌≡◌, ℕ, ◌+◌, ◌*◌, ◌^◌, ◌≤◌, ◌<◌, eqb, ltb};
+ghost use Rattle.std.specs.Iterator.{YieldsFirstBy, item_count};
 ghost use Rattle.lists.specs.Lists.{filter, up_to};
-ghost use Rattle.meaning.specs.Table.{Absent, in_ranges};
-ghost use Rattle.meaning.specs.Block.{at, block_size, blocks_size};
-ghost use Rattle.meaning.specs.bridge.Flat.{Flat, ranges_at, table_at};
+ghost use Rattle.meaning.specs.Table.{in_ranges};
+ghost use Rattle.meaning.specs.Block.{at, block_size};
+ghost use Rattle.meaning.specs.bridge.Flat.{ranges_at};
 ghost use Rattle.automaton.specs.States.{first_number, longer_rules, accept_of, accept_at_end_of};
 ghost use Rattle.automaton.specs.bridge.Build.{members_from, state_of};
+ghost use Rattle.words.specs.bridge.Readings.{word_of};
+ghost use Rattle.machine.specs.bridge.Tables.{bare_table};
 
 use rules::layout::BLOCK;
+use rules::loaded::Loaded;
 use words::numbers::RuleNo;
 
 // The set of all rules.
@@ -15,98 +19,113 @@ pub fn all_rules(rules: usize) -> u32
     requires { rules ≤ 32 }
     ensures { (members_from 0 rules result ≡ up_to rules) × (result < 2 ^ rules) }
 {
-    let mut set: u32 = 0;
-    let mut count: usize = 0;
-    while count < rules {
-        set = 2 * set + 1;
-        count += 1;
+    ((1u64 << rules) - 1) as u32
+}
+
+// The rules of a set, the lowest first. Only these are looked at: most sets have few of the rules.
+#[derive(Drop)]
+struct Members(u32);
+
+impl Iterator for Members {
+    type Item = RuleNo;
+
+    ghost next_gives = { YieldsFirstBy (λ r. r.0) (λ s. members_from 0 32 s.0) };
+
+    ghost remaining = { item_count (λ s. members_from 0 32 s.0) };
+
+    fn next(&mut self) -> Option<RuleNo> {
+        if self.0 == 0 {
+            return None;
+        }
+        let lowest = self.0.trailing_zeros();
+        self.0 -= 1 << lowest;
+        Some(RuleNo(lowest as u16))
     }
-    set
 }
 
 // The rule is longer than the depth, and takes the character there.
-fn goes_on(loaded: &[u16], rule: RuleNo, depth: usize, c: u16) -> bool
-    requires flat { Flat loaded.now }
-    requires rule_bound { rule.0 < 32 }
-    ensures { result ≡ ltb depth (at loaded.now (block_size * rule.0)) && in_ranges (ranges_at loaded.now (8 * rule.0 + depth)) c }
+fn goes_on(table: &Loaded<'_>, rule: RuleNo, depth: usize, c: u16) -> bool
+    requires { rule.0 < 32 }
+    ensures { result ≡ ltb depth (at table.now.words.now (block_size * rule.0)) && in_ranges (ranges_at table.now.words.now (8 * rule.0 + depth)) c }
 {
     let group = rule.0 as usize;
-    if depth < loaded[BLOCK * group] as usize {
-        return rules::pattern::in_ranges(loaded, 8 * group + depth, c);
-    }
-    false
+    depth < usize::from(table.words[BLOCK * group]) && table.in_ranges(8 * group + depth, c)
 }
 
 // The rules of the set that are longer than the depth and take the character there.
-pub fn longer_rules(loaded: &[u16], rules: usize, set: u32, depth: usize, c: u16) -> u32
-    requires flat { Flat loaded.now }
-    requires rules_bound { (rules ≤ 32) × (set < 2 ^ rules) }
-    ensures { (members_from 0 rules result ≡ longer_rules (table_at loaded.now rules Absent) (state_of rules depth set) c)
-        × (result < 2 ^ rules) }
+pub fn longer_rules(table: &Loaded<'_>, set: u32, depth: usize, c: u16) -> u32
+    requires { set < 2 ^ table.now.rules }
+    ensures { (members_from 0 table.now.rules result
+        ≡ longer_rules (bare_table table.now) (state_of table.now.rules depth set) c)
+        × (result < 2 ^ table.now.rules) }
 {
-    let mut longer: u64 = 0;
-    let mut weight: u64 = 1;
-    let mut rest = set;
-    let mut rule = RuleNo(0);
-    while rest > 0 {
-        if rest % 2 == 1 {
-            if goes_on(loaded, rule, depth, c) {
-                longer += weight;
-            }
+    let mut longer = 0;
+    for rule in Members(set) {
+        if goes_on(table, rule, depth, c) {
+            longer += 1 << rule.0;
         }
-        weight *= 2;
-        rest /= 2;
-        rule.0 += 1;
     }
-    longer as u32
+    longer
 }
 
-// The rule ends at the depth, and where only free rules count it is not anchored.
-fn ends_at(loaded: &[u16], rule: RuleNo, depth: usize, free: bool) -> bool
-    requires { (blocks_size ≤ length loaded.now) × (rule.0 < 32) }
-    ensures { result ≡ eqb (at loaded.now (block_size * rule.0)) depth && not (free && eqb (at loaded.now (block_size * rule.0 + 1)) 1) }
+// The lowest rule of the set that passes the test.
+fn lowest<F: Fn(RuleNo) -> bool>(set: u32, passes: F) -> Option<RuleNo>
+    requires { (r : _) → r.0 < 32 → F.pre passes r }
+    ensures first { (p : ℕ → Bool) → ((r : _) (b : _) → r.0 < 32 → F.post passes r b → b ≡ p r.0) →
+        word_of result ≡ first_number (filter p (members_from 0 32 set)) }
+    ensures below { word_of result ≤ 32 }
 {
-    let group = rule.0 as usize;
-    if loaded[BLOCK * group] as usize != depth {
-        return false;
-    }
-    if free {
-        return loaded[BLOCK * group + 1] != 1;
-    }
-    true
-}
-
-// The lowest rule + 1 of the set that ends at the depth, or 0.
-fn lowest_ending(loaded: &[u16], rules: usize, set: u32, depth: usize, free: bool) -> u16
-    requires { (blocks_size ≤ length loaded.now) × (rules ≤ 32) × (set < 2 ^ rules) }
-    ensures { result ≡ first_number (filter (λ k. eqb (at loaded.now (block_size * k)) depth && not (free && eqb (at loaded.now (block_size * k + 1)) 1)) (members_from 0 rules set)) }
-{
-    let mut rest = set;
-    let mut rule = RuleNo(0);
-    while rest > 0 {
-        if rest % 2 == 1 {
-            if ends_at(loaded, rule, depth, free) {
-                return rule.0 + 1;
-            }
+    // no `find`: its law asks what the test says of any rule, and this one is known of the set's rules alone
+    for rule in Members(set) {
+        if passes(rule) {
+            return Some(rule);
         }
-        rest /= 2;
-        rule.0 += 1;
     }
-    0
+    None
 }
 
-// The rule + 1 that a state accepts at once, or 0.
-pub fn accept_of(loaded: &[u16], rules: usize, set: u32, depth: usize) -> u16
-    requires { (blocks_size ≤ length loaded.now) × (rules ≤ 32) × (set < 2 ^ rules) }
-    ensures { result ≡ accept_of (table_at loaded.now rules Absent) (state_of rules depth set) }
+// The rule ends at the depth.
+fn ends_at(table: &Loaded<'_>, rule: RuleNo, depth: usize) -> bool
+    requires { rule.0 < 32 }
+    ensures { result ≡ eqb (at table.now.words.now (block_size * rule.0)) depth }
 {
-    lowest_ending(loaded, rules, set, depth, true)
+    usize::from(table.words[BLOCK * rule.0 as usize]) == depth
 }
 
-// The rule + 1 that a state accepts where the input ends, or 0.
-pub fn accept_at_end_of(loaded: &[u16], rules: usize, set: u32, depth: usize) -> u16
-    requires { (blocks_size ≤ length loaded.now) × (rules ≤ 32) × (set < 2 ^ rules) }
-    ensures { result ≡ accept_at_end_of (table_at loaded.now rules Absent) (state_of rules depth set) }
+// The rule stands only at the end of the input.
+fn anchored(table: &Loaded<'_>, rule: RuleNo) -> bool
+    requires { rule.0 < 32 }
+    ensures { result ≡ eqb (at table.now.words.now (block_size * rule.0 + 1)) 1 }
 {
-    lowest_ending(loaded, rules, set, depth, false)
+    table.words[BLOCK * rule.0 as usize + 1] == 1
+}
+
+// The rule that a state accepts at once.
+pub fn accept_of(table: &Loaded<'_>, set: u32, depth: usize) -> Option<RuleNo>
+    requires { set < 2 ^ table.now.rules }
+    ensures word { word_of result
+        ≡ accept_of (bare_table table.now) (state_of table.now.rules depth set) }
+    ensures below { word_of result ≤ 32 }
+{
+    lowest(set, |rule| {
+        ends_at(table, rule, depth) && !anchored(table, rule)
+    })
+}
+
+// The rule that a state accepts where the input ends.
+pub fn accept_at_end_of(table: &Loaded<'_>, set: u32, depth: usize) -> Option<RuleNo>
+    requires { set < 2 ^ table.now.rules }
+    ensures word { word_of result
+        ≡ accept_at_end_of (bare_table table.now) (state_of table.now.rules depth set) }
+    ensures below { word_of result ≤ 32 }
+{
+    lowest(set, |rule| ends_at(table, rule, depth))
+}
+
+// The word of a state for a rule that it accepts: "end + 1, go + 1; 0 for none".
+pub fn accept_word(accept: Option<RuleNo>) -> u16
+    requires { word_of accept ≤ 32 }
+    ensures { result ≡ word_of accept }
+{
+    accept.map_or(0, |rule| rule.0 + 1)
 }

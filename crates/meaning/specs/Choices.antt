@@ -1,6 +1,6 @@
 -- What Definition 7 chooses at each place of an input: "Rules that can never be chosen", "Nothing held without need".
 use Rattle.std.specs.Prelude.{Bool, true, false, cond, List, [], ◌∷◌, ◌++◌, ◌≢◌, ◌≡◌, ℕ, zero, suc, ◌-◌, ◌≤◌, eqb, ltb, length}
-use Rattle.std.proofs.Math.Option.{Option, none, some}
+use Rattle.std.specs.Prelude.{Option, None, Some}
 use Rattle.meaning.specs.Table.{Characters, Table, default_number, pair_number}
 use Rattle.meaning.specs.Meaning.{Emission, convert}
 
@@ -18,13 +18,13 @@ choice_of e = cond (eqb e.group pair_number) the_pair (cond (eqb e.group default
 
 -- a choice made at the first place of what it is made for, and at no other
 abbrev pub at_start : ℕ → Choice → Option Choice
-at_start zero c = some c
-at_start (suc p) c = none
+at_start zero c = Some c
+at_start (suc p) c = None
 
 -- What was chosen at place p of a conversion, by its log and whether the end closed it; none where it made no choice there: within a word
 -- that a group was chosen for, at the end, or behind.
 unfoldable pub chosen_in : List Emission → Bool → ℕ → Option Choice
-chosen_in [] true p = none
+chosen_in [] true p = None
 chosen_in [] false p = at_start p the_stop
 chosen_in (e ∷ log) closed p =
     let n = length e.word in
@@ -40,7 +40,7 @@ pub record Live (t : Table) (r : ℕ) : Type 0 where
   pub input : List ℕ
   pub characters : Characters input
   pub place : ℕ
-  pub chosen : chosen_at t input place ≡ some (the_rule r)
+  pub chosen : chosen_at t input place ≡ Some (the_rule r)
 
 -- "dead exactly when no input of any length has the definition choose it anywhere"
 abbrev pub Dead : Table → ℕ → Type 0
@@ -51,12 +51,12 @@ pub record Shows (t : Table) (r : ℕ) (v : List ℕ) : Type 0 where
   pub some_character : 1 ≤ length v
   pub few : length v ≤ 9
   pub characters : Characters v
-  pub first : chosen_at t v 0 ≡ some (the_rule r)
+  pub first : chosen_at t v 0 ≡ Some (the_rule r)
 
 -- what may be answered of rule number r: that it is dead, or an input
 abbrev pub Verdict : Table → ℕ → Option (List ℕ) → Type 0
-Verdict t r none = Dead t r
-Verdict t r (some v) = Shows t r v
+Verdict t r None = Dead t r
+Verdict t r (Some v) = Shows t r v
 
 -- "there are two ways for the input to go on, ending there included, under which the definition makes different choices" at place p
 pub record Undecided (t : Table) (u : List ℕ) (p : ℕ) : Type 0 where
@@ -66,8 +66,8 @@ pub record Undecided (t : Table) (u : List ℕ) (p : ℕ) : Type 0 where
   pub other_characters : Characters other
   pub one_choice : Choice
   pub other_choice : Choice
-  pub one_chosen : chosen_at t (u ++ one) p ≡ some one_choice
-  pub other_chosen : chosen_at t (u ++ other) p ≡ some other_choice
+  pub one_chosen : chosen_at t (u ++ one) p ≡ Some one_choice
+  pub other_chosen : chosen_at t (u ++ other) p ≡ Some other_choice
   pub differ : one_choice ≢ other_choice
 
 -- What is chosen at place p, or that nothing is, is the same however the input goes on, ending there included.

@@ -1,6 +1,6 @@
 -- "Meaning (Definition 7)": what a table makes of an input.
 use Rattle.std.specs.Prelude.{Bool, true, false, ◌&&◌, ◌||◌, not, cond, List, [], ◌∷◌, map, ℕ, zero, suc, pred, ◌+◌, eqb, ltb, nat_abs, length, take}
-use Rattle.std.proofs.Math.Option.{Option, none, some}
+use Rattle.std.specs.Prelude.{Option, None, Some}
 use Rattle.lists.specs.Lists.{flat_map, fold}
 use Rattle.meaning.specs.Table.{Group, Mode, Absent, Single, Paired, Table, mode, is_pair, rule_at, group, default_number, pair_number}
 use Rattle.meaning.specs.Value.{value, fits_word}
@@ -13,12 +13,12 @@ fits g rest = fits_word g.ranges (take g.size rest) && (not g.anchored || eqb (l
 -- the choice so far against rule r, which fits or not: "the shortest is chosen, then the lowest number"
 abbrev pub better : Table → Option ℕ → ℕ → Bool → Option ℕ
 better t best r false = best
-better t none r true = some r
-better t (some b) r true = some (cond (ltb (rule_at t r).size (rule_at t b).size) r b)
+better t None r true = Some r
+better t (Some b) r true = Some (cond (ltb (rule_at t r).size (rule_at t b).size) r b)
 
 -- "of the rules that fit", those below n
 unfoldable pub best : Table → ℕ → List ℕ → Option ℕ
-best t zero rest = none
+best t zero rest = None
 best t (suc r) rest = better t (best t r rest) r (fits (rule_at t r) rest)
 
 -- "the next two characters are such a pair"
@@ -30,10 +30,10 @@ starts_pair (x ∷ (y ∷ rest)) = is_pair x y
 -- "With none, the default is chosen", and under the mark, "where no rule fits and the next two characters are such a pair, the default
 -- takes both"; none: "With no default either"
 abbrev pub or_default : Mode → List ℕ → Option ℕ → Option ℕ
-or_default m rest (some r) = some r
-or_default Absent rest none = none
-or_default Single rest none = some default_number
-or_default Paired rest none = some (cond (starts_pair rest) pair_number default_number)
+or_default m rest (Some r) = Some r
+or_default Absent rest None = None
+or_default Single rest None = Some default_number
+or_default Paired rest None = Some (cond (starts_pair rest) pair_number default_number)
 
 -- the number of the group chosen
 unfoldable pub choose : Table → List ℕ → Option ℕ
@@ -66,8 +66,8 @@ chosen e c = record { log = e ∷ c.log; closed = c.closed }
 
 -- "conversion stops at this place", or "the chosen group's output is written and the place moves on by K"
 abbrev pub convert_by : Table → Option ℕ → List ℕ → (ℕ → Conversion) → Conversion
-convert_by t none rest onward = record { log = []; closed = false }
-convert_by t (some n) rest onward =
+convert_by t None rest onward = record { log = []; closed = false }
+convert_by t (Some n) rest onward =
     let k = (group t n).size in chosen (record { group = n; word = take k rest }) (onward (pred k))
 
 -- the conversion of the rest of an input, less its first `skip` characters, which belong to the group chosen last

@@ -1,7 +1,7 @@
 -- Request [8] of document 02, "Pairs outside the basic plane": its record, what Definition 7 so amended chooses and writes, and E, one field a
 -- sentence.
 use Rattle.std.specs.Prelude.{List, [], ◌∷◌, ◌++◌, ◌≢◌, ◌≡◌, ℕ, ◌≤◌, ◌<◌, T, length}
-use Rattle.std.proofs.Math.Option.{some}
+use Rattle.std.specs.Prelude.{Some}
 use Rattle.meaning.specs.Refusal.{refused}
 use Rattle.meaning.specs.Table.{Mark, Paired, Table, mode, is_first, is_second, rule_at, group, default_number, pair_number, expansion}
 use Rattle.meaning.specs.WellFormed.{WellFormed}
@@ -29,13 +29,13 @@ pub record Writes (t : Table) (n : ℕ) (word out rest : List ℕ) : Type 0 wher
 
 pub record PairsMeant : Type 0 where
   -- "A default record may carry 1 in byte 1.": 0 and 1 are read, each as what it says, and another byte is refused by 2
-  pub carries : (m : Mark) → decode (default_record m) ≡ some (default m)
+  pub carries : (m : Mark) → decode (default_record m) ≡ Some (default m)
   pub no_other : (s : Reading) (m : ℕ) → 1 < m → read_one s (decode (default_with m)) ≡ refused 2
   -- "a first unit 55296 to 56319 and a second 56320 to 57343": none is both, so a text has one reading
   pub apart : (x : ℕ) → T (is_first x) → T (is_second x) → ⊥
   -- "where no rule fits": a rule that fits goes first, also one that takes a first unit alone
   pub rules_first : (t : Table) (rest : List ℕ) (r : ℕ) → r < length t.rules → T (fits (rule_at t r) rest) →
-      (n : ℕ) × (choose t rest ≡ some n) × (n < length t.rules)
+      (n : ℕ) × (choose t rest ≡ Some n) × (n < length t.rules)
   -- "Under that mark, where no rule fits and the next two characters are such a pair, the default takes both and writes both unchanged."
   pub both : (t : Table) → mode t ≡ Paired → (x y : ℕ) (rest : List ℕ) → T (is_first x) → T (is_second y) → NoneFits t (x ∷ y ∷ rest) →
       Writes t pair_number (x ∷ y ∷ []) (x ∷ y ∷ []) rest
@@ -43,6 +43,6 @@ pub record PairsMeant : Type 0 where
   pub alone : (t : Table) → WellFormed t → mode t ≡ Paired → (x : ℕ) (rest : List ℕ) → Alone x rest → NoneFits t (x ∷ rest) →
       Writes t default_number (x ∷ []) (written (group t default_number) (x ∷ [])) rest
   -- without the mark no pair is chosen
-  pub unmarked : (t : Table) → WellFormed t → mode t ≢ Paired → (rest : List ℕ) → choose t rest ≢ some pair_number
+  pub unmarked : (t : Table) → WellFormed t → mode t ≢ Paired → (rest : List ℕ) → choose t rest ≢ Some pair_number
   -- "E is then at least 1"
   pub at_least : (t : Table) → mode t ≡ Paired → 1 ≤ expansion t

@@ -1,6 +1,6 @@
 -- "Table records" and "The table's author": bytes read to a table, or refused by 1 to 7.
 use Rattle.std.specs.Prelude.{Bool, false, ◌&&◌, ◌||◌, not, cond, List, [], ◌∷◌, ◌++◌, ◌≡◌, ℕ, zero, suc, ◌-◌, ◌%◌, ◌/◌, ◌^◌, eqb, leb, ltb, ℤ, pos, nat_abs, length, get_or, take, drop}
-use Rattle.std.proofs.Math.Option.{Option, none, some}
+use Rattle.std.specs.Prelude.{Option, None, Some}
 use Rattle.std.proofs.Math.IntN.{sub_ℕ}
 use Rattle.lists.specs.Lists.{at_last, last_d, is_some, or_else}
 use Rattle.lists.specs.Decide.{select}
@@ -15,7 +15,7 @@ pub record Reading : Type 0 where
   pub kind : ℕ
 
 unfoldable pub unread : Reading
-unread = record { table = record { rules = []; default = none; mark = unmarked }; kind = 0 }
+unread = record { table = record { rules = []; default = None; mark = unmarked }; kind = 0 }
 
 -- the group read last
 unfoldable pub latest : Reading → Group
@@ -73,8 +73,8 @@ too_many s (term p a) = false
 unfoldable pub change_latest : (Group → Group) → Table → Table
 change_latest f t =
     elim t.default [
-      | none ↦ record { rules = at_last f t.rules; default = none; mark = t.mark }
-      | some d ↦ record { rules = t.rules; default = some (f d); mark = t.mark }
+      | None ↦ record { rules = at_last f t.rules; default = None; mark = t.mark }
+      | Some d ↦ record { rules = t.rules; default = Some (f d); mark = t.mark }
     ]
 
 abbrev pub add_range : ℕ → Range → List (List Range) → List (List Range)
@@ -109,17 +109,17 @@ add_output o t = change_latest (change_outputs (λ os. os ++ (o ∷ []))) t
 unfoldable pub taken : Reading → Record → Reading
 taken s (rule k a) =
     let g : Group = record { size = k; anchored = a; ranges = []; outputs = [] } in
-    record { table = record { rules = s.table.rules ++ (g ∷ []); default = none; mark = unmarked }; kind = 1 }
+    record { table = record { rules = s.table.rules ++ (g ∷ []); default = None; mark = unmarked }; kind = 1 }
 taken s (range p r) = record { table = change_latest (change_ranges (add_range p r)) s.table; kind = 2 }
 taken s (output c) = record { table = add_output (sum (signed 32 c) []) s.table; kind = 3 }
 taken s (hexadecimal p shift) = record { table = add_output (digit p shift) s.table; kind = 6 }
 taken s (term p a) = record { table = change_latest (change_outputs (at_last (add_term p (signed 16 a)))) s.table; kind = 4 }
-taken s (default k) = record { table = record { rules = s.table.rules; default = some (every_character []); mark = k }; kind = 5 }
+taken s (default k) = record { table = record { rules = s.table.rules; default = Some (every_character []); mark = k }; kind = 5 }
 
 -- one record, "each by 2, 3, 4, 6"
 unfoldable pub read_one : Reading → Option Record → Outcome Reading
-read_one s none = refused 2
-read_one s (some r) =
+read_one s None = refused 2
+read_one s (Some r) =
     select ((misplaced s r, refused 3) ∷ (skipping s r, refused 4) ∷ (too_many s r, refused 6) ∷ []) (accepted (taken s r))
 
 -- "records from the first": n of them

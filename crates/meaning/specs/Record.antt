@@ -1,6 +1,6 @@
 -- "Table records": the record that eight bytes hold, and refusal 2.
 use Rattle.std.specs.Prelude.{Bool, true, false, List, [], ◌∷◌, ℕ, ◌+◌, ◌*◌, eqb, leb, get_or, drop}
-use Rattle.std.proofs.Math.Option.{Option, none, some}
+use Rattle.std.specs.Prelude.{Option, None, Some}
 use Rattle.lists.specs.Lists.{all}
 use Rattle.lists.specs.Decide.{all_of, select}
 use Rattle.meaning.specs.Table.{Range, is_shift, Mark, unmarked, marked}
@@ -33,10 +33,10 @@ decode b =
     let lo = byte 4 + 256 * byte 5 in
     let hi = byte 6 + 256 * byte 7 in
     select (
-    (all_of (eqb kind 1 ∷ leb 1 p ∷ leb p 8 ∷ leb (byte 2) 1 ∷ zeros (drop 3 b) ∷ []), some (rule p (eqb (byte 2) 1)))
-    ∷ (all_of (eqb kind 2 ∷ leb p 7 ∷ zeros (byte 2 ∷ byte 3 ∷ []) ∷ leb lo hi ∷ []), some (range p (record { lowest = lo; highest = hi })))
-    ∷ (all_of (eqb kind 3 ∷ zeros (p ∷ byte 2 ∷ byte 3 ∷ []) ∷ []), some (output (lo + 65536 * hi)))
-    ∷ (all_of (eqb kind 4 ∷ leb p 7 ∷ zeros (byte 2 ∷ byte 3 ∷ hi ∷ []) ∷ leb 1 lo ∷ []), some (term p lo))
-    ∷ (all_of (eqb kind 5 ∷ leb p 1 ∷ zeros (drop 2 b) ∷ []), some (default (mark_of (eqb p 1))))
-    ∷ (all_of (eqb kind 6 ∷ leb p 7 ∷ is_shift (byte 2) ∷ zeros (drop 3 b) ∷ []), some (hexadecimal p (byte 2)))
-    ∷ []) none
+    (all_of (eqb kind 1 ∷ leb 1 p ∷ leb p 8 ∷ leb (byte 2) 1 ∷ zeros (drop 3 b) ∷ []), Some (rule p (eqb (byte 2) 1)))
+    ∷ (all_of (eqb kind 2 ∷ leb p 7 ∷ zeros (byte 2 ∷ byte 3 ∷ []) ∷ leb lo hi ∷ []), Some (range p (record { lowest = lo; highest = hi })))
+    ∷ (all_of (eqb kind 3 ∷ zeros (p ∷ byte 2 ∷ byte 3 ∷ []) ∷ []), Some (output (lo + 65536 * hi)))
+    ∷ (all_of (eqb kind 4 ∷ leb p 7 ∷ zeros (byte 2 ∷ byte 3 ∷ hi ∷ []) ∷ leb 1 lo ∷ []), Some (term p lo))
+    ∷ (all_of (eqb kind 5 ∷ leb p 1 ∷ zeros (drop 2 b) ∷ []), Some (default (mark_of (eqb p 1))))
+    ∷ (all_of (eqb kind 6 ∷ leb p 7 ∷ is_shift (byte 2) ∷ zeros (drop 3 b) ∷ []), Some (hexadecimal p (byte 2)))
+    ∷ []) None

@@ -1,6 +1,6 @@
 -- "Table records": a table of rules as data.
 use Rattle.std.specs.Prelude.{Bool, true, false, ◌&&◌, cond, List, [], ◌∷◌, ◌++◌, ℕ, max, ◌<◌, leb, eqb, ℤ, pos, length, get_or}
-use Rattle.std.proofs.Math.Option.{Option, none, some}
+use Rattle.std.specs.Prelude.{Option, None, Some}
 use Rattle.lists.specs.Lists.{any, Each, greatest, or_else, optional}
 
 -- "A character is a number 0 to 65535"
@@ -44,9 +44,9 @@ pub data Mode : Type 0 where
   Absent Single Paired : Mode
 
 abbrev pub mode_of : Option Group → Mark → Mode
-mode_of none k = Absent
-mode_of (some g) unmarked = Single
-mode_of (some g) marked = Paired
+mode_of None k = Absent
+mode_of (Some g) unmarked = Single
+mode_of (Some g) marked = Paired
 
 abbrev pub mode : Table → Mode
 mode t = mode_of t.default t.mark

@@ -1,6 +1,6 @@
 -- "Table records": what document 01 asks of the table that the records hold, one field a sentence.
 use Rattle.std.specs.Prelude.{List, [], ◌∷◌, ◌≢◌, ◌≡◌, ℕ, ◌-◌, ◌^◌, ◌≤◌, ◌<◌, ℤ, pos, negsuc, length, T}
-use Rattle.std.proofs.Math.Option.{none}
+use Rattle.std.specs.Prelude.{None}
 use Rattle.lists.specs.Lists.{Each, last_d, optional}
 use Rattle.meaning.specs.Table.{Range, Output, sum, digit, Group, unmarked, Table, every_character, is_shift}
 
@@ -67,4 +67,4 @@ pub record WellFormed (t : Table) : Type 0 where
   pub rules : Each WellFormedRule t.rules
   pub default : Each WellFormedDefault (optional t.default)
   -- the mark is a default record's: without one there is none
-  pub no_mark : t.default ≡ none → t.mark ≡ unmarked
+  pub no_mark : t.default ≡ None → t.mark ≡ unmarked

@@ -1,4 +1,3 @@
-pub mod Text
 pub mod Calls
 pub mod Turns
 pub mod Meaning

@@ -3,7 +3,7 @@ ghost use Rattle.std.specs.Prelude.{◌≡◌, length};
 
 use crate::failing::tell;
 
-// How many bytes were handed to a write, and whether it failed.
+// How many bytes were handed to a write, and whether it failed. No Result, since they were handed to it in both cases.
 #[derive(Clone, Copy)]
 pub struct Handed {
     pub size: usize,
@@ -14,6 +14,7 @@ pub struct Handed {
 pub fn print(rt: &HostRuntime, text: &[u8]) -> Handed
     ensures { result.size ≡ length text.now }
 {
+    // a match, since an error is told
     let failed = match rt.write_all(text) {
         Ok(()) => false,
         Err(error) => {

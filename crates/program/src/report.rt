@@ -1,59 +1,59 @@
 // What is printed for a call, as bytes.
-ghost use Rattle.std.specs.Prelude.{◌≡◌, ◌+◌, ◌*◌, ◌≤◌, length, take};
-ghost use Rattle.io.specs.Counts.{IsPrefixLen};
+ghost use Rattle.std.specs.Prelude.{◌≡◌, ◌+◌, ◌*◌, ◌≤◌, length};
 ghost use Rattle.reckoning.specs.Session as Spec;
 ghost use Rattle.session.specs.Promised.{outcome_of};
 ghost use Rattle.session.specs.Keeping.{meant_status, session_of};
 ghost use Rattle.program.specs.Text.{AcceptedLines, Printed};
 ghost use Rattle.program.specs.bridge.Call.{Counted};
 
-use crate::text::{put, put_lines, put_refusal, put_status};
-use session::call::{Answer, Called};
+use crate::text::{put, put_lines, refusal_line, status_line};
+use arrayvec::ArrayVec;
+use rules::refusal::Refusal;
+use session::call::Written;
 use session::kept::{Session, Status};
 
 // "Consumed is received less held."
-fn consumed(session: Session) -> u64
-    ensures { result ≡ Spec.consumed (session_of session) }
+fn consumed(session: &Session) -> u64
+    ensures { result ≡ Spec.consumed (session_of session.now) }
 {
-    let kept = session.kept;
-    let held = kept.held_count as u64;
-    if kept.received < held {
-        return 0;
-    }
-    kept.received - held
+    let kept = &session.kept;
+    kept.received.saturating_sub(u64::from(kept.held_count))
 }
 
-// The session's steps.
-fn steps(session: Session) -> u64
-    ensures { result ≡ (session_of session).steps }
-{
-    session.kept.tally.steps
-}
-
-// The lines of the characters written and the session's last line, at the start of the text; how many bytes they have.
-fn put_accepted(written: &[u16], status: Status, session: Session, text: &mut [u8]) -> usize
-    requires { 5 * length written.now + 64 ≤ length text.old }
-    ensures prefix_len { IsPrefixLen result text.new }
-    ensures accepted_lines { AcceptedLines written.now (meant_status status) (Spec.consumed (session_of session)) (session_of session).steps (take result text.new) }
+// The lines of the characters written and the session's last line.
+fn put_accepted<const N: usize>(
+    written: &[u16],
+    status: Status,
+    session: &Session,
+    text: &mut ArrayVec<u8, N>,
+)
+    requires { 5 * length written.now + 64 ≤ N }
+    ensures { AcceptedLines written.now (meant_status status) (Spec.consumed (session_of session.now)) (session_of session.now).steps text.new.items }
 {
     let consumed = consumed(session);
-    let steps = steps(session);
-    let mut line = [0u8; 64];
-    let size = put_status(status, consumed, steps, &mut line);
-    let at = put_lines(written, text);
-    put(&line[..size], text, at)
+    let steps = session.kept.tally.steps;
+    let line = status_line(status, consumed, steps);
+    text.clear();
+    put_lines(written, text);
+    put(line.as_slice(), text);
 }
 
-// What is printed for a call that left this output, at the start of the text; how many bytes it has.
-pub fn put_call(called: Called, output: &[u16], text: &mut [u8]) -> usize
-    requires { Counted called.answer (length output.now) × (5 * length output.now + 64 ≤ length text.old) }
-    ensures prefix_len { IsPrefixLen result text.new }
-    ensures printed { Printed (outcome_of called.answer called.session output.now) (take result text.new) }
+// What is printed for a call that left this output, in place of what the text held.
+pub fn put_call<const N: usize>(
+    answer: Result<Written, Refusal>,
+    session: &Session,
+    output: &[u16],
+    text: &mut ArrayVec<u8, N>,
+)
+    requires { Counted answer (length output.now) × (5 * length output.now + 64 ≤ N) }
+    ensures { Printed (outcome_of answer session.now output.now) text.new.items }
 {
-    let session = called.session;
-    let answer = called.answer;
     match answer {
-        Answer::Refused(number) => put_refusal(number, text),
-        Answer::Accepted { count, status } => put_accepted(&output[..count], status, session, text),
+        Ok(Written { count, status }) => put_accepted(&output[..count], status, session, text),
+        Err(refusal) => {
+            let line = refusal_line(refusal);
+            text.clear();
+            put(line.as_slice(), text);
+        }
     }
 }

@@ -1,30 +1,31 @@
 // The program from the table's bytes on.
 ghost use Rattle.std.specs.Prelude.{◌≡◌, length};
+ghost use Rattle.rules.specs.Answers.{number_of};
 ghost use Rattle.program.specs.Text.{RefusalLine};
 ghost use Rattle.program.specs.Turns.{Refused, Ran};
 
 use crate::feeding::{Ending, convert_input};
 use crate::print::{Handed, print};
-use crate::text::put_refusal;
-use machine::compile::{Compiled, compile};
+use crate::text::refusal_line;
+use machine::compile::compile;
+use rules::refusal::Refusal;
 use session::kept::fresh;
 use words::layout::WORDS;
 
 // Hands the line of a refusal to a write. That it is this line is asked of the caller.
-fn print_refusal(rt: &HostRuntime, number: u8, line: &[u8]) -> Handed
-    requires { RefusalLine number line.now }
+fn print_refusal(rt: &HostRuntime, refusal: Refusal, line: &[u8]) -> Handed
+    requires { RefusalLine (number_of refusal) line.now }
     ensures { result.size ≡ length line.now }
 {
     print(rt, line)
 }
 
 // The table is refused: that is printed, and nothing is read.
-fn refuse(rt: &HostRuntime, number: u8) -> Ending
-    ensures { Refused number result }
+fn refuse(rt: &HostRuntime, refusal: Refusal) -> Ending
+    ensures { Refused (number_of refusal) result }
 {
-    let mut text = [0u8; 64];
-    let size = put_refusal(number, &mut text);
-    let handed = print_refusal(rt, number, &text[..size]);
+    let line = refusal_line(refusal);
+    let handed = print_refusal(rt, refusal, line.as_slice());
     Ending {
         session: fresh(),
         going: false,
@@ -40,7 +41,7 @@ pub fn run(rt: &HostRuntime, table: &[u8]) -> Ending
 {
     let mut words = [0u16; WORDS];
     match compile(table, &mut words) {
-        Compiled::Refused(number) => refuse(rt, number),
-        Compiled::Accepted => convert_input(rt, &words),
+        Ok(()) => convert_input(rt, &words),
+        Err(refusal) => refuse(rt, refusal),
     }
 }

@@ -1,57 +1,46 @@
 // The table's file.
-ghost use Rattle.std.specs.Prelude.{◌≡◌, ◌≤◌, length};
+ghost use Rattle.std.specs.Prelude.{◌≤◌, length, IfOk, IfSome};
 
 use crate::failing::tell;
 use std::fs::File;
 use std::io::{ErrorKind, Read};
 use std::{fs, io};
 
-// Whether the table could be read, and how many bytes it has.
-#[derive(Clone, Copy)]
-pub struct Found {
-    pub readable: bool,
-    pub size: usize,
-}
-
-// A file that is there and can't be read is told on standard error.
-fn unreadable(rt: &HostRuntime, error: io::Error) -> Found
-    ensures { result.size ≡ 0 }
-{
-    tell(rt, "rules.tab", error);
-    Found {
-        readable: false,
-        size: 0,
-    }
-}
-
-// Reads until the table is full or the file ends.
-fn read_to_end(rt: &HostRuntime, file: &mut File, table: &mut [u8]) -> Found
-    ensures { result.size ≤ length table.old }
+// Reads until the table is full or the file ends; how many bytes that were.
+fn read_to_end(file: &mut File, table: &mut [u8]) -> io::Result<usize>
+    ensures { IfOk result (λ size. size ≤ length table.new) }
 {
     let mut size: usize = 0;
+    // no `for`: each read says how far it came
     while size < table.len() {
-        match file.read(&mut table[size..]) {
-            Ok(0) => break,
-            Ok(more) => size += more,
-            Err(error) => return unreadable(rt, error),
+        match file.read(&mut table[size..])? {
+            0 => break,
+            more => size += more,
         }
     }
-    Found {
-        readable: true,
-        size,
+    Ok(size)
+}
+
+// "first 32,768 bytes; a missing file is an empty table"
+fn read_file(rt: &HostRuntime, table: &mut [u8]) -> io::Result<usize>
+    ensures { IfOk result (λ size. size ≤ length table.new) }
+{
+    match fs::open(rt, "rules.tab") {
+        Ok(mut file) => read_to_end(&mut file, table),
+        Err(error) if error.kind() == ErrorKind::NotFound => Ok(0),
+        Err(error) => Err(error),
     }
 }
 
-// "`rules.tab` (first 32,768 bytes; a missing file is an empty table)"
-pub fn read_table(rt: &HostRuntime, table: &mut [u8]) -> Found
-    ensures { result.size ≤ length table.new }
+// The table's file goes to the start of the table; how many bytes it has. One that is there and can't be read is told on standard error.
+pub fn read_table(rt: &HostRuntime, table: &mut [u8]) -> Option<usize>
+    ensures { IfSome result (λ size. size ≤ length table.new) }
 {
-    match fs::open(rt, "rules.tab") {
-        Ok(mut file) => read_to_end(rt, &mut file, table),
-        Err(error) if error.kind() == ErrorKind::NotFound => Found {
-            readable: true,
-            size: 0,
-        },
-        Err(error) => unreadable(rt, error),
+    match read_file(rt, table) {
+        Ok(size) => Some(size),
+        Err(error) => {
+            tell(rt, "rules.tab", error);
+            None
+        }
     }
 }

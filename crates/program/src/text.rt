@@ -1,110 +1,102 @@
-// What is printed, as bytes.
-ghost use Rattle.std.specs.Prelude.{[], ◌∷◌, ◌++◌, ◌≡◌, ◌+◌, ◌*◌, ◌≤◌, ◌<◌, length, take};
-ghost use Rattle.io.specs.Counts.{IsPrefixLen};
+// What is printed, as bytes. A text has a fixed room, and what is put goes to its end.
+ghost use Rattle.std.specs.Prelude.{◌++◌, ◌≡◌, ◌+◌, ◌*◌, ◌≤◌, ◌<◌, length};
+ghost use Rattle.arrayvec.specs.ArrayVec.{array_vec_len};
+ghost use Rattle.rules.specs.Answers.{number_of};
 ghost use Rattle.session.specs.Keeping.{meant_status};
 ghost use Rattle.program.specs.Text.{hex_digit, hex_line, hex_lines, Numbered, EndLine, StatusLine, RefusalLine};
 
+use arrayvec::ArrayVec;
+use rules::refusal::Refusal;
 use session::kept::Status;
+
+// A line with a word and two numbers at most.
+pub type Line = ArrayVec<u8, 64>;
 
 // The code of an upper-case hexadecimal digit.
 fn hex_digit(d: u16) -> u8
     requires { d < 16 }
     ensures { result ≡ hex_digit d }
 {
-    if d < 10 {
-        return 48 + d as u8;
-    }
-    55 + d as u8
+    b"0123456789ABCDEF"[usize::from(d)]
 }
 
-// "four upper-case hexadecimal digits on a line", from `at` on.
-fn put_line(c: u16, text: &mut [u8], at: usize)
-    requires { at + 5 ≤ length text.old }
-    ensures { take (at + 5) text.new ≡ take at text.old ++ hex_line c }
+// "four upper-case hexadecimal digits on a line"
+fn hex_line(c: u16) -> [u8; 5]
+    ensures { result ≡ hex_line c }
 {
-    text[at] = hex_digit(c / 4096);
-    text[at + 1] = hex_digit(c / 256 % 16);
-    text[at + 2] = hex_digit(c / 16 % 16);
-    text[at + 3] = hex_digit(c % 16);
-    text[at + 4] = b'\n';
+    [
+        hex_digit(c / 4096),
+        hex_digit(c / 256 % 16),
+        hex_digit(c / 16 % 16),
+        hex_digit(c % 16),
+        b'\n',
+    ]
 }
 
-// The characters' lines go to the start of the text; how many bytes they have.
-pub fn put_lines(characters: &[u16], text: &mut [u8]) -> usize
-    requires { 5 * length characters.now ≤ length text.old }
-    ensures value { result ≡ 5 * length characters.now }
-    ensures text_after { take result text.new ≡ hex_lines characters.now }
+// The characters' lines.
+#[tactic(auto, unfolding(crate::specs::Text::hex_lines))]
+pub fn put_lines<const N: usize>(characters: &[u16], text: &mut ArrayVec<u8, N>)
+    requires { array_vec_len text.old + 5 * length characters.now ≤ N }
+    ensures lines { text.new.items ≡ text.old.items ++ hex_lines characters.now }
+    ensures size { array_vec_len text.new ≡ array_vec_len text.old + 5 * length characters.now }
 {
-    let mut at: usize = 0;
-    let mut i: usize = 0;
-    while i < characters.len() {
-        put_line(characters[i], text, at);
-        at += 5;
-        i += 1;
+    for c in characters {
+        put(&hex_line(*c), text);
     }
-    at
 }
 
-// The bytes go to the text from `at` on; the place after them.
-pub fn put(bytes: &[u8], text: &mut [u8], at: usize) -> usize
-    requires { at + length bytes.now ≤ length text.old }
-    ensures value { result ≡ at + length bytes.now }
-    ensures text_after { take result text.new ≡ take at text.old ++ bytes.now }
+// The bytes as they are.
+pub fn put<const N: usize>(bytes: &[u8], text: &mut ArrayVec<u8, N>)
+    requires { array_vec_len text.old + length bytes.now ≤ N }
+    ensures bytes { text.new.items ≡ text.old.items ++ bytes.now }
+    ensures size { array_vec_len text.new ≡ array_vec_len text.old + length bytes.now }
 {
-    let mut i: usize = 0;
-    while i < bytes.len() {
-        text[at + i] = bytes[i];
-        i += 1;
-    }
-    at + i
+    text.try_extend_from_slice(bytes).unwrap();
 }
 
-// A blank and the number in decimal go to the text from `at` on; the place after them.
-fn put_number(n: u64, text: &mut [u8], at: usize) -> usize
-    requires { at + 21 ≤ length text.old }
-    ensures upper_bound { result ≤ at + 21 }
-    ensures numbered { Numbered (take at text.old) n (take result text.new) }
+// A blank and the number in decimal. `write!` would say what it wrote only where it answers Ok, and not that it does.
+fn put_number<const N: usize>(n: u64, text: &mut ArrayVec<u8, N>)
+    requires { array_vec_len text.old + 21 ≤ N }
+    ensures numbered { Numbered text.old.items n text.new.items }
+    ensures size { array_vec_len text.new ≤ array_vec_len text.old + 21 }
 {
     let mut digits = [0u8; 20];
     let places = io::decimal(n, &mut digits);
-    text[at] = b' ';
-    put(&digits[..places], text, at + 1)
+    text.push(b' ');
+    put(&digits[..places], text);
 }
 
-// A word and two numbers on a line, at the start of the text; how many bytes they have.
-fn put_end(word: &[u8], consumed: u64, steps: u64, text: &mut [u8]) -> usize
-    requires { (length word.now ≤ 8) × (64 ≤ length text.old) }
-    ensures prefix_len { IsPrefixLen result text.new }
-    ensures end_line { EndLine word.now consumed steps (take result text.new) }
+// A word and two numbers on a line.
+fn end_line(word: &[u8], consumed: u64, steps: u64) -> Line
+    requires { length word.now ≤ 8 }
+    ensures { EndLine word.now consumed steps result.items }
 {
-    let mut at = put(word, text, 0);
-    at = put_number(consumed, text, at);
-    at = put_number(steps, text, at);
-    text[at] = b'\n';
-    at + 1
+    let mut line = Line::new();
+    put(word, &mut line);
+    put_number(consumed, &mut line);
+    put_number(steps, &mut line);
+    line.push(b'\n');
+    line
 }
 
-// The last line of a session with this status, if it is no longer open, at the start of the text; how many bytes it has.
-pub fn put_status(status: Status, consumed: u64, steps: u64, text: &mut [u8]) -> usize
-    requires { 64 ≤ length text.old }
-    ensures prefix_len { IsPrefixLen result text.new }
-    ensures status_line { StatusLine (meant_status status) consumed steps (take result text.new) }
+// The last line of a session with this status, which is empty while it is open.
+pub fn status_line(status: Status, consumed: u64, steps: u64) -> Line
+    ensures { StatusLine (meant_status status) consumed steps result.items }
 {
     match status {
-        Status::Open => 0,
-        Status::Closed => put_end(b"end", consumed, steps, text),
-        Status::Stopped => put_end(b"stop", consumed, steps, text),
+        Status::Open => Line::new(),
+        Status::Closed => end_line(b"end", consumed, steps),
+        Status::Stopped => end_line(b"stop", consumed, steps),
     }
 }
 
-// The line of a refusal, at the start of the text; how many bytes it has.
-pub fn put_refusal(number: u8, text: &mut [u8]) -> usize
-    requires { 64 ≤ length text.old }
-    ensures prefix_len { IsPrefixLen result text.new }
-    ensures refusal_line { RefusalLine number (take result text.new) }
+// The line of a refusal.
+pub fn refusal_line(refusal: Refusal) -> Line
+    ensures { RefusalLine (number_of refusal) result.items }
 {
-    let mut at = put(b"refused", text, 0);
-    at = put_number(number as u64, text, at);
-    text[at] = b'\n';
-    at + 1
+    let mut line = Line::new();
+    put(b"refused", &mut line);
+    put_number(u64::from(refusal.number()), &mut line);
+    line.push(b'\n');
+    line
 }

@@ -1,20 +1,18 @@
 -- The contract of every entry point, as its source states it: what each says of its arguments as found, of its answer and of what it leaves.
 -- None asks anything of its caller. A change of a contract has to change this file.
-use Rattle.std.specs.Prelude.{List, [], ◌∷◌, ◌≡◌, ℕ}
-use Rattle.std.proofs.Math.Option.{Option}
+use Rattle.std.specs.Prelude.{List, [], ◌∷◌, ◌≡◌, ℕ, OnErr}
+use Rattle.std.specs.Prelude.{Option}
 use Rattle.meaning.specs.Refusal.{Outcome}
 use Rattle.meaning.specs.Direct.{checked, direct}
 use Rattle.automaton.specs.Compile as Compile
 use Rattle.automaton.specs.Sound.{sound}
 use Rattle.automaton.specs.Witness.{Checked}
 use Rattle.reckoning.specs.Session as Session
-use Rattle.rules.specs.Answers.{check_of, conversion_of}
-use Rattle.typed.specs.Answers.{typed_of}
+use Rattle.rules.specs.Answers.{check_of, conversion_of, outcome_of}
 use Rattle.typed.specs.Typed.{FromText}
-use Rattle.machine.specs.Compiled.{compiled_of}
 use Rattle.witness.specs.Judged.{judged}
 use Rattle.session.specs.Keeping.{session_of, together}
-use Rattle.session.specs.Promised.{Feeds, Finishes, Previews, Told, Said}
+use Rattle.session.specs.Promised.{Feeds, Finishes, Previews, written_of, left_of}
 use Rattle.chain.specs.Promised as Chain
 use Rattle.station.specs.Two.{in_two}
 use Rattle.station.specs.Progress.{turn_of}
@@ -108,15 +106,15 @@ pub record Contracts : Type 2 where
       ∷ [])
   -- typed::text::from_text
   pub from_text : EntryPoint from_text.ended from_text_code.name from_text_code.code
-      (λ κs (text, (table, _)) typed (_, (table', _)). FromText text.now table.now (typed_of typed) table'.now ∷ [])
+      (λ κs (text, (table, _)) typed (_, (table', _)). FromText text.now table.now (outcome_of typed) table'.now ∷ [])
   -- machine::compile::compile
   pub compile : EntryPoint compile.ended compile_code.name compile_code.code
       (λ κs (table, (words, _)) compiled (_, (words', _)).
-      (compiled_of compiled ≡ (Compile.compile table.now words.now).answer) ∷ (words'.now ≡ (Compile.compile table.now words.now).words) ∷ [])
+      (outcome_of compiled ≡ (Compile.compile table.now words.now).answer) ∷ (words'.now ≡ (Compile.compile table.now words.now).words) ∷ [])
   -- witness::check::witness
   pub witness : EntryPoint witness.ended witness_code.name witness_code.code
       (λ κs (table, (words, (rule, _))) answer (_, (words', _)).
-      ((a : Outcome (Option (List ℕ))) × Checked table.now words.now rule a words'.now × (answer ≡ judged a)) ∷ [])
+      ((a : Outcome (Option (List ℕ))) × Checked table.now words.now rule a words'.now × (outcome_of answer ≡ judged a)) ∷ [])
   -- words::sound_words::is_sound
   pub is_sound : EntryPoint is_sound.ended is_sound_code.name is_sound_code.code
       (λ κs (words, _) answer _. (answer ≡ sound words.now) ∷ [])
@@ -134,36 +132,36 @@ pub record Contracts : Type 2 where
   -- session::call::preview
   pub preview : EntryPoint preview.ended preview_code.name preview_code.code
       (λ κs (words, (session, (piece, _))) called _.
-      Told called session.now ∷ Previews words.now session.now piece.now called.answer called.session ∷ [])
+      Previews words.now session.now piece.now (written_of called) (left_of session.now called) ∷ [])
   -- session::call::feed_by_value
   pub feed_by_value : EntryPoint feed_by_value.ended feed_by_value_code.name feed_by_value_code.code
       (λ κs (words, (session, (piece, (output, _)))) called (_, (_, (_, (output', _)))).
-      Told called session ∷ Feeds words.now session piece.now output.now called.answer called.session output'.now ∷ [])
+      Feeds words.now session piece.now output.now (written_of called) (left_of session called) output'.now ∷ [])
   -- session::call::finish_by_value
   pub finish_by_value : EntryPoint finish_by_value.ended finish_by_value_code.name finish_by_value_code.code
       (λ κs (words, (session, (output, _))) called (_, (_, (output', _))).
-      Told called session ∷ Finishes words.now session output.now called.answer called.session output'.now ∷ [])
+      Finishes words.now session output.now (written_of called) (left_of session called) output'.now ∷ [])
   -- session::call::preview_by_value
   pub preview_by_value : EntryPoint preview_by_value.ended preview_by_value_code.name preview_by_value_code.code
       (λ κs (words, (session, (piece, _))) called _.
-      Told called session ∷ Previews words.now session piece.now called.answer called.session ∷ [])
+      Previews words.now session piece.now (written_of called) (left_of session called) ∷ [])
   -- session::call::feed_kept
   pub feed_kept : EntryPoint feed_kept.ended feed_kept_code.name feed_kept_code.code
       (λ κs (words, (kept, (uses, (piece, (output, _))))) went (_, (_, (uses', (_, (output', _))))).
-      Said went kept uses.now uses'.now
-      ∷ Feeds words.now (together kept uses.now) piece.now output.now went.answer (together went.kept uses'.now) output'.now
+      OnErr went (uses'.now ≡ uses.now)
+      ∷ Feeds words.now (together kept uses.now) piece.now output.now (written_of went) (together (left_of kept went) uses'.now) output'.now
       ∷ [])
   -- session::call::finish_kept
   pub finish_kept : EntryPoint finish_kept.ended finish_kept_code.name finish_kept_code.code
       (λ κs (words, (kept, (uses, (output, _)))) went (_, (_, (uses', (output', _)))).
-      Said went kept uses.now uses'.now
-      ∷ Finishes words.now (together kept uses.now) output.now went.answer (together went.kept uses'.now) output'.now
+      OnErr went (uses'.now ≡ uses.now)
+      ∷ Finishes words.now (together kept uses.now) output.now (written_of went) (together (left_of kept went) uses'.now) output'.now
       ∷ [])
   -- session::call::preview_kept
   pub preview_kept : EntryPoint preview_kept.ended preview_kept_code.name preview_kept_code.code
       (λ κs (words, (kept, (uses, (piece, (later, _))))) went (_, (_, (_, (_, (later', _))))).
-      Said went kept later.now later'.now
-      ∷ Previews words.now (together kept uses.now) piece.now went.answer (together went.kept later'.now)
+      OnErr went (later'.now ≡ later.now)
+      ∷ Previews words.now (together kept uses.now) piece.now (written_of went) (together (left_of kept went) later'.now)
       ∷ [])
   -- chain::call::feed
   pub chain_feed : EntryPoint chain_feed.ended chain_feed_code.name chain_feed_code.code
@@ -180,30 +178,28 @@ pub record Contracts : Type 2 where
   -- chain::call::feed_by_value
   pub chain_feed_by_value : EntryPoint chain_feed_by_value.ended chain_feed_by_value_code.name chain_feed_by_value_code.code
       (λ κs (words₁, (first, (words₂, (second, (piece, (middle, (output, _))))))) called (_, (_, (_, (_, (_, (middle', (output', _))))))).
-      Chain.Told called first second
-      ∷ Chain.Feeds words₁.now words₂.now first second piece.now middle.now output.now
-      (Chain.outcome_of called.answer called.first called.second middle'.now output'.now)
+      Chain.Feeds words₁.now words₂.now first second piece.now middle.now output.now
+      (Chain.outcome_of (Chain.written_of called) (Chain.first_of first called) (Chain.second_of second called) middle'.now output'.now)
       ∷ [])
   -- chain::call::finish_by_value
   pub chain_finish_by_value : EntryPoint chain_finish_by_value.ended chain_finish_by_value_code.name chain_finish_by_value_code.code
       (λ κs (words₁, (first, (words₂, (second, (middle, (output, _)))))) called (_, (_, (_, (_, (middle', (output', _)))))).
-      Chain.Told called first second
-      ∷ Chain.Finishes words₁.now words₂.now first second middle.now output.now
-      (Chain.outcome_of called.answer called.first called.second middle'.now output'.now)
+      Chain.Finishes words₁.now words₂.now first second middle.now output.now
+      (Chain.outcome_of (Chain.written_of called) (Chain.first_of first called) (Chain.second_of second called) middle'.now output'.now)
       ∷ [])
   -- chain::call::feed_kept
   pub chain_feed_kept : EntryPoint chain_feed_kept.ended chain_feed_kept_code.name chain_feed_kept_code.code
       (λ κs (words₁, (first, (uses₁, (words₂, (second, (uses₂, (piece, (middle, (output, _))))))))) went (_, (_, (uses₁', (_, (_, (uses₂', (_, (middle', (output', _))))))))).
-      Chain.Said went first second uses₁.now uses₂.now uses₁'.now uses₂'.now
+      OnErr went ((uses₁'.now ≡ uses₁.now) × (uses₂'.now ≡ uses₂.now))
       ∷ Chain.Feeds words₁.now words₂.now (together first uses₁.now) (together second uses₂.now) piece.now middle.now output.now
-      (Chain.outcome_of went.answer (together went.first uses₁'.now) (together went.second uses₂'.now) middle'.now output'.now)
+      (Chain.outcome_of (Chain.written_of went) (together (Chain.first_of first went) uses₁'.now) (together (Chain.second_of second went) uses₂'.now) middle'.now output'.now)
       ∷ [])
   -- chain::call::finish_kept
   pub chain_finish_kept : EntryPoint chain_finish_kept.ended chain_finish_kept_code.name chain_finish_kept_code.code
       (λ κs (words₁, (first, (uses₁, (words₂, (second, (uses₂, (middle, (output, _)))))))) went (_, (_, (uses₁', (_, (_, (uses₂', (middle', (output', _)))))))).
-      Chain.Said went first second uses₁.now uses₂.now uses₁'.now uses₂'.now
+      OnErr went ((uses₁'.now ≡ uses₁.now) × (uses₂'.now ≡ uses₂.now))
       ∷ Chain.Finishes words₁.now words₂.now (together first uses₁.now) (together second uses₂.now) middle.now output.now
-      (Chain.outcome_of went.answer (together went.first uses₁'.now) (together went.second uses₂'.now) middle'.now output'.now)
+      (Chain.outcome_of (Chain.written_of went) (together (Chain.first_of first went) uses₁'.now) (together (Chain.second_of second went) uses₂'.now) middle'.now output'.now)
       ∷ [])
   -- station::two::convert_in_two
   pub convert_in_two : EntryPoint convert_in_two.ended convert_in_two_code.name convert_in_two_code.code

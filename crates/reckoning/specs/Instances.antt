@@ -1,7 +1,7 @@
 -- Demand 3 on two lists of calls, with the values that document 01 gives, on one of request [8] and on two of request [9], with that claim; so that
 -- none of their conditions is empty.
 use Rattle.std.specs.Prelude.{Bool, true, false, ◌||◌, List, [], ◌∷◌, ◌++◌, ◌≡◌, ℕ, ◌≤◌, ◌<◌, T, length}
-use Rattle.std.proofs.Math.Option.{some}
+use Rattle.std.specs.Prelude.{Some}
 use Prim.Native.String.{String}
 use Rattle.lists.specs.Lists.{pad}
 use Rattle.meaning.specs.Refusal.{Outcome, refused, accepted}
@@ -56,8 +56,8 @@ pub record Over (x : Case) (t : Table) (closed : Bool) : Type 0 where
 pub record Held (x : Case) (t : Table) (one : List ℕ) (one_Choice : Choice) (other : List ℕ) (other_choice : Choice) : Type 0 where
   pub is_open_lem : x.session.status ≡ Open
   pub holds : 0 < x.session.count
-  pub one_chosen : chosen_at t (x.input ++ one) (consumed x.session) ≡ some one_Choice
-  pub other_chosen : chosen_at t (x.input ++ other) (consumed x.session) ≡ some other_choice
+  pub one_chosen : chosen_at t (x.input ++ one) (consumed x.session) ≡ Some one_Choice
+  pub other_chosen : chosen_at t (x.input ++ other) (consumed x.session) ≡ Some other_choice
   -- request [9], of these values
   pub needs : HeldOfNeed t x.input x.session
 

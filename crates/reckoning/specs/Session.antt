@@ -1,6 +1,6 @@
 -- "Sessions": what is kept between calls, and when it is sound.
 use Rattle.std.specs.Prelude.{Bool, true, false, ◌&&◌, ◌||◌, not, cond, List, [], ◌∷◌, ℕ, ◌+◌, ◌-◌, ◌*◌, eqb, leb, take, drop}
-use Rattle.std.proofs.Math.Option.{Option, none, some}
+use Rattle.std.specs.Prelude.{Option, None, Some}
 use Rattle.lists.specs.Lists.{all, pad}
 use Rattle.lists.specs.Decide.{all_of}
 use Rattle.meaning.specs.Table.{Mode, Absent, Single, Paired, is_first}
@@ -44,16 +44,16 @@ settled m q = used (m.accept q) && eqb (m.accept q) (m.accept_at_end q)
 
 abbrev pub path_if : Bool → Option ℕ → Option ℕ
 path_if true r = r
-path_if false r = none
+path_if false r = None
 
 -- where the characters lead by targets, "neither through nor to a state whose go equals its end"
 unfoldable pub path : Automaton → ℕ → List ℕ → Option ℕ
-path m q [] = some q
+path m q [] = Some q
 path m q (c ∷ cs) = let r = m.target q c in path_if (used r && not (settled m r)) (path m r cs)
 
 abbrev pub is_at : ℕ → Option ℕ → Bool
-is_at q none = false
-is_at q (some r) = eqb q r
+is_at q None = false
+is_at q (Some r) = eqb q r
 
 abbrev pub is_paired : Mode → Bool
 is_paired Absent = false

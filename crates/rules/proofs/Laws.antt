@@ -14,3 +14,5 @@ pub mod Loading
 pub mod Converting
 pub mod Pairs
 pub mod Plain
+pub mod Signs
+pub mod Records

@@ -1,3 +1,6 @@
+// The sizes and the places of the numbers of a loaded table.
+ghost use Rattle.std.specs.Prelude.{◌≡◌, ◌+◌, ◌*◌};
+
 // The sizes of a group's numbers, each beside the definition of that name in `meaning`: an entry (a sort, a constant and eight coefficients), a
 // block (K, anchored, output count, eight entries), and the 33 blocks of 32 rules and the default.
 pub const ENTRY: usize = 10;
@@ -30,3 +33,10 @@ pub const LOADED: usize = HIGHS_FROM + 33 * 8;
 pub const DEFAULT_SLOT: usize = SLOTS_FROM + 32 * 8;
 
 pub const DEFAULT_HIGHEST: usize = RANGES_FROM + 32 * 64 + 1;
+
+// A number of 32 bits by its halves.
+pub fn number_of_halves(low: u16, high: u16) -> u32
+    ensures { result ≡ low + 65536 * high }
+{
+    u32::from(low) + 65536 * u32::from(high)
+}

@@ -4,10 +4,12 @@
 pub mod convert;
 pub mod layout;
 pub mod load;
+pub mod loaded;
 pub mod mode;
 pub mod output;
 pub mod pattern;
 pub mod plain;
 pub mod reader;
 pub mod record;
+pub mod refusal;
 pub mod safe;

@@ -1,141 +1,131 @@
 // Definition 7's choice, on a loaded table's array.
-ghost use Rattle.std.specs.Prelude.{◌≡◌, ◌+◌, ◌*◌, ◌<◌, ◌≤◌, ◌&&◌, length, take, drop, nat_le};
-ghost use Rattle.std.proofs.Math.Option.{none};
+ghost use Rattle.std.specs.Prelude.{◌≡◌, ◌+◌, ◌*◌, ◌<◌, ◌≤◌, length};
+ghost use Rattle.std.specs.Prelude.{None};
 ghost use Rattle.lists.specs.Lists.{tab_from};
-ghost use Rattle.meaning.specs.Table.{in_ranges};
-ghost use Rattle.meaning.specs.Block.{at};
+ghost use Rattle.meaning.specs.Table.{within, in_ranges};
 ghost use Rattle.meaning.specs.Value.{fits_word};
 ghost use Rattle.meaning.specs.Meaning.{fits, starts_pair, or_default, choose};
-ghost use Rattle.meaning.specs.bridge.Flat.{slots_from, loaded_size, ranges_at, group_at, table_at, Flat};
+ghost use Rattle.meaning.specs.bridge.Flat.{range_at, ranges_at, group_at, table_at};
 ghost use Rattle.rules.specs.bridge.Modes.{the_mode};
-ghost use Rattle.rules.specs.bridge.Readings.{choice_of};
 
 use crate::layout::{BLOCK, DEFAULT_GROUP, PAIR_GROUP, RANGES_FROM, SLOTS_FROM};
+use crate::loaded::Loaded;
 use crate::mode::{Mode, is_pair};
 
-// The number of the group chosen, or nothing where no rule fits and there is no default.
-#[derive(Clone, Copy)]
-pub enum Choice {
-    Group(usize),
-    Nothing,
-}
-
-// The character lies in the range whose two numbers start at `i`.
-fn in_range(loaded: &[u16], i: usize, c: u16) -> bool
-    requires { i + 2 ≤ length loaded.now }
-    ensures { result ≡ nat_le (at loaded.now i) c && nat_le c (at loaded.now (i + 1)) }
-{
-    if loaded[i] <= c {
-        return c <= loaded[i + 1];
-    }
-    false
-}
-
-// The character lies in the ranges of a place: position p of group g has place 8 g + p.
-pub fn in_ranges(loaded: &[u16], place: usize, c: u16) -> bool
-    requires { (place < 33 * 8) × (length loaded.now ≡ loaded_size) × (at loaded.now (slots_from + place) ≤ 4) }
-    ensures { result ≡ in_ranges (ranges_at loaded.now place) c }
-{
-    let count = loaded[SLOTS_FROM + place] as usize;
-    // most positions have one range
-    if count == 1 {
-        return in_range(loaded, RANGES_FROM + 8 * place, c);
-    }
-    let mut k: usize = 0;
-    while k < count {
-        if in_range(loaded, RANGES_FROM + 8 * place + 2 * k, c) {
-            return true;
-        }
-        k += 1;
-    }
-    false
-}
-
-// The `size` characters from `from` on lie in the ranges of as many places from `place` on.
-fn positions_fit(loaded: &[u16], place: usize, size: usize, input: &[u16], from: usize) -> bool
-    requires flat { Flat loaded.now }
-    requires size_bound { (place + size ≤ 33 * 8) × (from + size ≤ length input.now) }
-    ensures { result ≡ fits_word (tab_from 0 size (λ p. ranges_at loaded.now (place + p))) (take size (drop from input.now)) }
-{
-    let mut p: usize = 0;
-    while p < size {
-        if !in_ranges(loaded, place + p, input[from + p]) {
-            return false;
-        }
-        p += 1;
-    }
-    true
-}
-
-// The group fits the input from `at` on.
-fn fits_at(loaded: &[u16], group: usize, input: &[u16], at: usize) -> bool
-    requires flat { Flat loaded.now }
-    requires group_bound { (group < 33) × (at ≤ length input.now) }
-    ensures { result ≡ fits (group_at loaded.now group) (drop at input.now) }
-{
-    let size = loaded[BLOCK * group] as usize;
-    let left = input.len() - at;
-    if left < size {
-        return false;
-    }
-    if loaded[BLOCK * group + 1] == 1 {
-        if size < left {
-            return false;
-        }
-    }
-    positions_fit(loaded, 8 * group, size, input, at)
-}
-
 // "the next two characters are such a pair"
-fn starts_pair(input: &[u16], at: usize) -> bool
-    requires { at ≤ length input.now }
-    ensures { result ≡ starts_pair (drop at input.now) }
+fn starts_pair(rest: &[u16]) -> bool
+    ensures { result ≡ starts_pair rest.now }
 {
-    if input.len() - at < 2 {
-        return false;
-    }
-    is_pair(input[at], input[at + 1])
+    matches!(rest, [first, second, ..] if is_pair(*first, *second))
 }
 
-// The choice for the input from `at` on where no rule fits: "the default is chosen", and under the mark a pair if one is next.
-pub fn fall(mode: Mode, input: &[u16], at: usize) -> Choice
-    requires { at ≤ length input.now }
-    ensures { choice_of result ≡ or_default (the_mode mode) (drop at input.now) none }
+// The choice for the rest of an input where no rule fits: "the default is chosen", and under the mark a pair if one is next. It is the number of a
+// group, or none where there is no default.
+pub fn fall(mode: Mode, rest: &[u16]) -> Option<usize>
+    ensures { result ≡ or_default (the_mode mode) rest.now None }
 {
     match mode {
-        Mode::Absent => Choice::Nothing,
-        Mode::Single => Choice::Group(DEFAULT_GROUP),
-        Mode::Paired => {
-            if starts_pair(input, at) {
-                return Choice::Group(PAIR_GROUP);
-            }
-            Choice::Group(DEFAULT_GROUP)
-        }
+        Mode::Absent => None,
+        Mode::Paired if starts_pair(rest) => Some(PAIR_GROUP),
+        Mode::Single | Mode::Paired => Some(DEFAULT_GROUP),
     }
 }
 
-// The group chosen for the input from `at` on. A rule that is no shorter than the best so far can't win, and is not tried.
-pub fn choose_at(loaded: &[u16], rules: usize, mode: Mode, input: &[u16], at: usize) -> Choice
-    requires flat { Flat loaded.now }
-    requires rules_bound { (rules ≤ 32) × (at ≤ length input.now) }
-    ensures { choice_of result ≡ choose (table_at loaded.now rules (the_mode mode)) (drop at input.now) }
-{
-    // none so far: above every rule and every length
-    let mut best: usize = rules;
-    let mut least: usize = 9;
-    let mut r: usize = 0;
-    while r < rules {
-        let size = loaded[BLOCK * r] as usize;
-        if size < least {
-            if fits_at(loaded, r, input, at) {
-                best = r;
+// The characters from `lowest` to `highest`.
+#[derive(Clone, Copy, Debug, PartialEq, Eq)]
+pub struct Range {
+    pub lowest: u16,
+    pub highest: u16,
+}
+
+impl Loaded<'_> {
+    // Range `k` of a place: position p of group g has place 8 g + p.
+    pub fn range(&self, place: usize, k: usize) -> Range
+        requires { (place < 33 * 8) × (k < 4) }
+        ensures lowest { result.lowest ≡ (range_at self.now.words.now place k).lowest }
+        ensures highest { result.highest ≡ (range_at self.now.words.now place k).highest }
+    {
+        let at = RANGES_FROM + 8 * place + 2 * k;
+        Range {
+            lowest: self.words[at],
+            highest: self.words[at + 1],
+        }
+    }
+
+    // The character lies in range `k` of a place.
+    fn in_range(&self, place: usize, k: usize, c: u16) -> bool
+        requires { (place < 33 * 8) × (k < 4) }
+        ensures { result ≡ within c (range_at self.now.words.now place k) }
+    {
+        let range = self.range(place, k);
+        range.lowest <= c && c <= range.highest
+    }
+
+    // The character lies in the ranges of a place.
+    pub fn in_ranges(&self, place: usize, c: u16) -> bool
+        requires { place < 33 * 8 }
+        ensures { result ≡ in_ranges (ranges_at self.now.words.now place) c }
+    {
+        let count = usize::from(self.words[SLOTS_FROM + place]);
+        // most positions have one range
+        if count == 1 {
+            return self.in_range(place, 0, c);
+        }
+        for k in 0..count {
+            if self.in_range(place, k, c) {
+                return true;
+            }
+        }
+        false
+    }
+
+    // Each character of the word lies in the ranges of its place; the first one's is `place`.
+    fn positions_fit(&self, place: usize, word: &[u16]) -> bool
+        requires { place + length word.now ≤ 33 * 8 }
+        ensures { result ≡ fits_word (tab_from 0 (length word.now) (λ p. ranges_at self.now.words.now (place + p))) word.now }
+    {
+        for (p, &c) in word.iter().enumerate() {
+            if !self.in_ranges(place + p, c) {
+                return false;
+            }
+        }
+        true
+    }
+
+    // The group fits the rest of an input.
+    fn fits_at(&self, group: usize, rest: &[u16]) -> bool
+        requires { group < 33 }
+        ensures { result ≡ fits (group_at self.now.words.now group) rest.now }
+    {
+        let size = usize::from(self.words[BLOCK * group]);
+        if rest.len() < size {
+            return false;
+        }
+        if self.words[BLOCK * group + 1] == 1 && size < rest.len() {
+            return false;
+        }
+        self.positions_fit(8 * group, &rest[..size])
+    }
+
+    // The number of the group chosen for the rest of an input, or none where no rule fits and there is no default. A rule that is no shorter than the
+    // best so far can't win, and is not tried.
+    pub fn choose_at(&self, rest: &[u16]) -> Option<usize>
+        ensures { result ≡ choose (table_at self.now.words.now self.now.rules (the_mode self.now.mode)) rest.now }
+    {
+        let mut best = None;
+        // above every length
+        let mut least = 9;
+        for rule in 0..self.rules {
+            let size = usize::from(self.words[BLOCK * rule]);
+            if size < least && self.fits_at(rule, rest) {
+                best = Some(rule);
                 least = size;
             }
         }
-        r += 1;
+        // no `or_else`: its contract says nothing of what the closure gives
+        match best {
+            Some(rule) => Some(rule),
+            None => fall(self.mode, rest),
+        }
     }
-    if best < rules {
-        return Choice::Group(best);
-    }
-    fall(mode, input, at)
 }

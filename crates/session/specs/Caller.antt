@@ -1,16 +1,17 @@
 -- A caller in Rattle: how calls of feed and finish are seen there, each known by its contract alone. What holds of every list of them is `Serves`.
-use Rattle.std.specs.Prelude.{List, ◌≡◌, ℕ}
+use Rattle.std.specs.Prelude.{List, ◌≡◌, ℕ, Result}
 use Rattle.reckoning.specs.Reckoning.{Call, of_feed, of_finish}
 use Rattle.reckoning.specs.Serves.{SessionCaller}
 use Rattle.session.specs.Keeping.{session_of}
 use Rattle.session.specs.Promised.{outcome_of, Feeds, Finishes}
 use Rattle.session.specs.declared.kept.Session.{Session}
-use Rattle.session.specs.declared.call.Answer.{Answer}
+use Rattle.session.specs.declared.call.Written.{Written}
+use Rattle.rules.specs.declared.refusal.Refusal.{Refusal}
 
 -- A call that was made: what it was lent, and what came back.
 pub record Made : Type 0 where
   pub call : Call
-  pub answer : Answer
+  pub answer : Result Written Refusal
   pub session : Session
   pub output : List ℕ
 

@@ -1,49 +1,46 @@
 -- What the contracts of feed, finish and preview say: the code's answer, session and buffer are those of the outcome functions.
-use Rattle.std.specs.Prelude.{Bool, true, false, List, ◌≡◌, ℕ}
-use Rattle.meaning.specs.Refusal.{Outcome, refused, accepted}
+use Rattle.std.specs.Prelude.{List, ◌≡◌, ℕ, Result, Ok, Err}
+use Rattle.meaning.specs.Refusal.{Outcome}
+use Rattle.rules.specs.Answers.{outcome_by}
+use Rattle.rules.specs.declared.refusal.Refusal.{Refusal}
 use Rattle.reckoning.specs.Calls as Spec
 use Rattle.reckoning.specs.Calls.{CallOutcome, feed, finish}
 use Rattle.reckoning.specs.Preview.{seen_by, preview}
 use Rattle.session.specs.Keeping.{meant_status, session_of}
 use Rattle.session.specs.declared.kept.Session.{Session}
-use Rattle.session.specs.declared.kept.Kept.{Kept}
-use Rattle.session.specs.declared.call.Called.{Called}
+use Rattle.session.specs.declared.call.Written.{Written}
 use Rattle.session.specs.declared.call.Went.{Went}
-use Rattle.session.specs.declared.call.Answer.{Answer}
-use Rattle.session.specs.declared.call.Answer.TheVariants.{Accepted, Refused}
 
--- "answer its count and the status"; "A refusal answers its number"
-abbrev pub answer_of : Answer → Outcome Spec.Answer
-answer_of (Accepted count status) = accepted (record { count = count; status = meant_status status })
-answer_of (Refused n) = refused n
+-- "answer its count and the status"
+abbrev pub meant_written : Written → Spec.Answer
+meant_written x = record { count = x.count; status = meant_status x.status }
+
+-- "A refusal answers its number"
+abbrev pub answer_of : Result Written Refusal → Outcome Spec.Answer
+answer_of a = outcome_by meant_written a
 
 -- the code's answer, and the session and the buffer as the call left them
-abbrev pub outcome_of : Answer → Session → List ℕ → CallOutcome
+abbrev pub outcome_of : Result Written Refusal → Session → List ℕ → CallOutcome
 outcome_of a s buffer = record { answer = answer_of a; session = session_of s; output = buffer }
 
 -- The contract of feed: words, session, piece and buffer as found; answer, session and buffer as left.
-abbrev pub Feeds : List ℕ → Session → List ℕ → List ℕ → Answer → Session → List ℕ → Type 0
+abbrev pub Feeds : List ℕ → Session → List ℕ → List ℕ → Result Written Refusal → Session → List ℕ → Type 0
 Feeds w s piece buffer a later output = outcome_of a later output ≡ feed w (session_of s) piece buffer
 
 -- The contract of finish, likewise.
-abbrev pub Finishes : List ℕ → Session → List ℕ → Answer → Session → List ℕ → Type 0
+abbrev pub Finishes : List ℕ → Session → List ℕ → Result Written Refusal → Session → List ℕ → Type 0
 Finishes w s buffer a later output = outcome_of a later output ≡ finish w (session_of s) buffer
 
 -- The contract of preview: words, session and piece as found; the answer and, where it is accepted, the later session.
-abbrev pub Previews : List ℕ → Session → List ℕ → Answer → Session → Type 0
+abbrev pub Previews : List ℕ → Session → List ℕ → Result Written Refusal → Session → Type 0
 Previews w s piece a later = seen_by (answer_of a) (session_of later) ≡ preview w (session_of s) piece
 
--- the answer is no refusal
-abbrev pub is_accepted : Answer → Bool
-is_accepted (Accepted count status) = true
-is_accepted (Refused n) = false
+-- A call may answer besides what it leaves of the session, all of it or what is kept of the machine: its answer ..
+abbrev pub written_of : {L : Type 0} → Result (Went L) Refusal → Result Written Refusal
+written_of (Ok x) = Ok x.written
+written_of (Err r) = Err r
 
--- A call by value says besides whether it was accepted; where it was not, the session is the one found.
-pub record Told (r : Called) (found : Session) : Type 0 where
-  pub accepted : r.accepted ≡ is_accepted r.answer
-  pub unchanged : r.accepted ≡ false → r.session ≡ found
-
--- A call that is lent the counts of uses says it too; where it was not accepted, what was kept and the counts are those found.
-pub record Said (r : Went) (found : Kept) (before after : List ℕ) : Type 0 where
-  pub accepted : r.accepted ≡ is_accepted r.answer
-  pub unchanged : r.accepted ≡ false → (r.kept ≡ found) × (after ≡ before)
+-- .. and what it leaves, which is what it found where it is refused
+abbrev pub left_of : {L : Type 0} → L → Result (Went L) Refusal → L
+left_of found (Ok x) = x.left
+left_of found (Err r) = found

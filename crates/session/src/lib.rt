@@ -3,6 +3,8 @@
 
 pub mod call;
 pub mod kept;
+pub mod prepared;
 pub mod run;
 pub mod tally;
+pub mod text;
 pub mod uses;

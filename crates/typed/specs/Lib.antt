@@ -3,5 +3,4 @@ pub mod Records
 pub mod Meaning
 pub mod Typed
 pub mod Claims
-pub mod Answers
 pub mod bridge

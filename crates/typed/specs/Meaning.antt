@@ -1,6 +1,6 @@
 -- What a typed text means, without records: Definition 7's choice over its patterns, and its expressions over whole numbers.
 use Rattle.std.specs.Prelude.{cond, List, [], ◌∷◌, map, ℕ, eqb, nat_abs, length, get_or}
-use Rattle.std.proofs.Math.Option.{Option, none, some}
+use Rattle.std.specs.Prelude.{Option, None, Some}
 use Rattle.lists.specs.Lists.{flat_map}
 use Rattle.meaning.specs.Table.{Group, unmarked, Table, every_character, default_number}
 use Rattle.meaning.specs.Meaning.{text_of, covered, Conversion, convert}
@@ -24,8 +24,8 @@ group_of l =
     ]
 
 abbrev pub first_of : {A : Type 0} → List A → Option A
-first_of [] = none
-first_of (x ∷ xs) = some x
+first_of [] = None
+first_of (x ∷ xs) = Some x
 
 -- the patterns alone: rules are numbered from 0 in the text's order, and `else` is the default
 unfoldable pub patterns : List Line → Table

@@ -1,61 +1,35 @@
 // A typed text to the records of its table, in two passes over the text: the first asks what to answer, the second writes.
 ghost use Rattle.std.specs.Prelude.{◌≡◌, length};
 ghost use Rattle.meaning.specs.Refusal.{accepted, and_then};
+ghost use Rattle.rules.specs.Answers.{outcome_of};
 ghost use Rattle.typed.specs.Typed.{FromText};
-ghost use Rattle.typed.specs.Answers.{typed_of};
 ghost use Rattle.typed.specs.bridge.Outcome.{text_records};
-ghost use Rattle.typed.specs.bridge.Answers.{fresh_sink, Written};
+ghost use Rattle.typed.specs.bridge.Answers.{Written};
 
 use crate::line::feed_lines;
 use crate::sink::Sink;
 use rules::layout::LOADED;
-use rules::load::{Load, finish_load};
-use rules::reader::{Step, start};
-
-// The length in bytes of the records, or the refusal.
-#[derive(Clone, Copy)]
-pub enum Typed {
-    Accepted(usize),
-    Refused(u8),
-}
-
-// Nothing read yet.
-fn fresh() -> Sink
-    ensures { result ≡ fresh_sink }
-{
-    let step = Step::Next(start());
-    Sink {
-        fine: true,
-        step,
-        count: 0,
-    }
-}
+use rules::load::finish_load;
+use rules::refusal::Refusal;
 
 // The first pass: 16, then 17, then 2 to 7, and the length in bytes.
-fn survey(text: &[u16]) -> Typed
-    ensures { typed_of result ≡ and_then (text_records text.now) (λ b. accepted (length b)) }
+fn survey(text: &[u16]) -> Result<usize, Refusal>
+    ensures { outcome_of result ≡ and_then (text_records text.now) (λ b. accepted (length b)) }
 {
     let mut loaded = [0u16; LOADED];
     let mut nothing = [0u8; 1];
-    let read = feed_lines(text, fresh(), &mut loaded, &mut nothing);
-    if read.refused {
-        return Typed::Refused(16);
+    let mut sink = Sink::new(&mut loaded, &mut nothing);
+    if feed_lines(text, &mut sink).is_none() {
+        return Err(Refusal::Grammar);
     }
-    let sink = read.sink;
-    if !sink.fine {
-        return Typed::Refused(17);
-    }
-    let step = sink.step;
-    match step {
-        Step::Refused(number) => Typed::Refused(number),
-        Step::Next(reader) => {
-            let load = finish_load(reader, &loaded);
-            match load {
-                Load::Refused(number) => Typed::Refused(number),
-                Load::Accepted { rules: _, mode: _ } => Typed::Accepted(sink.count),
-            }
-        }
-    }
+    let Sink {
+        step,
+        count,
+        loaded,
+        ..
+    } = sink;
+    finish_load(step?, loaded)?;
+    Ok(count)
 }
 
 // The second pass: the records of a text that is accepted and fits.
@@ -63,22 +37,17 @@ fn write(text: &[u16], table: &mut [u8])
     ensures { Written text.now table.old table.new }
 {
     let mut loaded = [0u16; LOADED];
-    feed_lines(text, fresh(), &mut loaded, table);
+    feed_lines(text, &mut Sink::new(&mut loaded, table));
 }
 
 // A text's table records at the start of the lent buffer, and their length in bytes; or the refusal, and nothing is written.
-pub fn from_text(text: &[u16], table: &mut [u8]) -> Typed
-    ensures { FromText text.now table.old (typed_of result) table.new }
+pub fn from_text(text: &[u16], table: &mut [u8]) -> Result<usize, Refusal>
+    ensures { FromText text.now table.old (outcome_of result) table.new }
 {
-    let surveyed = survey(text);
-    match surveyed {
-        Typed::Refused(number) => Typed::Refused(number),
-        Typed::Accepted(size) => {
-            if table.len() < size {
-                return Typed::Refused(15);
-            }
-            write(text, table);
-            Typed::Accepted(size)
-        }
+    let size = survey(text)?;
+    if table.len() < size {
+        return Err(Refusal::ShortOutput);
     }
+    write(text, table);
+    Ok(size)
 }

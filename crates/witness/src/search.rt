@@ -1,97 +1,71 @@
 // The search over compiled words for a state that tells a rule, and for a word that leads to a state.
-ghost use Rattle.std.specs.Prelude.{[], ◌≡◌, suc, ◌≤◌, ◌<◌, T, eqb, length};
+ghost use Rattle.std.specs.Prelude.{[], ◌≡◌, suc, ◌≤◌, ◌<◌, eqb, length, option_map};
 ghost use Rattle.lists.specs.Lists.{pad};
-ghost use Rattle.automaton.specs.Layout.{word_count};
-ghost use Rattle.automaton.specs.Sound.{state_count, sound};
+ghost use Rattle.automaton.specs.Sound.{state_count};
+ghost use Rattle.words.specs.bridge.Readings.{word_of};
 ghost use Rattle.witness.specs.bridge.Search.{telling, leading, class_leading, word_to, state_telling};
 
 use machine::gather::put_in;
-use words::numbers::{ClassNo, StateNo};
-use words::read::{
-    Next, accept_at_end_word, accept_word, class_count, class_start, state_count, target,
-};
+use words::numbers::{ClassNo, RuleNo, StateNo};
+use words::read::Machine;
 
-// A state's word for its end or go names the rule.
-pub fn names(word: u16, rule: u32) -> bool
-    ensures { result ≡ eqb word (suc rule) }
+// A state's end or go is the rule.
+pub fn names(accept: Option<RuleNo>, rule: u32) -> bool
+    ensures { result ≡ eqb (word_of accept) (suc rule) }
 {
-    if word == 0 {
-        return false;
-    }
-    (word - 1) as u32 == rule
+    accept.is_some_and(|accepted| u32::from(accepted.0) == rule)
 }
 
 // The rule is the state's end or its go.
-fn tells(words: &[u16], state: StateNo, rule: u32) -> bool
-    requires { (word_count ≤ length words.now) × (state.0 < 256) }
-    ensures { result ≡ telling words.now rule state.0 }
+fn tells(machine: Machine<'_>, state: StateNo, rule: u32) -> bool
+    requires { state.0 < 256 }
+    ensures { result ≡ telling machine.entry.words.all.now rule state.0 }
 {
-    if names(accept_at_end_word(words, state), rule) {
-        return true;
-    }
-    names(accept_word(words, state), rule)
+    names(machine.words.accept_at_end(state), rule) || names(machine.words.accept_at(state), rule)
 }
 
-// The first state that tells the rule, or their number where none does.
-pub fn state_telling(words: &[u16], rule: u32) -> StateNo
-    requires { T (sound words.now) }
-    ensures { result.0 ≡ state_telling words.now rule }
+// The first state that tells the rule.
+pub fn state_telling(machine: Machine<'_>, rule: u32) -> Option<StateNo>
+    ensures { option_map (λ s. s.0) result ≡ state_telling machine.entry.words.all.now rule }
 {
-    let states = state_count(words);
-    let mut state = StateNo(0);
-    while (state.0 as usize) < states {
-        if tells(words, state, rule) {
-            return state;
-        }
-        state.0 += 1;
-    }
-    state
+    let states = machine.words.state_count() as u16;
+    (0..states)
+        .find(|state| tells(machine, StateNo(*state), rule))
+        .map(|state| StateNo(state))
 }
 
 // The class leads from one state to the other, which is not the first.
-fn leads(words: &[u16], from: StateNo, class: ClassNo, to: StateNo) -> bool
-    requires { (word_count ≤ length words.now) × (from.0 < 256) × (class.0 < 64) × (0 < to.0) }
-    ensures { result ≡ leading words.now from.0 to.0 class.0 }
+fn leads(machine: Machine<'_>, from: StateNo, class: ClassNo, to: StateNo) -> bool
+    requires { (from.0 < 256) × (class.0 < 64) × (0 < to.0) }
+    ensures { result ≡ leading machine.entry.words.all.now from.0 to.0 class.0 }
 {
-    let next = target(words, from, class);
-    match next {
-        Next::To(state) => state.0 == to.0,
-        Next::Nowhere => false,
-    }
+    machine.words.target(from, class) == Some(to)
 }
 
-// The first class that leads from one state to the other, or their number where none does.
-fn class_leading(words: &[u16], from: StateNo, to: StateNo) -> ClassNo
-    requires { T (sound words.now) × (from.0 < 256) × (0 < to.0) }
-    ensures { result.0 ≡ class_leading words.now from.0 to.0 }
+// The first class that leads from one state to the other.
+fn class_leading(machine: Machine<'_>, from: StateNo, to: StateNo) -> Option<ClassNo>
+    requires { (from.0 < 256) × (0 < to.0) }
+    ensures { option_map (λ k. k.0) result ≡ class_leading machine.entry.words.all.now from.0 to.0 }
 {
-    let classes = class_count(words);
-    let mut class = ClassNo(0);
-    while (class.0 as usize) < classes {
-        if leads(words, from, class, to) {
-            return class;
-        }
-        class.0 += 1;
-    }
-    class
+    let classes = machine.words.class_count() as u16;
+    (0..classes)
+        .find(|class| leads(machine, from, ClassNo(*class), to))
+        .map(|class| ClassNo(class))
 }
 
 // A word that leads from state 0 to the state is put into nine places, which are 0; its length. One walk back over the states: each that has a
 // class to where the word so far leads from gives it the first such class's start.
-pub fn word_to(words: &[u16], state: StateNo, places: &mut [u16]) -> usize
-    requires { T (sound words.now) × (state.0 < state_count words.now) × (places.old ≡ pad 9 []) }
-    ensures length { (result ≡ length (word_to words.now state.0)) × (result ≤ 8) }
-    ensures places { places.new ≡ pad 9 (word_to words.now state.0) }
+pub fn word_to(machine: Machine<'_>, state: StateNo, places: &mut [u16]) -> usize
+    requires { (state.0 < state_count machine.words.all.now) × (places.old ≡ pad 9 []) }
+    ensures length { (result ≡ length (word_to machine.entry.words.all.now state.0)) × (result ≤ 8) }
+    ensures places { places.new ≡ pad 9 (word_to machine.entry.words.all.now state.0) }
 {
-    let classes = class_count(words);
-    let mut length: usize = 0;
+    let mut length = 0;
     let mut to = state;
-    let mut from = state;
-    while from.0 > 0 {
-        from.0 -= 1;
-        let class = class_leading(words, from, to);
-        if (class.0 as usize) < classes {
-            put_in(places, 0, length, class_start(words, class));
+    for number in (0..state.0).rev() {
+        let from = StateNo(number);
+        if let Some(class) = class_leading(machine, from, to) {
+            put_in(places, 0, length, machine.words.class_start(class));
             length += 1;
             to = from;
         }

@@ -4,7 +4,7 @@ use mathlib.Core.Bool.{Bool, true, false, ◌&&◌, ◌||◌, not, cond}
 use mathlib.Core.List.Memᴰ
 use mathlib.Core.List.{List, [], ◌∷◌, ◌++◌, map, append-nil, append_assoc, Memᴰ}
 use mathlib.Core.Logic.{⊎_elim}
-use mathlib.Core.Option.{Option, none, some}
+use Rattle.std.specs.Prelude.{Option, None, Some}
 use mathlib.Core.Path.{◌≡◌, refl, sym, ap, subst, ◌∙◌}
 use Prim.Native.Nat.{ℕ, zero, suc, ◌+◌, ◌≤◌, ◌<◌}
 use native.Mathlib.Decide.{dec_lt}
@@ -44,28 +44,28 @@ module _ {A : Type 0} (p : A → Bool) where
   pub some_any : (i : ℕ) (xs : List A) → is_some (find_from i p xs) ≡ any p xs
   some_any i [] = refl
   some_any i (x ∷ xs) =
-      either (λ b. is_some {A = ℕ} (elim b [ true ↦ some i | false ↦ find_from (suc i) p xs ]) ≡ b || any p xs) (p x) (λ _. refl) (λ _. some_any (suc i) xs)
+      either (λ b. is_some {A = ℕ} (elim b [ true ↦ Some i | false ↦ find_from (suc i) p xs ]) ≡ b || any p xs) (p x) (λ _. refl) (λ _. some_any (suc i) xs)
 
   any_append : (xs ys : List A) → any p (xs ++ ys) ≡ any p xs || any p ys
   any_append [] ys = refl
   any_append (x ∷ xs) ys = either (λ b. b || any p (xs ++ ys) ≡ b || any p xs || any p ys) (p x) (λ _. refl) (λ _. any_append xs ys)
 
   -- what is found in a front is found in the whole
-  find_front : (i n : ℕ) (xs ys : List A) → find_from i p xs ≡ some n → find_from i p (xs ++ ys) ≡ some n
+  find_front : (i n : ℕ) (xs ys : List A) → find_from i p xs ≡ Some n → find_from i p (xs ++ ys) ≡ Some n
   find_front i n [] ys = λ e. cc
   find_front i n (x ∷ xs) ys =
       either
-      (λ b. elim b [ true ↦ some i | false ↦ find_from (suc i) p xs ] ≡ some n →
-      elim b [ true ↦ some i | false ↦ find_from (suc i) p (xs ++ ys) ] ≡ some n) (p x)
+      (λ b. elim b [ true ↦ Some i | false ↦ find_from (suc i) p xs ] ≡ Some n →
+      elim b [ true ↦ Some i | false ↦ find_from (suc i) p (xs ++ ys) ] ≡ Some n) (p x)
       (λ _ e. e) (λ _. find_front (suc i) n xs ys)
 
   -- what is not is looked for behind it
-  find_behind : (i : ℕ) (xs ys : List A) → find_from i p xs ≡ none → find_from i p (xs ++ ys) ≡ find_from (i + length xs) p ys
+  find_behind : (i : ℕ) (xs ys : List A) → find_from i p xs ≡ None → find_from i p (xs ++ ys) ≡ find_from (i + length xs) p ys
   find_behind i [] ys = λ e. rw add-zero refl
   find_behind i (x ∷ xs) ys =
       either
-      (λ b. ◌≡◌ {A = Option ℕ} (elim b [ true ↦ some i | false ↦ find_from (suc i) p xs ]) none →
-      elim b [ true ↦ some i | false ↦ find_from (suc i) p (xs ++ ys) ] ≡ find_from (i + suc (length xs)) p ys) (p x)
+      (λ b. ◌≡◌ {A = Option ℕ} (elim b [ true ↦ Some i | false ↦ find_from (suc i) p xs ]) None →
+      elim b [ true ↦ Some i | false ↦ find_from (suc i) p (xs ++ ys) ] ≡ find_from (i + suc (length xs)) p ys) (p x)
       (λ _ e. cc) (λ _ e. find_behind (suc i) xs ys e ∙ ap (λ j. find_from j p ys) (omega arith))
 
 -- states added one after the other
@@ -228,14 +228,14 @@ deepening_from (q ∷ qs) zero d o h = (omega arith, o.0)
 deepening_from (q ∷ qs) (suc s) d o h = deepening_from qs s d o.1 (omega arith)
 
 -- a state's number when it has been added is its number in every longer list
-pub number_added : (q : State) (qs rest : List State) → find_from 0 (same_state q) (added q qs ++ rest) ≡ some (number_in q qs)
+pub number_added : (q : State) (qs rest : List State) → find_from 0 (same_state q) (added q qs ++ rest) ≡ Some (number_in q qs)
 unfolding added number_in
 number_added q qs rest = at (find_from 0 (same_state q) qs) refl
   where
-    at : (o : Option ℕ) → find_from 0 (same_state q) qs ≡ o → find_from 0 (same_state q) (cond (is_some o) qs (qs ++ q ∷ []) ++ rest) ≡ some (or_else (length qs) o)
-    at (some n) e = find_front (same_state q) 0 n qs rest e
-    at none e =
+    at : (o : Option ℕ) → find_from 0 (same_state q) qs ≡ o → find_from 0 (same_state q) (cond (is_some o) qs (qs ++ q ∷ []) ++ rest) ≡ Some (or_else (length qs) o)
+    at (Some n) e = find_front (same_state q) 0 n qs rest e
+    at None e =
         ap (find_from 0 (same_state q)) (append_snoc qs q rest)
         ∙ find_behind (same_state q) 0 qs (q ∷ rest) e
-        ∙ ap (λ b. elim b [ true ↦ some (0 + length qs) | false ↦ find_from (suc (0 + length qs)) (same_state q) rest ]) (of_T (same_state q q) (state_same q q refl))
-        ∙ ap {B = Option ℕ} some (omega arith)
+        ∙ ap (λ b. elim b [ true ↦ Some (0 + length qs) | false ↦ find_from (suc (0 + length qs)) (same_state q) rest ]) (of_T (same_state q q) (state_same q q refl))
+        ∙ ap {B = Option ℕ} Some (omega arith)

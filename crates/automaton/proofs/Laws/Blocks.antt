@@ -1,7 +1,7 @@
 -- The words of a table hold its groups' blocks, whatever follows them.
 -- The blocks follow the parts before them, the default's the 32 of the rules, and all are of one size.
 use mathlib.Core.List.{List, [], ◌∷◌, ◌++◌}
-use mathlib.Core.Option.{some}
+use Rattle.std.specs.Prelude.{Some}
 use mathlib.Core.Path.{◌≡◌, ap, ◌∙◌}
 use Prim.Native.Nat.{ℕ, ◌+◌, ◌*◌, ◌≤◌, ◌<◌}
 use native.Mathlib.Omega.{arith}
@@ -37,7 +37,7 @@ block_word t rest s r h j k =
     (λ i l. layout_part t rest 4 blocks_from (simp (length-append, length_pad)) i (rw length_pad l))
     r j (blocks_from + block_size * r) (omega arith) h (omega arith) k
 
-pub default_word : (t : Table) (rest : List ℕ) (g : Group) → t.default ≡ some g → (j : ℕ) → j < block_size →
+pub default_word : (t : Table) (rest : List ℕ) (g : Group) → t.default ≡ Some g → (j : ℕ) → j < block_size →
     at (block_at (words t ++ rest) 32) j ≡ at (block g) j
 unfolding parts
 default_word t rest g e j k =

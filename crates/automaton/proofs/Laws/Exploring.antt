@@ -2,7 +2,7 @@
 -- Each list on the way is a front of the states; what is still to be added is deeper than the state at hand.
 use mathlib.Core.Bool.{true, false, not, cond}
 use mathlib.Core.List.{List, [], ◌∷◌, ◌++◌, map, append-nil, append_assoc, Memᴰ}
-use mathlib.Core.Option.{Option, none, some}
+use Rattle.std.specs.Prelude.{Option, None, Some}
 use mathlib.Core.Path.{◌≡◌, refl, sym, ap, subst, ◌∙◌}
 use Prim.Native.Nat.{ℕ, zero, suc, ◌+◌, ◌-◌, ◌≤◌, ◌<◌}
 use native.Mathlib.Decide.{dec_lt}
@@ -238,16 +238,16 @@ module _ (t : Table) where
             noted_target ∙ ap (λ b. cond b (number_in (met_at t s k) (reached_at t s k)) 0) e ∙ ap (or_else (length (reached_at t s k))) p,
           )
 
-      pub met_there : (n : ℕ) → T (inhabited (met_at t s k)) → find_from 0 (same_state (met_at t s k)) (reached_at t s k) ≡ some n →
+      pub met_there : (n : ℕ) → T (inhabited (met_at t s k)) → find_from 0 (same_state (met_at t s k)) (reached_at t s k) ≡ Some n →
           (reached_at t s (suc k) ≡ reached_at t s k) × (target_at t s k ≡ n)
-      met_there n i p = met_some i (some n) p
+      met_there n i p = met_some i (Some n) p
 
-      pub met_new : T (inhabited (met_at t s k)) → find_from 0 (same_state (met_at t s k)) (reached_at t s k) ≡ none →
+      pub met_new : T (inhabited (met_at t s k)) → find_from 0 (same_state (met_at t s k)) (reached_at t s k) ≡ None →
           (reached_at t s (suc k) ≡ reached_at t s k ++ met_at t s k ∷ []) × (target_at t s k ≡ length (reached_at t s k))
-      met_new i p = met_some i none p
+      met_new i p = met_some i None p
 
       -- where a new state is met there are more states than are in the list
-      pub reached_more : T (inhabited (met_at t s k)) → find_from 0 (same_state (met_at t s k)) (reached_at t s k) ≡ none →
+      pub reached_more : T (inhabited (met_at t s k)) → find_from 0 (same_state (met_at t s k)) (reached_at t s k) ≡ None →
           length (reached_at t s k) < length (states t)
       reached_more i p =
           let e : length (reached_at t s (suc k)) ≡ length (reached_at t s k) + 1 =
@@ -255,7 +255,7 @@ module _ (t : Table) where
           let l : length (reached_at t s (suc k)) ≤ length (states t) = reached_length s (omega arith) (suc k) in
           omega arith
 
-      pub too_many_lem : 256 ≤ length (reached_at t s k) → T (inhabited (met_at t s k)) → find_from 0 (same_state (met_at t s k)) (reached_at t s k) ≡ none →
+      pub too_many_lem : 256 ≤ length (reached_at t s k) → T (inhabited (met_at t s k)) → find_from 0 (same_state (met_at t s k)) (reached_at t s k) ≡ None →
           256 < length (states t)
       too_many_lem n i e = let z : length (reached_at t s k) < length (states t) = reached_more i e in omega arith
 

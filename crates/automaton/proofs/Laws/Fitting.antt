@@ -3,7 +3,7 @@
 use mathlib.Core.Bool.{Bool, true, false, true≢false}
 use mathlib.Core.List.{List, [], ◌∷◌, ◌++◌, append_assoc, append-nil}
 use mathlib.Core.Logic.{◌≢◌, ◌⊎◌, inl, inr}
-use mathlib.Core.Option.{none, some}
+use Rattle.std.specs.Prelude.{None, Some}
 use mathlib.Core.Path.{◌≡◌, refl, sym, ap, subst, ◌∙◌}
 use Prim.Native.Nat.{ℕ, zero, suc, ◌+◌, ◌-◌, ◌≤◌, ◌<◌}
 use native.Mathlib.Decide.{ℕ_discrete}
@@ -42,7 +42,7 @@ module _ (t : Table) (s : Shaped t) (w v : List ℕ) where
   -- the least of the rules as long as w that fit is chosen, if no shorter one fits
   pub least_chosen : (r : ℕ) → Done t w r → Fits t r (w ++ v) → NoShorter t (w ++ v) w →
       ((k : ℕ) → k < length t.rules → (rule_at t k).size ≡ length w → Fits t k (w ++ v) → r ≤ k) →
-      Chosen t (length t.rules) (w ++ v) (some r)
+      Chosen t (length t.rules) (w ++ v) (Some r)
   least_chosen r d f n l = (
     d.rule,
     f,
@@ -63,12 +63,12 @@ end_done t s w n k h f =
 
 -- the least rule that takes w whole is chosen, and where there is none, none is
 
-pub end_chosen : (t : Table) → Shaped t → (w : List ℕ) (r : ℕ) → Least (Done t w) (suc r) → NoShorter t (w ++ []) w → Chosen t (length t.rules) (w ++ []) (some r)
+pub end_chosen : (t : Table) → Shaped t → (w : List ℕ) (r : ℕ) → Least (Done t w) (suc r) → NoShorter t (w ++ []) w → Chosen t (length t.rules) (w ++ []) (Some r)
 end_chosen t s w r l n =
     least_chosen t s w [] r l.0 (done_fit t s w [] r l.0 (λ a. l.0.size ∙ ap length (sym (append-nil w)))) n
     (λ k h p f. l.1 k (end_done t s w n k h f))
 
-pub end_none : (t : Table) → Shaped t → (w : List ℕ) → Least (Done t w) 0 → NoShorter t (w ++ []) w → Chosen t (length t.rules) (w ++ []) none
+pub end_none : (t : Table) → Shaped t → (w : List ℕ) → Least (Done t w) 0 → NoShorter t (w ++ []) w → Chosen t (length t.rules) (w ++ []) None
 end_none t s w l n = λ r h f. l r (end_done t s w n r h f)
 
 -- Before a next character x, where no shorter rule fits.
@@ -82,7 +82,7 @@ module _ (t : Table) (s : Shaped t) (w : List ℕ) (x : ℕ) (u : List ℕ) wher
       unless true e = let i : (rule_at t k).size ≡ length (w ++ x ∷ u) = f.at-end e in absurd (omega (arith, length-append w (x ∷ u)))
 
   -- the least that need not be at the end is chosen
-  pub free_chosen : (r : ℕ) → Least (Free t w) (suc r) → NoShorter t (w ++ x ∷ u) w → Chosen t (length t.rules) (w ++ x ∷ u) (some r)
+  pub free_chosen : (r : ℕ) → Least (Free t w) (suc r) → NoShorter t (w ++ x ∷ u) w → Chosen t (length t.rules) (w ++ x ∷ u) (Some r)
   free_chosen r l n =
       least_chosen t s w (x ∷ u) r l.0.done (done_fit t s w (x ∷ u) r l.0.done (λ a. absurd (true≢false (sym a ∙ l.0.free)))) n
       (λ k h p f. l.1 k (free_of k h p f))
@@ -144,7 +144,7 @@ module _ (A : Automaton) (L n : ℕ) (G : Good A L n) (t : Table) (s : Shaped t)
   abbrev Told : ℕ → Type 0
   Told r = (q : ℕ) × (q < n) × ((A.accept_at_end q ≡ suc r) ⊎ (A.accept q ≡ suc r))
 
-  told_on : (r : ℕ) (w v : List ℕ) → Characters (w ++ v) → Leads A 0 w → Chosen t (length t.rules) (w ++ v) (some r) → Told r
+  told_on : (r : ℕ) (w v : List ℕ) → Characters (w ++ v) → Leads A 0 w → Chosen t (length t.rules) (w ++ v) (Some r) → Told r
   told_on r w [] c l k = by_end (A.accept_at_end (after A 0 w)) refl
     where
       short : NoShorter t (w ++ []) w
@@ -153,7 +153,7 @@ module _ (A : Automaton) (L n : ℕ) (G : Good A L n) (t : Table) (s : Shaped t)
       by_end : (g : ℕ) → A.accept_at_end (after A 0 w) ≡ g → Told r
       by_end zero p = absurd (end_none t s w (end_least A t R w [] c l p) short r k.0 k.1)
       by_end (suc e) p =
-          let z : some e ≡ some r = chosen_unique t (length t.rules) (w ++ []) (some e) (some r) (end_chosen t s w e (end_least A t R w [] c l p) short) k in
+          let z : Some e ≡ Some r = chosen_unique t (length t.rules) (w ++ []) (Some e) (Some r) (end_chosen t s w e (end_least A t R w [] c l p) short) k in
           let y : e ≡ r = cc in
           (after A 0 w, after_inside A L n G 0 w G.some_state, inl (p ∙ ap suc y))
   told_on r w (x ∷ u) c l k =
@@ -171,7 +171,7 @@ module _ (A : Automaton) (L n : ℕ) (G : Good A L n) (t : Table) (s : Shaped t)
 
       by_go : (A.target (after A 0 w) x ≢ 0 → Told r) → (g : ℕ) → A.accept (after A 0 w) ≡ g → Dec (A.target (after A 0 w) x ≡ 0) → Told r
       by_go on (suc g) p d =
-          let y : some g ≡ some r = chosen_unique t (length t.rules) (w ++ x ∷ u) (some g) (some r) (free_chosen t s w x u g (accept_least A t R w (x ∷ u) c l p) short) k in
+          let y : Some g ≡ Some r = chosen_unique t (length t.rules) (w ++ x ∷ u) (Some g) (Some r) (free_chosen t s w x u g (accept_least A t R w (x ∷ u) c l p) short) k in
           let y' : g ≡ r = cc in
           (after A 0 w, after_inside A L n G 0 w G.some_state, inr (p ∙ ap suc y'))
       by_go on zero p (yes d) =
@@ -179,5 +179,5 @@ module _ (A : Automaton) (L n : ℕ) (G : Good A L n) (t : Table) (s : Shaped t)
           absurd (R.dead w x (characters_front z u (rw e c)) l p d r k.0 (longer_takes t s w x u r i k.1))
       by_go on zero p (no d) = on d
 
-  pub told_by : (r : ℕ) (z : List ℕ) → Characters z → Chosen t (length t.rules) z (some r) → Told r
+  pub told_by : (r : ℕ) (z : List ℕ) → Characters z → Chosen t (length t.rules) z (Some r) → Told r
   told_by r z c k = told_on r [] z c tt k

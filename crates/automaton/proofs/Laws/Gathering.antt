@@ -235,6 +235,43 @@ pub range_next : (f : ℕ → Range) (k : ℕ) (g : Gathering) {g' g'' : Gatheri
 range_next f k g a b =
     ranges_next (λ r. r ∷ []) f k g (a ∙ ap (λ rs. meet_ranges rs g) (sym (each_alone 0 k f))) b ∙ ap (λ rs. meet_ranges rs g) (each_alone 0 (k + 1) f)
 
+-- where no more starts fit, no range changes anything
+
+module _ (w : List ℕ) (room : states_from < length w) where
+  meet_stays : (x : ℕ) → meet x (holding w 65) ≡ holding w 65
+  meet_stays x =
+      let l : length (held x (holding w 65)) ≡ 65 = length-take 65 (drop classes_from w) ∙ omega (arith, length-drop classes_from w) in
+      meet_over x (holding w 65) (omega (arith, length_insert x (held x (holding w 65))))
+
+  all_stay : (es : List ℕ) → meet_all es (holding w 65) ≡ holding w 65
+  all_stay [] = refl
+  all_stay (e ∷ es) = ap (meet_all es) (meet_stays e) ∙ all_stay es
+
+  pub range_over : (r : Range) (g : Gathering) → holding w 65 ≡ meet r.lowest g → holding w 65 ≡ meet_range r g
+  range_over r g e =
+      let rest = cond (ltb r.highest 65535) (suc r.highest ∷ []) [] in
+      sym (all_stay rest) ∙ ap (meet_all rest) e
+
+  module _ {A : Type 0} (h : A → List Range) (f : ℕ → A) (g : Gathering) where
+    full_on : (m d : ℕ) → holding w 65 ≡ meet_ranges (flat_map h (tab_from 0 m f)) g → holding w 65 ≡ meet_ranges (flat_map h (tab_from 0 (m + d) f)) g
+    full_on m zero e = e ∙ ap (λ n. meet_ranges (flat_map h (tab_from 0 n f)) g) (sym (add-zero m))
+    full_on m (suc d) e =
+        let i : m + d + 1 ≡ m + suc d = omega arith in
+        ranges_next h f (m + d) g (full_on m d e) (sym (ranges_in_turn (h (f (m + d))) (holding w 65) ∙ all_stay (flat_map edges (h (f (m + d))))))
+        ∙ ap (λ n. meet_ranges (flat_map h (tab_from 0 n f)) g) i
+
+    -- a walk over n elements ends where no more starts fit
+    pub ranges_full : (k n : ℕ) → k < n → {g' : Gathering} →
+        g' ≡ meet_ranges (flat_map h (tab_from 0 k f)) g → holding w 65 ≡ meet_ranges (h (f k)) g' → holding w 65 ≡ meet_ranges (flat_map h (tab_from 0 n f)) g
+    ranges_full k n l a b =
+        let i : k + 1 + (n - (k + 1)) ≡ n = omega arith in
+        full_on (k + 1) (n - (k + 1)) (ranges_next h f k g a b) ∙ ap (λ m. meet_ranges (flat_map h (tab_from 0 m f)) g) i
+
+  pub range_full : (f : ℕ → Range) (g : Gathering) (k n : ℕ) → k < n → {g' : Gathering} →
+      g' ≡ meet_ranges (tab_from 0 k f) g → holding w 65 ≡ meet_range (f k) g' → holding w 65 ≡ meet_ranges (tab_from 0 n f) g
+  range_full f g k n l a b =
+      ranges_full (λ r. r ∷ []) f g k n l (a ∙ ap (λ rs. meet_ranges rs g) (sym (each_alone 0 k f))) b ∙ ap (λ rs. meet_ranges rs g) (each_alone 0 n f)
+
 -- the edges of a range met
 
 module _ (r : Range) (g : Gathering) where

@@ -1,12 +1,12 @@
 -- Request [6] holds of every check: it refuses as compiling does, and calls dead exactly the rules that no input makes the definition choose.
 -- An input that shows a rule makes the definition choose it, so a verdict tells dead rules from live ones.
 use mathlib.Core.List.{List}
-use mathlib.Core.Option.{Option, none, some}
+use Rattle.std.specs.Prelude.{Option, None, Some}
 use mathlib.Core.Logic.{◌↔◌}
 use mathlib.Core.Path.{◌≡◌, sym, ap, subst, ◌∙◌}
 use Prim.Native.Nat.{ℕ}
-use native.Mathlib.Omega.{arith}
 use lib.ListN.{length}
+use Rattle.lists.proofs.Laws.Options.{some_same, none_not}
 use Rattle.meaning.specs.Refusal.{Outcome, refused, accepted}
 use Rattle.meaning.specs.Table.{Table}
 use Rattle.meaning.specs.Choices.{Live, Shows, Verdict}
@@ -16,29 +16,23 @@ use Rattle.automaton.specs.Compile.{compilable, compile_by, compile}
 use Rattle.automaton.specs.Witness.{Answers, Exact, RulesChecked}
 use Rattle.automaton.proofs.Laws.Compile.{keeping_compilable}
 
-none_not : {A : Type 0} (a : A) → ◌≡◌ {A = Option A} none (some a) → ⊥
-none_not a e = let z : ◌≡◌ {A = ℕ} 0 1 = cc in omega arith
-
-some_same : {A : Type 0} (a b : A) → some a ≡ some b → a ≡ b
-some_same a b e = cc
-
 shows_live : (t : Table) (r : ℕ) (v : List ℕ) → Shows t r v → Live t r
 shows_live t r v s = record { input = v; characters = s.characters; place = 0; chosen = s.first }
 
 verdict_exact : (t : Table) (r : ℕ) (a : Outcome (Option (List ℕ))) (o : Option (List ℕ)) → a ≡ accepted o → Verdict t r o → Exact t r a
-verdict_exact t r a none e d = record {
-  live = (λ l. absurd (d l), λ v. absurd (none_not v.0 (accepted_same none (some v.0) (sym e ∙ v.1))));
-  shown = λ v q. absurd (none_not v (accepted_same none (some v) (sym e ∙ q)));
+verdict_exact t r a None e d = record {
+  live = (λ l. absurd (d l), λ v. absurd (none_not v.0 (accepted_same None (Some v.0) (sym e ∙ v.1))));
+  shown = λ v q. absurd (none_not v (accepted_same None (Some v) (sym e ∙ q)));
   number = λ _. e;
   dead = (λ _. d, λ _. e);
 }
-verdict_exact t r a (some w) e s =
+verdict_exact t r a (Some w) e s =
     let l : Live t r = shows_live t r w s in
     record {
       live = (λ _. (w, e), λ _. l);
-      shown = λ v q. subst (Shows t r) (some_same w v (accepted_same (some w) (some v) (sym e ∙ q))) s;
+      shown = λ v q. subst (Shows t r) (some_same w v (accepted_same (Some w) (Some v) (sym e ∙ q))) s;
       number = λ h. absurd (number_dead t r h l);
-      dead = (λ d. absurd (none_not w (accepted_same none (some w) (sym d ∙ e))), λ d. absurd (d l));
+      dead = (λ d. absurd (none_not w (accepted_same None (Some w) (sym d ∙ e))), λ d. absurd (d l));
     }
 
 pub rules_checked : RulesChecked

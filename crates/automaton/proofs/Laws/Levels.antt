@@ -4,7 +4,7 @@ use mathlib.Core.Bool.{Bool, true, false, ◌&&◌, not, cond}
 use mathlib.Core.List.Memᴰ
 use mathlib.Core.List.{List, [], ◌∷◌, ◌++◌, map, append-nil, Memᴰ}
 use mathlib.Core.Logic.{⊎_elim, ◌≢◌, ◌⊎◌, inl, inr}
-use mathlib.Core.Option.{Option, none, some}
+use Rattle.std.specs.Prelude.{Option, None, Some}
 use mathlib.Core.Path.{◌≡◌, refl, sym, ap, subst, ◌∙◌}
 use Prim.Native.Nat.{ℕ, zero, suc, ◌+◌, ◌≤◌, ◌<◌}
 use native.Mathlib.Decide.{ℕ_discrete, dec_lt}
@@ -66,28 +66,28 @@ each_distinct P (q ∷ qs) a = (a.0, each_filter P (λ p. not (same_state q p)) 
 
 -- what a search counted from i says of x: it is at the place found, or nowhere
 abbrev Found : ℕ → State → List State → State → Option ℕ → Type 0
-Found i x qs d none = Memᴰ x qs → ⊥
-Found i x qs d (some k) = (n : ℕ) × (k ≡ i + n) × (n < length qs) × (get_or qs n d ≡ x)
+Found i x qs d None = Memᴰ x qs → ⊥
+Found i x qs d (Some k) = (n : ℕ) × (k ≡ i + n) × (n < length qs) × (get_or qs n d ≡ x)
 
 found : (i : ℕ) (x : State) (qs : List State) (d : State) → Found i x qs d (find_from i (same_state x) qs)
 found i x [] d = λ m. Memᴰ.not-nil m
 found i x (q ∷ qs) d =
-    either (λ b. Found i x (q ∷ qs) d (elim b [ true ↦ some i | false ↦ find_from (suc i) (same_state x) qs ])) (same_state x q)
+    either (λ b. Found i x (q ∷ qs) d (elim b [ true ↦ Some i | false ↦ find_from (suc i) (same_state x) qs ])) (same_state x q)
     (λ t. (0, omega arith, omega arith, sym (same_state_lem x q t)))
     (λ n. later n (find_from (suc i) (same_state x) qs) (found (suc i) x qs d))
   where
     later : T (not (same_state x q)) → (o : Option ℕ) → Found (suc i) x qs d o → Found i x (q ∷ qs) d o
-    later n none f = λ m. ⊎_elim (λ e. T_not (same_state x q) n (state_same x q e)) f (Memᴰ.cases_cons m)
-    later n (some k) f = (suc f.0, let z : k ≡ suc i + f.0 = f.1 in omega arith, let z : f.0 < length qs = f.2 in omega arith, f.3)
+    later n None f = λ m. ⊎_elim (λ e. T_not (same_state x q) n (state_same x q e)) f (Memᴰ.cases_cons m)
+    later n (Some k) f = (suc f.0, let z : k ≡ suc i + f.0 = f.1 in omega arith, let z : f.0 < length qs = f.2 in omega arith, f.3)
 
 -- targets
 
 module _ (t : Table) (qs : List State) (q : State) (c : ℕ) where
   looked_up : (d : State) (o : Option ℕ) → Found 0 (successor t q c) qs d o → (or_else 0 o ≢ 0) ⊎ Memᴰ (successor t q c) qs →
       (or_else 0 o < length qs) × (get_or qs (or_else 0 o) d ≡ successor t q c)
-  looked_up d none f (inl h) = absurd (h refl)
-  looked_up d none f (inr m) = absurd (f m)
-  looked_up d (some k) f h = let e : k ≡ f.0 = let z : k ≡ 0 + f.0 = f.1 in omega arith in rw e (f.2, f.3)
+  looked_up d None f (inl h) = absurd (h refl)
+  looked_up d None f (inr m) = absurd (f m)
+  looked_up d (Some k) f h = let e : k ≡ f.0 = let z : k ≡ 0 + f.0 = f.1 in omega arith in rw e (f.2, f.3)
 
   -- a target is below the number of states, and is the successor
   pub target_found : (d : State) → target_of t qs q c ≢ 0 → (target_of t qs q c < length qs) × (get_or qs (target_of t qs q c) d ≡ successor t q c)

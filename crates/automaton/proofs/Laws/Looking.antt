@@ -3,7 +3,7 @@
 use mathlib.Core.Bool.{Bool, true, false, ◌&&◌}
 use mathlib.Core.List.{List, [], ◌∷◌}
 use mathlib.Core.Logic.{◌≢◌}
-use mathlib.Core.Option.{Option, none, some}
+use Rattle.std.specs.Prelude.{Option, None, Some}
 use mathlib.Core.Path.{◌≡◌, refl, sym, ap, subst, ◌∙◌}
 use Prim.Native.Nat.{ℕ, zero, suc, ◌+◌, ◌-◌, ◌^◌, ◌≤◌, ◌<◌}
 use native.Mathlib.Decide.{ℕ_discrete, dec_lt}
@@ -53,11 +53,11 @@ module _ (w sets : List ℕ) (count depth x n : ℕ) (f : (j : ℕ) → j < coun
 
   -- the test of state i decides
   looked_at : (i : ℕ) (b : Bool) → Looked i → i < count → (eqb depth (depth_word w i) && eqb x (at sets i)) ≡ b →
-      number ≡ or_else count (elim b [ true ↦ some i | false ↦ find_from (suc i) (same_state (state_of n depth x)) (tab_from (i + 1) (count - (i + 1)) among) ])
+      number ≡ or_else count (elim b [ true ↦ Some i | false ↦ find_from (suc i) (same_state (state_of n depth x)) (tab_from (i + 1) (count - (i + 1)) among) ])
   looked_at i b l k e =
       l
       ∙ ap (λ qs. or_else count (find_from i (same_state (state_of n depth x)) qs)) (tab_next among count i k)
-      ∙ ap (λ c. or_else count (elim c [ true ↦ some i | false ↦ find_from (suc i) (same_state (state_of n depth x)) (tab_from (i + 1) (count - (i + 1)) among) ]))
+      ∙ ap (λ c. or_else count (elim c [ true ↦ Some i | false ↦ find_from (suc i) (same_state (state_of n depth x)) (tab_from (i + 1) (count - (i + 1)) among) ]))
       (same_set n depth (depth_word w i) x (at sets i) h (f i k) ∙ e)
 
   looked_from : (i : ℕ) → i ≤ count → ((j : ℕ) → j < i → Unlike w sets depth x j) → Looked i
@@ -84,26 +84,26 @@ module _ (w sets : List ℕ) (count depth x n : ℕ) (f : (j : ℕ) → j < coun
 
 -- a number found is that of an element
 
-find_below : {A : Type 0} (p : A → Bool) (i n : ℕ) (xs : List A) → find_from i p xs ≡ some n → n < i + length xs
+find_below : {A : Type 0} (p : A → Bool) (i n : ℕ) (xs : List A) → find_from i p xs ≡ Some n → n < i + length xs
 find_below p i n [] = λ e. let z : ◌≡◌ {A = ℕ} 0 1 = cc in omega arith
 find_below p i n (x ∷ xs) =
-    either (λ b. elim b [ true ↦ some i | false ↦ find_from (suc i) p xs ] ≡ some n → n < i + suc (length xs)) (p x)
+    either (λ b. elim b [ true ↦ Some i | false ↦ find_from (suc i) p xs ] ≡ Some n → n < i + suc (length xs)) (p x)
     (λ _ e. let z : i ≡ n = cc in omega arith)
     (λ _ e. let z : n < suc i + length xs = find_below p (suc i) n xs e in omega arith)
 
 module _ (q : State) (qs : List State) where
-  pub found_some : number_in q qs ≢ length qs → find_from 0 (same_state q) qs ≡ some (number_in q qs)
+  pub found_some : number_in q qs ≢ length qs → find_from 0 (same_state q) qs ≡ Some (number_in q qs)
   unfolding number_in
   found_some h = by (find_from 0 (same_state q) qs) h
     where
-      by : (o : Option ℕ) → or_else (length qs) o ≢ length qs → o ≡ some (or_else (length qs) o)
-      by none g = absurd (g refl)
-      by (some n) g = refl
+      by : (o : Option ℕ) → or_else (length qs) o ≢ length qs → o ≡ Some (or_else (length qs) o)
+      by None g = absurd (g refl)
+      by (Some n) g = refl
 
-  pub found_none : number_in q qs ≡ length qs → find_from 0 (same_state q) qs ≡ none
+  pub found_none : number_in q qs ≡ length qs → find_from 0 (same_state q) qs ≡ None
   unfolding number_in
   found_none h = by (find_from 0 (same_state q) qs) refl h
     where
-      by : (o : Option ℕ) → find_from 0 (same_state q) qs ≡ o → or_else (length qs) o ≡ length qs → o ≡ none
-      by none e g = refl
-      by (some n) e g = let z : n < 0 + length qs = find_below (same_state q) 0 n qs e in absurd (omega arith)
+      by : (o : Option ℕ) → find_from 0 (same_state q) qs ≡ o → or_else (length qs) o ≡ length qs → o ≡ None
+      by None e g = refl
+      by (Some n) e g = let z : n < 0 + length qs = find_below (same_state q) 0 n qs e in absurd (omega arith)

@@ -3,7 +3,7 @@
 use mathlib.Core.Bool.{not, cond}
 use mathlib.Core.List.{List, [], ◌∷◌, ◌++◌, map}
 use mathlib.Core.Logic.{◌≢◌}
-use mathlib.Core.Option.{none, some}
+use Rattle.std.specs.Prelude.{None, Some}
 use mathlib.Core.Path.{◌≡◌, sym, ap, subst, ◌∙◌}
 use Prim.Native.Nat.{ℕ, zero, suc, ◌+◌, ◌-◌, ◌*◌, ◌^◌, ◌≤◌, ◌<◌}
 use native.Mathlib.Decide.{dec_lt}
@@ -139,10 +139,10 @@ module _ (t : Table) (n s : ℕ) (h : s < length (states t)) where
         number : r ≡ number_in (met_at t s k) (reached_at t s k)
         number = f ∙ ap (λ l. number_in (state_of n (depth_word w s + 1) x) l) (noted_list N) ∙ ap (λ q. number_in q (reached_at t s k)) (sym met_is)
 
-        found : r ≢ count → find_from 0 (same_state (met_at t s k)) (reached_at t s k) ≡ some (number_in (met_at t s k) (reached_at t s k))
+        found : r ≢ count → find_from 0 (same_state (met_at t s k)) (reached_at t s k) ≡ Some (number_in (met_at t s k) (reached_at t s k))
         found g = found_some (met_at t s k) (reached_at t s k) (λ q. g (number ∙ q ∙ N.counted))
 
-        missing : r ≡ count → find_from 0 (same_state (met_at t s k)) (reached_at t s k) ≡ none
+        missing : r ≡ count → find_from 0 (same_state (met_at t s k)) (reached_at t s k) ≡ None
         missing g = found_none (met_at t s k) (reached_at t s k) (sym number ∙ g ∙ sym N.counted)
 
       pub ways_on : Ways t n s k w sets count x

@@ -3,12 +3,14 @@
 use mathlib.Core.List.{List, [], ◌∷◌, ◌++◌}
 use mathlib.Core.Logic.{◌≢◌}
 use mathlib.Core.Path.{◌≡◌, refl, sym, ap, subst, ◌∙◌}
+use Rattle.std.specs.Prelude.{Some, None}
 use Prim.Native.Nat.{ℕ, suc, ◌+◌, ◌*◌, ◌^◌, ◌≤◌, ◌<◌}
 use native.Mathlib.Decide.{ℕ_discrete}
 use native.Mathlib.Omega.{arith}
 use lib.ListN.{length, get_or, set, length-append, length-set, get_or-append}
 use lib.Seq.{get_or-set_same, get_or-set_other, take-set-le, drop-set-lt, get_or-append_seam}
 use Rattle.lists.specs.Lists.{flat_map}
+use Rattle.lists.proofs.Laws.Options.{none_not}
 use Rattle.lists.proofs.Laws.Sets.{tab_is}
 use Rattle.meaning.specs.Table.{Table}
 use Rattle.meaning.specs.Block.{at}
@@ -192,8 +194,8 @@ module _ {t : Table} {n : ℕ} {qs : List State} {e a m : ℕ} {w sets : List �
 
 -- a step's answer
 
-pub onward : {t : Table} {n a s k : ℕ} {w w' sets : List ℕ} {count : ℕ} → Kept w w' → NotedAt t n a s k w' sets count → Onward t n a s k w w' sets count
-onward k N = record { kept = k; noted = λ _. N; over = λ h. absurd (omega (arith, N.few)) }
+pub onward : {t : Table} {n a s k : ℕ} {w w' sets : List ℕ} {count : ℕ} → Kept w w' → NotedAt t n a s k w' sets count → Onward t n a s k w w' sets count (Some tt)
+onward same N = record { kept = same; noted = λ _. N; over = λ e. absurd (none_not tt (sym e)) }
 
-pub too_large : {t : Table} {n a s k : ℕ} {w w' sets : List ℕ} {count : ℕ} → Kept w w' → 256 < count → (count ≡ 257) × (256 < length (states t)) → Onward t n a s k w w' sets count
-too_large k h o = record { kept = k; noted = λ l. absurd (omega arith); over = λ _. o }
+pub too_large : {t : Table} {n a s k : ℕ} {w w' sets : List ℕ} {count : ℕ} → Kept w w' → 256 < length (states t) → Onward t n a s k w w' sets count None
+too_large same h = record { kept = same; noted = λ e. absurd (none_not tt e); over = λ _. h }

@@ -2,7 +2,7 @@
 -- A state is met first as such a target; a class start is the start of its own class, so it leads where the class does.
 use mathlib.Core.List.{List, [], ◌∷◌, ◌++◌}
 use mathlib.Core.Logic.{◌≢◌}
-use mathlib.Core.Option.{Option, none, some}
+use Rattle.std.specs.Prelude.{Option, None, Some}
 use mathlib.Core.Path.{◌≡◌, refl, sym, ap, subst, ◌∙◌}
 use Prim.Native.Nat.{ℕ, zero, suc, ◌+◌, ◌≤◌, ◌<◌}
 use native.Mathlib.Decide.{ℕ_discrete}
@@ -48,8 +48,8 @@ module _ (t : Table) where
     where
       met : T (inhabited (met_at t s k)) → Parented (reached_at t s k) → (o : Option ℕ) → find_from 0 (same_state (met_at t s k)) (reached_at t s k) ≡ o →
           Parented (reached_at t s (suc k))
-      met i f (some n) e = subst Parented (sym (met_there t s h k j n i e).0) f
-      met i f none e =
+      met i f (Some n) e = subst Parented (sym (met_there t s h k j n i e).0) f
+      met i f None e =
           subst Parented (sym (met_new t s h k j i e).0) (λ m z l.
           let len : length (reached_at t s k ++ met_at t s k ∷ []) ≡ length (reached_at t s k) + 1 = length-append (reached_at t s k) (met_at t s k ∷ []) in
           elim (ℕ_discrete m (length (reached_at t s k))) [

@@ -75,15 +75,6 @@ module _ (w : List ℕ) (g : ℕ) where
   blocks_block =
       ap (drop (block_size * g)) (take_all (length w - blocks_from) (drop blocks_from w) (omega (arith, length-drop blocks_from w))) ∙ drop-drop (block_size * g) blocks_from w
 
-  -- the words from the block's place on
-  pub from_block : take (length w - (blocks_from + block_size * g)) (drop (blocks_from + block_size * g) w) ≡ block_at w g
-  from_block =
-      let place = blocks_from + block_size * g in
-      take_all (length w - place) (drop place w) (omega (arith, length-drop place w))
-
-  pub block_long : word_count ≤ length w → g ≤ 32 → block_size ≤ length (block_at w g)
-  block_long h k = omega (arith, length-drop (blocks_from + block_size * g) w)
-
   -- a word of the block, by its place p among the blocks' words
   blocks_at : (i p : ℕ) → p ≡ block_size * g + i → at (blocks_of w) p ≡ at (block_at w g) i
   blocks_at i p e = ap (at (blocks_of w)) e ∙ sym (get_or-drop (block_size * g) (blocks_of w) i 0) ∙ ap (λ b. at b i) blocks_block

@@ -1,18 +1,21 @@
 -- Sets of rules kept as numbers: which numbers are equal or empty as sets, and how a set is taken apart and built bit by bit.
 -- By recursion on how many rules there are; the lowest bit says whether the first of them is there.
 use mathlib.Core.Bool.{Bool, true, false, ◌&&◌, not}
-use mathlib.Core.List.{List, [], ◌∷◌}
+use mathlib.Core.List.{List, [], ◌∷◌, ◌++◌, append_assoc, append-nil}
+use mathlib.Core.Bool.{cond}
+use mathlib.Core.Path.{ap₂}
 use mathlib.Core.Path.{◌≡◌, refl, sym, ap, subst, ◌∙◌}
 use Prim.Native.Nat.{ℕ, zero, suc, ◌+◌, ◌-◌, ◌*◌, ◌/◌, ◌%◌, ◌^◌, ◌≤◌, ◌<◌}
 use native.Mathlib.Decide.{ℕ_discrete}
-use native.Mathlib.Nat.{pow-suc, mul-le-mul_left, two-pow-succ, pow-le-pow_right, sub-zero, zero-add, mul-zero, add-zero, mul-add, mul_assoc}
-use native.Mathlib.Numerals.{add-one}
+use native.Mathlib.Nat.{two-pow-succ, pow-le-pow_right, zero-add, add-zero}
 use native.Mathlib.Omega.{arith}
 use borrow.Author.Tests.{eq-eqb, ne_eqb, ltb-true}
 use lib.Dec.{T, eqb, ltb, eqb→eq}
 use lib.ListN.{get_or}
+use Rattle.std.specs.Int.{bit_at, w32, trailing_zeros}
+use Rattle.std.proofs.lemmas.Nat.Bits.{bit_at_lowest, bit_at-suc, bit_at-trailing_zeros}
 use Rattle.lists.specs.Lists.{Each, filter, same_list, tab_from, is_empty}
-use Rattle.lists.proofs.Laws.Tests.{eq→eqb, test_eq, and-true, of_cond}
+use Rattle.lists.proofs.Laws.Tests.{eq→eqb, test_eq, of_cond}
 use Rattle.lists.proofs.Laws.Each.{each_weaken}
 use Rattle.lists.proofs.Laws.Members.{same_list_lem, list_same}
 use Rattle.lists.proofs.Laws.Sets.{filter_same, get_d_tab}
@@ -27,11 +30,6 @@ use Rattle.automaton.specs.bridge.Build.{members_from, state_of}
 
 pub half_below : (n a : ℕ) → a < 2 ^ suc n → a / 2 < 2 ^ n
 half_below n a h = omega (arith, two-pow-succ n)
-
--- a number above 0 has a bit
-pub some_bit : (n a : ℕ) → a < 2 ^ n → 0 < a → 0 < n
-some_bit zero a h k = absurd (omega arith)
-some_bit (suc n) a h k = omega arith
 
 pub power_up_to : (m n : ℕ) → n ≤ m → 2 ^ n ≤ 2 ^ m
 power_up_to m n h = pow-le-pow_right (omega arith) h
@@ -123,156 +121,161 @@ inhabited_set n d a h =
     none [] t = refl
     none (x ∷ xs) t = absurd t
 
--- the set of all rules, by doubling and adding 1
+-- the set of all rules: one less than a power of two
 
 abbrev pub Whole : ℕ → ℕ → Type 0
 Whole n a = (a < 2 ^ n) × ((i : ℕ) → members_from i n a ≡ tab_from i n (λ k. k))
 
-pub whole_none : Whole 0 0
+pub whole : (n : ℕ) → Whole n (2 ^ n - 1)
 unfolding members_from
-whole_none = (omega arith, λ i. refl)
+whole zero = (omega arith, λ i. refl)
+whole (suc n) =
+    let w = whole n in
+    let e : 2 * (2 ^ n - 1) + 1 ≡ 2 ^ suc n - 1 = omega (arith, two-pow-succ n, w.0) in
+    (omega (arith, two-pow-succ n, w.0), λ i. ap (members_from i (suc n)) (sym e) ∙ members_put i n (2 ^ n - 1) ∙ ap (λ xs. i ∷ xs) (w.1 (suc i)))
 
-pub whole_more : (n a : ℕ) → Whole n a → Whole (n + 1) (2 * a + 1)
-whole_more n a w =
-    subst (λ m. Whole m (2 * a + 1)) (sym (add-one n))
-    (let h : a < 2 ^ n = w.0 in omega (arith, two-pow-succ n), λ i. members_put i n a ∙ ap (λ xs. i ∷ xs) (w.1 (suc i)))
+-- a set taken apart: its lowest rule, and the others
 
--- a set taken apart from rule 0 up: what is left are the bits from a rule on
+lowest_out : (n i a t : ℕ) → t < n → bit_at a t ≡ 1 → ((j : ℕ) → j < t → bit_at a j ≡ 0) → members_from i n a ≡ (i + t) ∷ members_from i n (a - 2 ^ t)
+lowest_out zero i a t h o z = absurd (let no : ⊥ = omega arith in no)
+lowest_out (suc n) i a zero h o z =
+    let odd : a % 2 ≡ 1 = sym (bit_at_lowest a) ∙ o in
+    let half : (a - 2 ^ 0) / 2 ≡ a / 2 = omega arith in
+    members_odd i n a odd
+    ∙ ap₂ ◌∷◌ (sym (add-zero i)) (ap (members_from (suc i) n) (sym half) ∙ sym (members_even i n (a - 2 ^ 0) (λ e. omega arith)))
+lowest_out (suc n) i a (suc t) h o z =
+    let even : a % 2 ≡ 0 = sym (bit_at_lowest a) ∙ z 0 (omega arith) in
+    let half : (a - 2 ^ suc t) / 2 ≡ a / 2 - 2 ^ t = omega (arith, two-pow-succ t) in
+    let place : suc i + t ≡ i + suc t = omega arith in
+    members_even i n a (λ e. omega arith)
+    ∙ lowest_out n (suc i) (a / 2) t (omega arith) (sym (bit_at-suc a t) ∙ o) (λ j l. sym (bit_at-suc a j) ∙ z (suc j) (omega arith))
+    ∙ ap₂ ◌∷◌ place (ap (members_from (suc i) n) (sym half) ∙ sym (members_even i n (a - 2 ^ suc t) (λ e. omega (arith, two-pow-succ t))))
 
-abbrev pub Left : ℕ → ℕ → ℕ → Type 0
-Left n rule rest = (rule ≤ n) × (rest < 2 ^ (n - rule))
+pub lowest_member : (a : ℕ) → 0 < a → a < 2 ^ 32 →
+    let t = trailing_zeros w32 a in (t < 32) × (2 ^ t ≤ a) × (members_from 0 32 a ≡ t ∷ members_from 0 32 (a - 2 ^ t))
+lowest_member a h k =
+    let f = bit_at-trailing_zeros w32 a h k in
+    let t = trailing_zeros w32 a in
+    (f.0, bit_within a t f.1, lowest_out 32 0 a t f.0 f.1 f.2 ∙ ap (λ r. r ∷ members_from 0 32 (a - 2 ^ t)) (zero-add t))
+  where
+    bit_within : (a t : ℕ) → bit_at a t ≡ 1 → 2 ^ t ≤ a
+    bit_within a zero o = let e = sym (bit_at_lowest a) ∙ o in omega arith
+    bit_within a (suc t) o = let h = bit_within (a / 2) t (sym (bit_at-suc a t) ∙ o) in omega (arith, two-pow-succ t)
 
-pub left_start : (n set : ℕ) → set < 2 ^ n → Left n 0 set
-left_start n set h = (omega arith, rw sub-zero h)
+-- more bits than are in use change nothing
+pub members_more : (n m i a : ℕ) → n ≤ m → a < 2 ^ n → members_from i m a ≡ members_from i n a
+unfolding members_from
+members_more zero m i a h l = let e : a ≡ 0 = omega arith in ap (members_from i m) e ∙ members_zero i m
+members_more (suc n) zero i a h l = absurd (let no : ⊥ = omega arith in no)
+members_more (suc n) (suc m) i a h l = ap (λ xs. cond (eqb (a % 2) 1) (i ∷ xs) xs) (members_more n m (suc i) (a / 2) (omega arith) (half_below n a l))
 
-pub left_rule : (n rule rest : ℕ) → Left n rule rest → 0 < rest → rule < n
-left_rule n rule rest l h = let z : 0 < n - rule = some_bit (n - rule) rest l.1 h in omega arith
+-- a rule above all others put in
+upper_in : (n i a t : ℕ) → t < n → a < 2 ^ t → members_from i n (a + 2 ^ t) ≡ members_from i n a ++ (i + t) ∷ []
+upper_in zero i a t h b = absurd (let no : ⊥ = omega arith in no)
+upper_in (suc n) i a zero h b =
+    let e : a ≡ 0 = omega arith in
+    let half : (0 + 2 ^ 0) / 2 ≡ 0 = omega arith in
+    rw e
+    (members_odd i n (0 + 2 ^ 0) (omega arith) ∙ ap₂ ◌∷◌ (sym (add-zero i)) (ap (members_from (suc i) n) half ∙ members_zero (suc i) n)
+    ∙ ap (λ xs. xs ++ (i + 0) ∷ []) (sym (members_zero i (suc n))))
+upper_in (suc n) i a (suc t) h b =
+    let half : (a + 2 ^ suc t) / 2 ≡ a / 2 + 2 ^ t = omega (arith, two-pow-succ t) in
+    let place : suc i + t ≡ i + suc t = omega arith in
+    let rest : members_from (suc i) n ((a + 2 ^ suc t) / 2) ≡ members_from (suc i) n (a / 2) ++ (i + suc t) ∷ [] =
+    ap (members_from (suc i) n) half ∙ upper_in n (suc i) (a / 2) t (omega arith) (omega (arith, two-pow-succ t)) ∙ ap (λ k. members_from (suc i) n (a / 2) ++ k ∷ []) place in
+    elim (ℕ_discrete (a % 2) 1) [
+      | yes o ↦ members_odd i n (a + 2 ^ suc t) (omega (arith, two-pow-succ t)) ∙ ap (λ xs. i ∷ xs) rest ∙ ap (λ xs. xs ++ (i + suc t) ∷ []) (sym (members_odd i n a o))
+      | no o ↦ members_even i n (a + 2 ^ suc t) (λ e. o (omega (arith, two-pow-succ t))) ∙ rest ∙ ap (λ xs. xs ++ (i + suc t) ∷ []) (sym (members_even i n a o))
+    ]
 
-pub left_next : (n rule rest : ℕ) → rule < n → Left n rule rest → Left n (rule + 1) (rest / 2)
-left_next n rule rest h l =
-    let e : n - rule ≡ suc (n - (rule + 1)) = omega arith in
-    (omega arith, half_below (n - (rule + 1)) rest (subst (λ m. rest < 2 ^ m) e l.1))
+pub member_small : (a t : ℕ) (ms : List ℕ) → members_from 0 32 a ≡ t ∷ ms → t < 32
+member_small a t ms e = (subst (Each (λ r. r < 32)) e (members_below 32 a)).0
 
--- the members from a rule on, of n in all
-abbrev pub members_on : ℕ → ℕ → ℕ → List ℕ
-members_on n rule a = members_from rule (n - rule) a
+-- the others are above the first
+above : (n i a t : ℕ) (ms : List ℕ) → members_from i n a ≡ t ∷ ms → Each (λ r. t < r) ms
+unfolding members_from
+above zero i a t ms e = absurd (nil_not e)
+  where
+    nil_not : [] ≡ t ∷ ms → ⊥
+    nil_not e = cc
+above (suc n) i a t ms e =
+    elim (ℕ_discrete (a % 2) 1) [
+      | yes o ↦
+          let q = sym (members_odd i n a o) ∙ e in
+          let first : i ≡ t = cc in
+          let others : members_from (suc i) n (a / 2) ≡ ms = cc in
+          subst (Each (λ r. t < r)) others
+          (each_weaken (λ r. (suc i ≤ r) × (r < suc i + n)) (λ r. t < r) (members_from (suc i) n (a / 2)) (λ r h. omega (arith, first, h.0)) (members_within (suc i) n (a / 2)))
+      | no o ↦ above n (suc i) (a / 2) t ms (sym (members_even i n a o) ∙ e)
+    ]
 
-on_next : (n rule a : ℕ) → rule < n → members_on n rule a ≡ members_from rule (suc (n - (rule + 1))) a
-on_next n rule a h = let e : n - rule ≡ suc (n - (rule + 1)) = omega arith in ap (λ m. members_from rule m a) e
+-- the first member that passes a test: one taken out that does, or does not
 
-on_suc : (n rule a : ℕ) → members_from (suc rule) (n - (rule + 1)) a ≡ members_on n (rule + 1) a
-on_suc n rule a = ap (λ r. members_from r (n - (rule + 1)) a) (sym (add-one rule))
+module _ (p : ℕ → Bool) (t : ℕ) (ms : List ℕ) where
+  pub sought_found : p t ≡ true → first_number (filter p (t ∷ ms)) ≡ suc t
+  sought_found e = rw e refl
 
-pub on_start : (n a : ℕ) → members_from 0 n a ≡ members_on n 0 a
-on_start n a = ap (λ m. members_from 0 m a) (sym (sub-zero n))
+  pub filter_skip : p t ≡ false → filter p (t ∷ ms) ≡ filter p ms
+  filter_skip e = rw e refl
 
-module _ (n rule : ℕ) (h : rule < n) where
-  on_put : (x : ℕ) → members_on n rule (2 * x + 1) ≡ rule ∷ members_on n (rule + 1) x
-  on_put x = on_next n rule (2 * x + 1) h ∙ members_put rule (n - (rule + 1)) x ∙ ap (λ xs. rule ∷ xs) (on_suc n rule x)
+  filter_take : p t ≡ true → filter p (t ∷ ms) ≡ t ∷ filter p ms
+  filter_take e = rw e refl
 
-  on_pass : (x : ℕ) → members_on n rule (2 * x + 0) ≡ members_on n (rule + 1) x
-  on_pass x = on_next n rule (2 * x + 0) h ∙ members_pass rule (n - (rule + 1)) x ∙ on_suc n rule x
+-- a set built of those that pass, the lowest first: with those of the rules left that pass it is the whole one filtered
 
-module _ (p : ℕ → Bool) (n rule : ℕ) (h : rule < n) where
-  pub filter_take : (rest : ℕ) → rest % 2 ≡ 1 → p rule ≡ true → filter p (members_on n rule rest) ≡ rule ∷ filter p (members_on n (rule + 1) (rest / 2))
-  filter_take rest o e = rw (on_next n rule rest h, members_odd rule (n - (rule + 1)) rest o, e, on_suc n rule (rest / 2))
-
-  pub filter_skip : (rest : ℕ) → (rest % 2 ≡ 1 → p rule ≡ false) → filter p (members_on n rule rest) ≡ filter p (members_on n (rule + 1) (rest / 2))
-  filter_skip rest f =
-      elim (ℕ_discrete (rest % 2) 1) [
-        | yes o ↦ rw (on_next n rule rest h, members_odd rule (n - (rule + 1)) rest o, f o, on_suc n rule (rest / 2))
-        | no o ↦ rw (on_next n rule rest h, members_even rule (n - (rule + 1)) rest o, on_suc n rule (rest / 2))
-      ]
-
--- the first member that passes a test, sought from rule 0 up
-module _ (p : ℕ → Bool) (n set : ℕ) where
-  abbrev first : ℕ
-  first = first_number (filter p (members_from 0 n set))
-
-  abbrev pub Sought : ℕ → ℕ → Type 0
-  Sought rule rest = Left n rule rest × (first ≡ first_number (filter p (members_on n rule rest)))
-
-  pub sought_start : set < 2 ^ n → Sought 0 set
-  sought_start h = (left_start n set h, ap (λ xs. first_number (filter p xs)) (on_start n set))
-
-  pub sought_end : (rule : ℕ) → Sought rule 0 → first ≡ 0
-  sought_end rule s = s.1 ∙ ap (λ xs. first_number (filter p xs)) (members_zero rule (n - rule))
-
-  pub sought_found : (rule rest : ℕ) → rule < n → rest % 2 ≡ 1 → p rule ≡ true → Sought rule rest → first ≡ rule + 1
-  sought_found rule rest h o e s = s.1 ∙ ap first_number (filter_take p n rule h rest o e) ∙ sym (add-one rule)
-
-  pub sought_skip : (rule rest : ℕ) → rule < n → (rest % 2 ≡ 1 → p rule ≡ false) → Sought rule rest → Sought (rule + 1) (rest / 2)
-  sought_skip rule rest h e s = (left_next n rule rest h s.0, s.1 ∙ ap first_number (filter_skip p n rule h rest e))
-
--- a set built beside: with bits from the rule on that fit what is left, it is the whole one filtered
-
-abbrev pub Fills : (ℕ → Bool) → ℕ → ℕ → ℕ → ℕ → Type 0
-Fills p n rule rest x = (x < 2 ^ (n - rule)) × (members_on n rule x ≡ filter p (members_on n rule rest))
-
-module _ (p : ℕ → Bool) (n set : ℕ) where
+module _ (p : ℕ → Bool) (n set : ℕ) (few : n ≤ 32) where
   abbrev pub Filtered : ℕ → Type 0
   Filtered a = (members_from 0 n a ≡ filter p (members_from 0 n set)) × (a < 2 ^ n)
 
-  pub record Built (rule rest kept weight : ℕ) : Type 0 where
-    pub left : Left n rule rest
-    pub power : weight ≡ 2 ^ rule
-    pub below : kept < weight
-    pub whole : (x : ℕ) → Fills p n rule rest x → Filtered (kept + weight * x)
+  pub record Built (left : List ℕ) (kept : ℕ) : Type 0 where
+    pub above : Each (λ r. (kept < 2 ^ r) × (r < n)) left
+    pub below : kept < 2 ^ n
+    pub whole : members_from 0 32 kept ++ filter p left ≡ filter p (members_from 0 32 set)
 
-  pub built_start : set < 2 ^ n → Built 0 set 0 1
+  pub built_start : set < 2 ^ n → Built (members_from 0 32 set) 0
   built_start h =
       record {
-        left = left_start n set h;
-        power = omega arith;
+        above = subst (Each (λ r. (0 < 2 ^ r) × (r < n))) (sym (members_more n 32 0 set few h)) (each_weaken (λ r. r < n) (λ r. (0 < 2 ^ r) × (r < n)) (members_from 0 n set) (λ r l. (omega (arith, power_up_to r 0 (omega arith)), l)) (members_below n set));
         below = omega arith;
-        whole = λ x f.
-            let e : x ≡ 0 + 1 * x = omega arith in
-            subst Filtered e (on_start n x ∙ f.1 ∙ ap (filter p) (sym (on_start n set)), subst (λ m. x < 2 ^ m) (sub-zero n) f.0);
+        whole = ap (λ l. l ++ filter p (members_from 0 32 set)) (members_zero 0 32);
       }
 
-  pub built_end : (rule kept weight : ℕ) → Built rule 0 kept weight → Filtered kept
-  built_end rule kept weight b =
-      let e : kept + weight * 0 ≡ kept = rw mul-zero (add-zero kept) in
-      let none = members_zero rule (n - rule) in
-      subst Filtered e (b.whole 0 (b.left.1, none ∙ ap (filter p) (sym none)))
+  pub built_end : set < 2 ^ n → (kept : ℕ) → Built [] kept → Filtered kept
+  built_end h kept b =
+      (sym (members_more n 32 0 kept few b.below) ∙ sym (append-nil (members_from 0 32 kept)) ∙ b.whole ∙ ap (filter p) (members_more n 32 0 set few h), b.below)
 
-  module _ (rule rest kept weight : ℕ) (h : rule < n) (b : Built rule rest kept weight) where
-    next : (bit : ℕ) → bit ≤ 1 → ((x : ℕ) → Fills p n (rule + 1) (rest / 2) x → Fills p n rule rest (2 * x + bit)) → Built (rule + 1) (rest / 2) (kept + weight * bit) (weight * 2)
-    next bit s f =
+  module _ (t : ℕ) (ms : List ℕ) (kept rest : ℕ) (b : Built (t ∷ ms) kept) (e : members_from 0 32 rest ≡ t ∷ ms) where
+    pub built_skip : p t ≡ false → Built ms kept
+    built_skip f = record { above = b.above.1; below = b.below; whole = ap (λ l. members_from 0 32 kept ++ l) (sym (filter_skip p t ms f)) ∙ b.whole }
+
+    pub built_take : p t ≡ true → Built ms (kept + 2 ^ t)
+    built_take f =
+        let low : kept < 2 ^ t = b.above.0.0 in
+        let small : t < n = b.above.0.1 in
+        let sum : kept + 2 ^ t < 2 ^ suc t = omega (arith, two-pow-succ t) in
         record {
-          left = left_next n rule rest h b.left;
-          power = ap (λ w. w * 2) b.power ∙ sym (ap (λ r. 2 ^ r) (add-one rule) ∙ pow-suc 2 rule);
-          below = let w : weight * bit ≤ weight * 1 = mul-le-mul_left weight s in let k : kept < weight = b.below in omega arith;
-          whole = λ x g. subst Filtered (sums x) (b.whole (2 * x + bit) (f x g));
+          above = higher ms (above 32 0 rest t ms e) b.above.1 sum;
+          below = omega (arith, sum, power_up_to n (suc t) (omega arith));
+          whole =
+              ap (λ l. l ++ filter p ms) (upper_in 32 0 kept t (omega arith) low ∙ ap (λ k. members_from 0 32 kept ++ k ∷ []) (zero-add t))
+              ∙ append_assoc (members_from 0 32 kept) (t ∷ []) (filter p ms)
+              ∙ ap (λ l. members_from 0 32 kept ++ l) (sym (filter_take p t ms f)) ∙ b.whole;
         }
       where
-        sums : (x : ℕ) → kept + weight * (2 * x + bit) ≡ kept + weight * bit + weight * 2 * x
-        sums x = rw (mul-add, mul_assoc weight 2 x) (omega arith)
-
-    fits : (bit x : ℕ) → bit ≤ 1 → x < 2 ^ (n - (rule + 1)) → 2 * x + bit < 2 ^ (n - rule)
-    fits bit x s k =
-        let e : n - rule ≡ suc (n - (rule + 1)) = omega arith in
-        subst (λ m. 2 * x + bit < 2 ^ m) (sym e) (omega (arith, two-pow-succ (n - (rule + 1))))
-
-    pub built_take : rest % 2 ≡ 1 → p rule ≡ true → Built (rule + 1) (rest / 2) (kept + weight) (weight * 2)
-    built_take o e =
-        let k : kept + weight * 1 ≡ kept + weight = omega arith in
-        subst (λ a. Built (rule + 1) (rest / 2) a (weight * 2)) k
-        (next 1 (omega arith) (λ x f. (fits 1 x (omega arith) f.0, on_put n rule h x ∙ ap (λ xs. rule ∷ xs) f.1 ∙ sym (filter_take p n rule h rest o e))))
-
-    pub built_skip : (rest % 2 ≡ 1 → p rule ≡ false) → Built (rule + 1) (rest / 2) kept (weight * 2)
-    built_skip e =
-        let k : kept + weight * 0 ≡ kept = rw mul-zero (add-zero kept) in
-        subst (λ a. Built (rule + 1) (rest / 2) a (weight * 2)) k
-        (next 0 (omega arith) (λ x f. (fits 0 x (omega arith) f.0, on_pass n rule h x ∙ f.1 ∙ sym (filter_skip p n rule h rest e))))
+        higher : (l : List ℕ) → Each (λ r. t < r) l → Each (λ r. (kept < 2 ^ r) × (r < n)) l → kept + 2 ^ t < 2 ^ suc t → Each (λ r. (kept + 2 ^ t < 2 ^ r) × (r < n)) l
+        higher [] g k s = tt
+        higher (r ∷ l) g k s = ((omega (arith, s, power_up_to r (suc t) g.0), k.0.1), higher l g.1 k.1 s)
 
 -- rules of a flat table: their tests by its arrays
 
 abbrev pub goes_on_lem : List ℕ → ℕ → ℕ → ℕ → Bool
 goes_on_lem loaded depth c r = ltb depth (at loaded (block_size * r)) && in_ranges (ranges_at loaded (8 * r + depth)) c
 
-abbrev pub ends_at_lem : List ℕ → ℕ → Bool → ℕ → Bool
-ends_at_lem loaded depth free r = eqb (at loaded (block_size * r)) depth && not (free && eqb (at loaded (block_size * r + 1)) 1)
+abbrev pub ends_at_lem : List ℕ → ℕ → ℕ → Bool
+ends_at_lem loaded depth r = eqb (at loaded (block_size * r)) depth
+
+abbrev pub free_at_lem : List ℕ → ℕ → ℕ → Bool
+free_at_lem loaded depth r = ends_at_lem loaded depth r && not (eqb (at loaded (block_size * r + 1)) 1)
 
 module _ (loaded : List ℕ) (n : ℕ) (d : Mode) (set depth : ℕ) where
   -- two tests that agree below n keep the same members
@@ -299,21 +302,21 @@ module _ (loaded : List ℕ) (n : ℕ) (d : Mode) (set depth : ℕ) where
       place r false e = rw e
 
   pub accept_flat : accept_of (table_at loaded n d) (state_of n depth set)
-      ≡ first_number (filter (ends_at_lem loaded depth true) (members_from 0 n set))
+      ≡ first_number (filter (free_at_lem loaded depth) (members_from 0 n set))
   unfolding accept_of group_at
   accept_flat =
       ap first_number
       (by_rules
       (λ r. eqb (rule_at (table_at loaded n d) r).size depth && not (rule_at (table_at loaded n d) r).anchored)
-      (ends_at_lem loaded depth true)
+      (free_at_lem loaded depth)
       (λ r h. ap (λ g. eqb g.size depth && not g.anchored) (rule_at_lem loaded n d r h)))
 
   pub accept_end_flat : accept_at_end_of (table_at loaded n d) (state_of n depth set)
-      ≡ first_number (filter (ends_at_lem loaded depth false) (members_from 0 n set))
+      ≡ first_number (filter (ends_at_lem loaded depth) (members_from 0 n set))
   unfolding accept_at_end_of group_at
   accept_end_flat =
       ap first_number
       (by_rules
       (λ r. eqb (rule_at (table_at loaded n d) r).size depth)
-      (ends_at_lem loaded depth false)
-      (λ r h. ap (λ g. eqb g.size depth) (rule_at_lem loaded n d r h) ∙ sym (and-true (eqb (at loaded (block_size * r)) depth))))
+      (ends_at_lem loaded depth)
+      (λ r h. ap (λ g. eqb g.size depth) (rule_at_lem loaded n d r h)))

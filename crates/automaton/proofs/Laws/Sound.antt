@@ -3,7 +3,7 @@
 use mathlib.Core.Bool.{not, cond}
 use mathlib.Core.List.{List, [], ◌∷◌, ◌++◌}
 use mathlib.Core.Logic.{◌≢◌}
-use mathlib.Core.Option.{Option, none, some}
+use Rattle.std.specs.Prelude.{Option, None, Some}
 use mathlib.Core.Path.{◌≡◌, refl, sym, ap, subst, ◌∙◌}
 use Prim.Native.Nat.{ℕ, suc, pred, ◌+◌, ◌≤◌, ◌<◌}
 use native.Mathlib.Omega.{arith}
@@ -92,8 +92,8 @@ module _ (t : Table) (rest : List ℕ) (shaped : Shaped t) (narrow : length (sta
       shape.small shape.outputs shape.reaches
 
   default_sound : (d : Option Group) → t.default ≡ d → at w 5 ≢ 0 → T (sound_block w default_number 1 0)
-  default_sound none e h = absurd (h (layout_default t rest ∙ ap (λ d. mode_word (mode_of d t.mark)) e))
-  default_sound (some g) e h =
+  default_sound None e h = absurd (h (layout_default t rest ∙ ap (λ d. mode_word (mode_of d t.mark)) e))
+  default_sound (Some g) e h =
       let sg = default_each ShapedDefault t g e shaped.default in
       let outputs : length g.outputs ≤ expansion t = subst (λ g. length g.outputs ≤ expansion t) (group_default t g e) (group_short t default_number (omega arith)) in
       let size = sg.size in

@@ -4,7 +4,7 @@
 use mathlib.Core.Bool.{Bool, true, false, cond}
 use mathlib.Core.List.{List, [], ◌∷◌, ◌++◌, append-nil}
 use mathlib.Core.Logic.{◌≢◌}
-use mathlib.Core.Option.{Option, none, some}
+use Rattle.std.specs.Prelude.{Option, None, Some}
 use mathlib.Core.Path.{◌≡◌, refl, sym, ap, subst, ◌∙◌}
 use Prim.Native.Nat.{ℕ, zero, suc, ◌<◌}
 use native.Mathlib.Decide.{ℕ_discrete}
@@ -43,7 +43,7 @@ use Rattle.automaton.proofs.Laws.Witness.{at_first, short_of, end_first, go_firs
 rule_same : (i k : ℕ) → the_rule i ≡ the_rule k → i ≡ k
 rule_same i k e = cc
 
-no_rule : (t : Table) (u : List ℕ) (k : ℕ) → choice_by t u none ≡ the_rule k → ⊥
+no_rule : (t : Table) (u : List ℕ) (k : ℕ) → choice_by t u None ≡ the_rule k → ⊥
 no_rule t u k = go (mode t)
   where
     pick : (b : Bool) → cond b the_pair the_default ≡ the_rule k → ⊥
@@ -93,7 +93,7 @@ module _ (t : Table) (W : WellFormed t) where
   is_chosen : (z : List ℕ) → Chosen t (length t.rules) z (chosen_rule z)
   is_chosen z = best_chosen t (length t.rules) z
 
-  first_is : (z : List ℕ) → 0 < length z → chosen_at t z 0 ≡ some (choice_by t z (chosen_rule z))
+  first_is : (z : List ℕ) → 0 < length z → chosen_at t z 0 ≡ Some (choice_by t z (chosen_rule z))
   first_is z h = at_first t S z (chosen_rule z) h (is_chosen z)
 
   -- The word h is held, in state q.
@@ -145,8 +145,8 @@ module _ (t : Table) (W : WellFormed t) where
         size = (subst (Least (Done t h)) pe done_is).0.size
 
         go : (o : Option ℕ) → Chosen t (length t.rules) (h ++ 0 ∷ []) o → the_rule e ≢ choice_by t (h ++ 0 ∷ []) o
-        go none k z = no_rule t (h ++ 0 ∷ []) e (sym z)
-        go (some i) k z =
+        go None k z = no_rule t (h ++ 0 ∷ []) e (sym z)
+        go (Some i) k z =
             let p : e ≡ i = rule_same e i z in
             subst (Least (Free t h)) pg free_is i (free_of t S h 0 [] i k.0 (ap (λ j. (rule_at t j).size) (sym p) ∙ size) k.1)
 
@@ -169,16 +169,16 @@ module _ (t : Table) (W : WellFormed t) where
           differ = go r f.1 k.more k.fits (chosen_rule h) (is_chosen h) (chosen_rule (h ++ k.more)) (is_chosen (h ++ k.more));
         }
       where
-        none_at_end : Chosen t (length t.rules) h none
+        none_at_end : Chosen t (length t.rules) h None
         none_at_end =
-            subst (λ z. Chosen t (length t.rules) z none) (append-nil h)
+            subst (λ z. Chosen t (length t.rules) z None) (append-nil h)
             (end_none t S h (subst (Least (Done t h)) pe done_is) (short_of t S q h [] there tt))
 
         go : (r : ℕ) → r < length t.rules → (v : List ℕ) → T (fits_word (rule_at t r).ranges (h ++ v)) →
             (o : Option ℕ) → Chosen t (length t.rules) h o → (o' : Option ℕ) → Chosen t (length t.rules) (h ++ v) o' → choice_by t h o ≢ choice_by t (h ++ v) o'
-        go r i v f (some j) k o' k' z = none_at_end j k.0 k.1
-        go r i v f none k (some j) k' z = no_rule t h j z
-        go r i v f none k none k' z =
+        go r i v f (Some j) k o' k' z = none_at_end j k.0 k.1
+        go r i v f None k (Some j) k' z = no_rule t h j z
+        go r i v f None k None k' z =
             let n : length (rule_at t r).ranges ≡ (rule_at t r).size = (rule_shaped t S r i).places in
             let m : length (rule_at t r).ranges ≡ length (h ++ v) = fits_word_length (rule_at t r).ranges (h ++ v) f in
             k' r i (record { match = rw (take_all (rule_at t r).size (h ++ v) (omega arith)) f; at-end = λ _. omega arith })

@@ -2,7 +2,7 @@
 -- No rule that fits is shorter than a word that leads on, so the state after the word tells the choice; and every choice is told so.
 use mathlib.Core.List.{List, [], ◌∷◌, ◌++◌, append-nil}
 use mathlib.Core.Logic.{◌⊎◌}
-use mathlib.Core.Option.{Option, some}
+use Rattle.std.specs.Prelude.{Option, Some}
 use mathlib.Core.Path.{◌≡◌, ap, subst, ◌∙◌}
 use Prim.Native.Nat.{ℕ, suc, ◌+◌, ◌≤◌, ◌<◌}
 use native.Mathlib.Omega.{arith}
@@ -23,7 +23,7 @@ use Rattle.automaton.proofs.Laws.Fitting.{NoShorter, end_chosen, free_chosen, sh
 use Rattle.automaton.proofs.Laws.Parents.{Reached, onto_length}
 
 -- the choice at the first place, by the rules that fit
-pub at_first : (t : Table) → Shaped t → (z : List ℕ) (o : Option ℕ) → 0 < length z → Chosen t (length t.rules) z o → chosen_at t z 0 ≡ some (choice_by t z o)
+pub at_first : (t : Table) → Shaped t → (z : List ℕ) (o : Option ℕ) → 0 < length z → Chosen t (length t.rules) z o → chosen_at t z 0 ≡ Some (choice_by t z o)
 at_first t S [] o h c = absurd (omega arith)
 at_first t S (x ∷ u) o h c = first_choice t S x u o c
 
@@ -48,17 +48,17 @@ module _ (t : Table) (S : Shaped t) where
         go (x ∷ w) p = omega arith
 
     -- where the input ends there, the state's end is the first choice
-    pub end_first : A.accept_at_end s ≡ suc r → chosen_at t w 0 ≡ some (the_rule r)
+    pub end_first : A.accept_at_end s ≡ suc r → chosen_at t w 0 ≡ Some (the_rule r)
     end_first e =
-        at_first t S w (some r) (end_some e)
-        (subst (λ z. Chosen t (length t.rules) z (some r)) (append-nil w)
+        at_first t S w (Some r) (end_some e)
+        (subst (λ z. Chosen t (length t.rules) z (Some r)) (append-nil w)
         (end_chosen t S w r (subst (Least (Done t w)) (ap (λ q. A.accept_at_end q) R.there ∙ e) ((table_reads t S).end_is w R.characters R.leads)) (short_of s w [] R tt)))
 
     -- where a character follows, its go is
-    pub go_first : (x : ℕ) → x < 65536 → A.accept s ≡ suc r → chosen_at t (w ++ x ∷ []) 0 ≡ some (the_rule r)
+    pub go_first : (x : ℕ) → x < 65536 → A.accept s ≡ suc r → chosen_at t (w ++ x ∷ []) 0 ≡ Some (the_rule r)
     go_first x h e =
         let len : length (w ++ x ∷ []) ≡ length w + 1 = length-append w (x ∷ []) in
-        at_first t S (w ++ x ∷ []) (some r) (omega arith)
+        at_first t S (w ++ x ∷ []) (Some r) (omega arith)
         (free_chosen t S w x [] r (subst (Least (Free t w)) (ap (λ q. A.accept q) R.there ∙ e) ((table_reads t S).accept_is w R.characters R.leads))
         (short_of s w (x ∷ []) R (h, tt)))
 

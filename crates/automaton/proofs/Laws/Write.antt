@@ -2,7 +2,7 @@
 -- The words hold the group's block, and refusal 7 leaves values that are characters, which a block writes exactly.
 use mathlib.Core.Bool.{or-false}
 use mathlib.Core.List.{List, [], ◌∷◌, ◌++◌}
-use mathlib.Core.Option.{some}
+use Rattle.std.specs.Prelude.{Some}
 use mathlib.Core.Path.{◌≡◌, sym, ap, subst, ◌∙◌}
 use Prim.Native.Nat.{ℕ, ◌<◌, ◌≤◌}
 use lib.ListN.{length}
@@ -35,7 +35,7 @@ safe_rule t w r s safe d =
     safe_group g w (rw (fits_prefix_whole g.ranges w (shape.places ∙ d.size)) d.takes)
     (each_get_d SafeGroup t.rules r (every_character []) (each_front SafeGroup t.rules (optional t.default) safe) d.rule)
 
-pub safe_default : (t : Table) (g : Group) (x : ℕ) → Shaped t → SafeTable t → t.default ≡ some g → x < 65536 →
+pub safe_default : (t : Table) (g : Group) (x : ℕ) → Shaped t → SafeTable t → t.default ≡ Some g → x < 65536 →
     Each (λ o. IsCharacter (value o (x ∷ []))) g.outputs
 unfolding SafeTable fits_word
 safe_default t g x s safe e h =

@@ -1,5 +1,5 @@
 -- The compiler on its way: which states it has met, and what the words and the sets hold then.
-use Rattle.std.specs.Prelude.{List, [], ◌∷◌, ◌≡◌, ℕ, zero, suc, ◌+◌, ◌*◌, ◌^◌, ◌≤◌, ◌<◌, length, get_or, take, drop}
+use Rattle.std.specs.Prelude.{Option, None, Some, List, [], ◌∷◌, ◌≡◌, ℕ, zero, suc, ◌+◌, ◌*◌, ◌^◌, ◌≤◌, ◌<◌, length, get_or, take, drop}
 use Rattle.lists.specs.Lists.{flat_map}
 use Rattle.meaning.specs.Table.{Table}
 use Rattle.meaning.specs.Block.{at}
@@ -53,8 +53,8 @@ pub record Kept (w w' : List ℕ) : Type 0 where
   pub front : take states_from w' ≡ take states_from w
   pub back : drop blocks_from w' ≡ drop blocks_from w
 
--- a step on the way, which answers the new count, or 257 where there are more states than 256
-pub record Onward (t : Table) (n a s k : ℕ) (w w' sets : List ℕ) (count : ℕ) : Type 0 where
+-- a step on the way, which answers whether there was room: there is none where there are more states than 256
+pub record Onward (t : Table) (n a s k : ℕ) (w w' sets : List ℕ) (count : ℕ) (result : Option (Unit {0})) : Type 0 where
   pub kept : Kept w w'
-  pub noted : count ≤ 256 → NotedAt t n a s k w' sets count
-  pub over : 256 < count → (count ≡ 257) × (256 < length (states t))
+  pub noted : result ≡ Some tt → NotedAt t n a s k w' sets count
+  pub over : result ≡ None → 256 < length (states t)

@@ -70,10 +70,9 @@ module _ (n : ℕ) where
   number_read {b} {c} {ds} bs dg l r nd =
       let d = first_digit dg in
       let lo = digit_low_end c d in
-      let hi = digit_high_end c d in
       ap one (append_assoc b (c ∷ ds) r)
       ∙ factor_other trees (within trees n) (b ++ (c ∷ (ds ++ r))) (c ∷ (ds ++ r)) (sym (skip_to c (ds ++ r) bs (digit_not_blank c d))) (omega arith)
-      ∙ atom_number trees (c ∷ (ds ++ r)) lo hi
+      ∙ atom_number trees (c ∷ (ds ++ r)) d
       ∙ ap (map_read number) (digits_all 0 {ds = c ∷ ds} r dg nd l)
       ∙ (unfold map_read in refl)
     where

@@ -6,15 +6,9 @@ use Prim.Native.Nat.{ℕ, zero, suc, ◌+◌, ◌-◌, ◌<◌}
 use native.Mathlib.Numerals.{add-one, sub-one}
 use native.Mathlib.Omega.{arith}
 use borrow.Author.Tests.{eq-eqb, ne_eqb}
-use lib.ListN.{length, drop, get_or}
+use lib.ListN.{length, drop}
 use Rattle.expression.specs.Grammar.{Algebra}
 use Rattle.expression.specs.bridge.Text.{Read, refused, got, skip, first, behind, closed, closed_by, atom, factor, sum, within}
-
-pub first_at : (s : List ℕ) (j : ℕ) → first (drop j s) ≡ get_or s j 0
-first_at [] zero = refl
-first_at [] (suc j) = refl
-first_at (c ∷ s) zero = refl
-first_at (c ∷ s) (suc j) = first_at s j
 
 pub behind_at : (s : List ℕ) (j : ℕ) → drop (j + 1) s ≡ behind (drop j s)
 behind_at s j = rw (add-one j) (by s j)
@@ -62,3 +56,6 @@ closed_yes z a t u e h = rw (← e, eq-eqb (first u) z h)
 pub closed_no : {A : Type 0} (z : ℕ) (a : A) (t u : List ℕ) → u ≡ skip t → (first u ≡ z → ⊥) → closed_by z (got a t) ≡ refused
 unfolding closed_by
 closed_no z a t u e h = rw (← e, ne_eqb (first u) z h)
+
+-- a character that stands at a place, and what stands behind it
+pub ruleset places = (there, behind_at)

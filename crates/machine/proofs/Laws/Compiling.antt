@@ -2,7 +2,7 @@
 -- The words are put together part by part, each at the place where the parts before it end.
 use mathlib.Core.Bool.{Bool, true, false, ◌&&◌, not, cond}
 use mathlib.Core.List.{List, [], ◌∷◌, ◌++◌, map, append_assoc, append-nil}
-use mathlib.Core.Option.{none}
+use Rattle.std.specs.Prelude.{Option, Some, None}
 use mathlib.Core.Path.{◌≡◌, refl, sym, ap, ap₂, subst, ◌∙◌}
 use Prim.Native.Nat.{ℕ, zero, suc, max, ◌+◌, ◌-◌, ◌*◌, ◌≤◌, ◌<◌}
 use native.Mathlib.Nat.{zero-add, add-zero}
@@ -13,9 +13,10 @@ use lib.ListN.{length, get_or, take, drop, set, length-map, length-append, get_o
 use lib.Seq.{take_at, drop_at, drop-drop, get_or-drop, get_or-append-add, length-take-le}
 use Rattle.lists.specs.Lists.{Each, filter, flat_map, greatest, tab_from, up_to, pad, optional, or_else, find_from}
 use Rattle.lists.specs.Decide.{select}
+use Rattle.lists.proofs.Laws.Options.{some_same, none_not}
 use Rattle.lists.proofs.Laws.Tests.{split}
 use Rattle.lists.proofs.Laws.Parts.{length_pad, get_d_pad}
-use Rattle.meaning.specs.Refusal.{refused, accepted, and_then}
+use Rattle.meaning.specs.Refusal.{Outcome, refused, accepted, and_then}
 use Rattle.meaning.specs.Table.{Group, unmarked, Mode, Absent, Table, mode, rule_at, in_ranges, longest}
 use Rattle.meaning.specs.Block.{at, block, block_size, blocks_size}
 use Rattle.meaning.specs.Reader.{read_table}
@@ -55,11 +56,11 @@ header_put (x ∷ y ∷ z ∷ u ∷ v ∷ s ∷ w) a b c d e f h = refl
 -- the table read back of the array, without its default
 
 abbrev plain : Table → Table
-plain t = record { rules = map bare_group t.rules; default = none; mark = unmarked }
+plain t = record { rules = map bare_group t.rules; default = None; mark = unmarked }
 
 table_plain : (t : Table) → Shaped t → Narrow t → table_at (loaded_words t) (length t.rules) Absent ≡ plain t
 unfolding table_at
-table_plain t s w = ap (λ u. record { rules = u.rules; default = none; mark = unmarked }) (table_flat t s w)
+table_plain t s w = ap (λ u. record { rules = u.rules; default = None; mark = unmarked }) (table_flat t s w)
 
 -- the ranges that the compiler meets are the table's
 pub ranges_loaded : (t : Table) → Shaped t → Narrow t → ranges_of (table_at (loaded_words t) (length t.rules) Absent) ≡ ranges_of t
@@ -146,13 +147,6 @@ module _ (loaded : List ℕ) where
       ap (λ m. max m (at loaded (block_size * n))) (longest_at_lem n)
       ∙ ap (λ k. max (greatest (λ g. g.size) (tab_from 0 n (group_at loaded))) (at loaded (block_size * k))) (sym (zero-add n))
       ∙ sym (greatest_next 0 n)
-
-  pub longest_eight : Flat loaded → (n : ℕ) → n ≤ 32 → longest_at loaded n ≤ 8
-  unfolding longest_at
-  longest_eight f zero h = omega arith
-  longest_eight f (suc n) h =
-      let a : longest_at loaded n ≤ 8 = longest_eight f n (omega arith) in
-      let b : at loaded (block_size * n) ≤ 8 = f.size n (omega arith) in omega arith
 
 -- words that are 0, and class starts put into them
 
@@ -264,15 +258,19 @@ put_together t n d w w1 w2 w3 w4 loaded q c l e room eq ec el ee e1 e2 e3 e4 =
 
 -- the count of states as it is answered
 
-pub states_over : (n r : ℕ) → r ≡ cond (ltb 256 n) 257 n → 256 < r → 256 < n
-states_over n r e h =
-    split (ltb 256 n) (λ t. ltb→lt 256 n t)
-    (λ f. let few : n ≤ 256 = nltb→le 256 n f in let z : r ≡ n = e ∙ ap (λ b. cond b 257 n) (le-ltb 256 n few) in absurd (omega arith))
+module _ (n : ℕ) where
+  abbrev counted_by : Bool → Option ℕ
+  counted_by b = cond b None (Some n)
 
-pub states_few : (n r : ℕ) → r ≡ cond (ltb 256 n) 257 n → r ≤ 256 → r ≡ n
-states_few n r e h =
-    split (ltb 256 n) (λ t. let z : r ≡ 257 = e ∙ ap (λ b. cond b 257 n) (lt-ltb 256 n (ltb→lt 256 n t)) in absurd (omega arith))
-    (λ f. e ∙ ap (λ b. cond b 257 n) (le-ltb 256 n (nltb→le 256 n f)))
+  pub states_over : None ≡ counted_by (ltb 256 n) → 256 < n
+  states_over e =
+      split (ltb 256 n) (λ t. ltb→lt 256 n t)
+      (λ f. absurd (none_not n (e ∙ ap counted_by (le-ltb 256 n (nltb→le 256 n f)))))
+
+  pub states_few : (r : ℕ) → Some r ≡ counted_by (ltb 256 n) → (n ≤ 256) × (r ≡ n)
+  states_few r e =
+      split (ltb 256 n) (λ t. absurd (none_not r (sym (e ∙ ap counted_by (lt-ltb 256 n (ltb→lt 256 n t))))))
+      (λ f. let few : n ≤ 256 = nltb→le 256 n f in (few, some_same r n (e ∙ ap counted_by (le-ltb 256 n few))))
 
 -- words that were cleared
 
@@ -354,15 +352,15 @@ module _ (b w : List ℕ) where
     unfolding compile compilable select
     compile_long = rw (le-ltb (length w) word_count room) refl
 
-    module _ (r : Load) (loaded : List ℕ) (l : LoadedBy (read_table b) r loaded) where
-      pub compile_refused : (n : ℕ) → r ≡ Load.Refused n → (refused n ≡ (compile b w).answer) × (pad word_count [] ++ drop word_count w ≡ (compile b w).words)
+    module _ (r : Outcome Load) (loaded : List ℕ) (l : LoadedBy (read_table b) r loaded) where
+      pub compile_refused : (n : ℕ) → r ≡ refused n → (refused n ≡ (compile b w).answer) × (pad word_count [] ++ drop word_count w ≡ (compile b w).words)
       unfolding and_then
       compile_refused n e =
           let q : read_table b ≡ refused n = is_refused b r loaded l n e in
           let a : (compile b w).answer ≡ refused n = ap (λ o. o.answer) (compile_long ∙ ap (λ o. compile_by (and_then o small) w) q) in
           (sym a, sym ((compile_answers b w).zeros n a (λ z. subst (λ m. read_table b ≡ refused m → ⊥) (sym z) (table_refused b 10) q)))
 
-      module _ (n : ℕ) (d : Kept) (e : r ≡ Load.Accepted n d) (bytes : Each (λ x. x < 256) b) where
+      module _ (n : ℕ) (d : Kept) (e : r ≡ accepted (record { rules = n; mode = d })) (bytes : Each (λ x. x < 256) b) where
         pub compile_flat : Flat loaded × (n ≤ 32)
         compile_flat = of_read b r loaded l n d e (λ l n d. Flat l × (n ≤ 32))
             (λ t q. (flat_flat t (is_shaped b t q bytes) (is_narrow b t q bytes), (is_shaped b t q bytes).few_rules))

@@ -1,7 +1,7 @@
 -- What a record adds to the bytes of a table: a range, an output character, a term or a group at the end adds its own bytes at the end.
 -- By recursion on the groups, positions, output characters and coefficients before it.
 use mathlib.Core.List.{List, [], ◌∷◌, ◌++◌, append-nil, append_assoc}
-use mathlib.Core.Option.{Option, none, some}
+use Rattle.std.specs.Prelude.{Option, None, Some}
 use mathlib.Core.Logic.{◌≢◌}
 use mathlib.Core.Path.{◌≡◌, refl, sym, ap, subst, ◌∙◌}
 use Prim.Native.Nat.{ℕ, suc, pred, ◌+◌, ◌≤◌}
@@ -119,15 +119,15 @@ none_written os w e j = subst (λ l. Joined OutputRecords l w) e j
 pub rule_ranges : (p : ℕ) (r : Range) (g : Group) → g.outputs ≡ [] → p ≤ length g.ranges → length g.ranges ≤ suc p →
     (b : List ℕ) → RuleRecords g b → RuleRecords (change_ranges (add_range p r) g) (b ++ range_record p r)
 rule_ranges p r g o h k b w =
-    let none : w.written ≡ [] = none_written g.outputs w.written o w.outputs in
+    let bare : w.written ≡ [] = none_written g.outputs w.written o w.outputs in
     let first = rule_record g.size g.anchored in
     let here = range_records 0 g.ranges in
     let bytes : b ++ range_record p r ≡ first ++ range_records 0 (add_range p r g.ranges) ++ w.written =
-    ap (λ l. l ++ range_record p r) (w.bytes ∙ ap (λ l. first ++ here ++ l) none ∙ append-nil (first ++ here))
+    ap (λ l. l ++ range_record p r) (w.bytes ∙ ap (λ l. first ++ here ++ l) bare ∙ append-nil (first ++ here))
     ∙ append_assoc first here (range_record p r)
     ∙ ap (λ l. first ++ l) (sym (range_written p r g.ranges h k))
     ∙ sym (append-nil (first ++ range_records 0 (add_range p r g.ranges)))
-    ∙ ap (λ l. first ++ range_records 0 (add_range p r g.ranges) ++ l) (sym none) in
+    ∙ ap (λ l. first ++ range_records 0 (add_range p r g.ranges) ++ l) (sym bare) in
     record { written = w.written; outputs = w.outputs; bytes = bytes }
 
 -- the table: its last group changed, a rule more, a default
@@ -137,7 +137,7 @@ pub table_latest : (f : Group → Group) (e : List ℕ) (rs : List Group) (d : O
     (T (is_some d) → (b : List ℕ) → DefaultRecords m (top rs d) b → DefaultRecords m (f (top rs d)) (b ++ e)) →
     (b : List ℕ) → Records b (record { rules = rs; default = d; mark = m }) → Records (b ++ e) (change_latest f (record { rules = rs; default = d; mark = m }))
 unfolding change_latest
-table_latest f e rs none m n h k b w =
+table_latest f e rs None m n h k b w =
     let some_rule : 1 ≤ length rs = omega (arith, length-append {A = Group} rs []) in
     record {
       first = w.first ++ e;
@@ -146,7 +146,7 @@ table_latest f e rs none m n h k b w =
       default = refl;
       bytes = ap (λ l. l ++ e) (w.bytes ∙ ap (λ l. w.first ++ l) w.default ∙ append-nil w.first) ∙ sym (append-nil (w.first ++ e));
     }
-table_latest f e rs (some g) m n h k b w =
+table_latest f e rs (Some g) m n h k b w =
     record {
       first = w.first;
       last = w.last ++ e;
@@ -155,9 +155,9 @@ table_latest f e rs (some g) m n h k b w =
       bytes = ap (λ l. l ++ e) w.bytes ∙ append_assoc w.first w.last e;
     }
 
-pub table_rule : (g : Group) (e : List ℕ) (rs : List Group) (d : Option Group) (m k : Mark) → d ≡ none → RuleRecords g e →
-    (b : List ℕ) → Records b (record { rules = rs; default = d; mark = m }) → Records (b ++ e) (record { rules = rs ++ (g ∷ []); default = none; mark = k })
-table_rule g e rs none m k n r b w =
+pub table_rule : (g : Group) (e : List ℕ) (rs : List Group) (d : Option Group) (m k : Mark) → d ≡ None → RuleRecords g e →
+    (b : List ℕ) → Records b (record { rules = rs; default = d; mark = m }) → Records (b ++ e) (record { rules = rs ++ (g ∷ []); default = None; mark = k })
+table_rule g e rs None m k n r b w =
     record {
       first = w.first ++ e;
       last = [];
@@ -165,11 +165,11 @@ table_rule g e rs none m k n r b w =
       default = refl;
       bytes = ap (λ l. l ++ e) (w.bytes ∙ ap (λ l. w.first ++ l) w.default ∙ append-nil w.first) ∙ sym (append-nil (w.first ++ e));
     }
-table_rule g e rs (some d) m k n r b w = absurd (let z : ◌≡◌ {A = ℕ} 0 1 = cc in omega arith)
+table_rule g e rs (Some d) m k n r b w = absurd (let z : ◌≡◌ {A = ℕ} 0 1 = cc in omega arith)
 
-pub table_default : (g : Group) (e : List ℕ) (rs : List Group) (d : Option Group) (m k : Mark) → d ≡ none → DefaultRecords k g e →
-    (b : List ℕ) → Records b (record { rules = rs; default = d; mark = m }) → Records (b ++ e) (record { rules = rs; default = some g; mark = k })
-table_default g e rs none m k n r b w =
+pub table_default : (g : Group) (e : List ℕ) (rs : List Group) (d : Option Group) (m k : Mark) → d ≡ None → DefaultRecords k g e →
+    (b : List ℕ) → Records b (record { rules = rs; default = d; mark = m }) → Records (b ++ e) (record { rules = rs; default = Some g; mark = k })
+table_default g e rs None m k n r b w =
     record {
       first = w.first;
       last = e;
@@ -177,11 +177,11 @@ table_default g e rs none m k n r b w =
       default = (e, [], r, refl, sym (append-nil e));
       bytes = ap (λ l. l ++ e) (w.bytes ∙ ap (λ l. w.first ++ l) w.default ∙ append-nil w.first);
     }
-table_default g e rs (some d) m k n r b w = absurd (let z : ◌≡◌ {A = ℕ} 0 1 = cc in omega arith)
+table_default g e rs (Some d) m k n r b w = absurd (let z : ◌≡◌ {A = ℕ} 0 1 = cc in omega arith)
 
 -- the last group after a change
 pub top_changed : (f : Group → Group) (rs : List Group) (d : Option Group) (m : Mark) → 1 ≤ length (rs ++ optional d) →
     (let t = change_latest f (record { rules = rs; default = d; mark = m }) in top t.rules t.default ≡ f (top rs d))
 unfolding change_latest
-top_changed f rs none m n = last_at_last f (every_character []) rs (omega (arith, length-append {A = Group} rs []))
-top_changed f rs (some g) m n = refl
+top_changed f rs None m n = last_at_last f (every_character []) rs (omega (arith, length-append {A = Group} rs []))
+top_changed f rs (Some g) m n = refl

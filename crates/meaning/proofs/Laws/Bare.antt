@@ -2,7 +2,7 @@
 -- By recursion on the rules and on the input; what is read back is found element by element.
 use mathlib.Core.Bool.{Bool, true, false, cond}
 use mathlib.Core.List.{List, [], ◌∷◌, map}
-use mathlib.Core.Option.{Option, none, some}
+use Rattle.std.specs.Prelude.{Option, None, Some}
 use mathlib.Core.Path.{◌≡◌, refl, sym, ap, ap₂, subst, ◌∙◌}
 use Prim.Native.Nat.{ℕ, zero, suc, pred, ◌+◌, ◌*◌, ◌≤◌, ◌<◌}
 use native.Mathlib.Nat.{add-zero}
@@ -29,8 +29,8 @@ abbrev pub bare_group : Group → Group
 bare_group g = record { size = g.size; anchored = g.anchored; ranges = g.ranges; outputs = [] }
 
 abbrev pub bare_default : Option Group → Option Group
-bare_default none = none
-bare_default (some g) = some (bare_group g)
+bare_default None = None
+bare_default (Some g) = Some (bare_group g)
 
 abbrev pub bare : Table → Table
 bare t = record { rules = map bare_group t.rules; default = bare_default t.default; mark = mark_by (mode t) }
@@ -44,8 +44,8 @@ module _ (t : Table) where
   group_bare n = of (eqb n pair_number) (eqb n default_number)
     where
       of_default : (d : Option Group) → (or_else (every_character []) (bare_default d)).size ≡ (or_else (every_character []) d).size
-      of_default none = refl
-      of_default (some g) = refl
+      of_default None = refl
+      of_default (Some g) = refl
 
       of : (p b : Bool) → (cond p pair_group (cond b (or_else (every_character []) (bare t).default) (rule_at (bare t) n))).size
           ≡ (cond p pair_group (cond b (or_else (every_character []) t.default) (rule_at t n))).size
@@ -57,15 +57,15 @@ module _ (t : Table) where
   mode_bare = of t.default t.mark
     where
       of : (d : Option Group) (k : Mark) → mode_of (bare_default d) (mark_by (mode_of d k)) ≡ mode_of d k
-      of none k = refl
-      of (some g) unmarked = refl
-      of (some g) marked = refl
+      of None k = refl
+      of (Some g) unmarked = refl
+      of (Some g) marked = refl
 
   better_bare : (o : Option ℕ) (r : ℕ) (b : Bool) → better (bare t) o r b ≡ better t o r b
-  better_bare none r false = refl
-  better_bare (some x) r false = refl
-  better_bare none r true = refl
-  better_bare (some x) r true = rw (rule_at_bare r, rule_at_bare x)
+  better_bare None r false = refl
+  better_bare (Some x) r false = refl
+  better_bare None r true = refl
+  better_bare (Some x) r true = rw (rule_at_bare r, rule_at_bare x)
 
   best_bare : (n : ℕ) (u : List ℕ) → best (bare t) n u ≡ best t n u
   unfolding best fits
@@ -88,8 +88,8 @@ module _ (t : Table) where
     where
       of : (o : Option ℕ) → ((skip : ℕ) → convert_from (bare t) skip u ≡ convert_from t skip u) →
           convert_by (bare t) o (c ∷ u) (λ skip. convert_from (bare t) skip u) ≡ convert_by t o (c ∷ u) (λ skip. convert_from t skip u)
-      of none onward = refl
-      of (some n) onward =
+      of None onward = refl
+      of (Some n) onward =
           ap (λ k. chosen (record { group = n; word = take k (c ∷ u) }) (convert_from (bare t) (pred k) u)) (group_bare n)
           ∙ ap (chosen (record { group = n; word = take (group t n).size (c ∷ u) })) (onward (pred (group t n).size))
 
@@ -177,17 +177,17 @@ table_flat t s w = ap₂ (λ rs d. record { rules = rs; default = d; mark = mark
         group_flat t r (omega arith) g (λ n f j i. rows_at n f t r j (omega arith) i ∙ ap (λ l. at l j) (rows_of_rule f t.rules t.default r (every_character []) few h)) sg.places sg.small ng.few
         ∙ sym (rule_at_bare t r))
 
-    there : (g : Group) (k : Mark) (h : Group) → default_by (mode_of (some g) k) h ≡ some h
+    there : (g : Group) (k : Mark) (h : Group) → default_by (mode_of (Some g) k) h ≡ Some h
     there g unmarked h = refl
     there g marked h = refl
 
     of : (d : Option Group) (k : Mark) → t.default ≡ d → Each ShapedDefault (optional d) → Each NarrowGroup (optional d) →
         default_by (mode_of d k) (group_at (loaded_words t) default_number) ≡ bare_default d
-    of none k e a b = refl
-    of (some g) k e a b =
+    of None k e a b = refl
+    of (Some g) k e a b =
         let one : g.size ≡ 1 = a.0.size in
         there g k (group_at (loaded_words t) default_number)
-        ∙ ap some (group_flat t 32 (lit< tt) g (λ n f j i. rows_at n f t 32 j (lit< tt) i ∙ ap (λ d. at (get_or (rows_of f t.rules d) 32 []) j) e ∙ ap (λ l. at l j) (rows_of_default f t.rules g))
+        ∙ ap Some (group_flat t 32 (lit< tt) g (λ n f j i. rows_at n f t 32 j (lit< tt) i ∙ ap (λ d. at (get_or (rows_of f t.rules d) 32 []) j) e ∙ ap (λ l. at l j) (rows_of_default f t.rules g))
         (ap length a.0.ranges ∙ sym one) (omega arith) b.0.few)
 
 -- by the array of a table its conversion

@@ -2,7 +2,7 @@
 -- By recursion on the number of rules looked at: each rule that fits is weighed against the choice so far.
 use mathlib.Core.Bool.{Bool, true, false, ◌||◌, not, cond}
 use mathlib.Core.List.{List, [], ◌∷◌}
-use mathlib.Core.Option.{Option, none, some}
+use Rattle.std.specs.Prelude.{Option, None, Some}
 use mathlib.Core.Path.{◌≡◌, refl, sym, ap, subst}
 use Prim.Native.Nat.{ℕ, zero, suc, min, ◌≤◌, ◌<◌}
 use native.Mathlib.Decide.{ℕ_discrete}
@@ -58,20 +58,20 @@ Before t r k = ((rule_at t r).size ≤ (rule_at t k).size) × ((rule_at t k).siz
 
 -- the choice among the rules below n
 abbrev pub Chosen : Table → ℕ → List ℕ → Option ℕ → Type 0
-Chosen t n u none = (r : ℕ) → r < n → Fits t r u → ⊥
-Chosen t n u (some r) = (r < n) × Fits t r u × ((k : ℕ) → k < n → Fits t k u → Before t r k)
+Chosen t n u None = (r : ℕ) → r < n → Fits t r u → ⊥
+Chosen t n u (Some r) = (r < n) × Fits t r u × ((k : ℕ) → k < n → Fits t k u → Before t r k)
 
 pub chosen_unique : (t : Table) (n : ℕ) (u : List ℕ) (a b : Option ℕ) → Chosen t n u a → Chosen t n u b → a ≡ b
-chosen_unique t n u none none c d = refl
-chosen_unique t n u none (some k) c d = absurd (c k d.0 d.1)
-chosen_unique t n u (some r) none c d = absurd (d r c.0 c.1)
-chosen_unique t n u (some r) (some k) c d =
+chosen_unique t n u None None c d = refl
+chosen_unique t n u None (Some k) c d = absurd (c k d.0 d.1)
+chosen_unique t n u (Some r) None c d = absurd (d r c.0 c.1)
+chosen_unique t n u (Some r) (Some k) c d =
     let a : Before t r k = c.2 k d.0 d.1 in
     let b : Before t k r = d.2 r c.0 c.1 in
     let x : r ≤ k = a.1 b.0 in
     let y : k ≤ r = b.1 a.0 in
     let e : r ≡ k = omega arith in
-    ap some e
+    ap Some e
 
 module _ (t : Table) (u : List ℕ) (r : ℕ) where
   -- what is shown of rule r and of the rules below is shown of the rules below r + 1
@@ -79,17 +79,17 @@ module _ (t : Table) (u : List ℕ) (r : ℕ) where
   one_more P p f k h = elim (ℕ_discrete k r) [ yes e ↦ subst (λ m. Fits t m u → P m) (sym e) p | no d ↦ f k (omega arith) ]
 
   skip_rule : (b : Option ℕ) → (Fits t r u → ⊥) → Chosen t r u b → Chosen t (suc r) u b
-  skip_rule none f c = one_more (λ k. ⊥) f c
-  skip_rule (some b) f c = let i : b < r = c.0 in (omega arith, c.1, one_more (Before t b) (λ g. absurd (f g)) c.2)
+  skip_rule None f c = one_more (λ k. ⊥) f c
+  skip_rule (Some b) f c = let i : b < r = c.0 in (omega arith, c.1, one_more (Before t b) (λ g. absurd (f g)) c.2)
 
   add_rule : (b : Option ℕ) (x : Bool) → (T x → Fits t r u) → (Fits t r u → T x) → Chosen t r u b → Chosen t (suc r) u (better t b r x)
   add_rule b false f g c = skip_rule b g c
-  add_rule none true f g c = (omega arith, f tt, one_more (Before t r) (λ g. (omega arith, λ j. omega arith)) (λ k l z. absurd (c k l z)))
-  add_rule (some b) true f g c =
+  add_rule None true f g c = (omega arith, f tt, one_more (Before t r) (λ g. (omega arith, λ j. omega arith)) (λ k l z. absurd (c k l z)))
+  add_rule (Some b) true f g c =
       let x = (rule_at t r).size in
       let y = (rule_at t b).size in
       let i : b < r = c.0 in
-      of_cond (λ m. Chosen t (suc r) u (some m)) (ltb x y) r b
+      of_cond (λ m. Chosen t (suc r) u (Some m)) (ltb x y) r b
       (λ s.
       let l : x < y = ltb→lt x y s in (
         omega arith,
@@ -115,22 +115,22 @@ pub data Numbered (t : Table) (u : List ℕ) (n : ℕ) : Type 0 where
   plain : n < pair_number → Numbered t u n
   paired : n ≡ pair_number → mode t ≡ Paired → T (starts_pair u) → Numbered t u n
 
-pub choose_number : (t : Table) → Shaped t → (u : List ℕ) (n : ℕ) → choose t u ≡ some n → Numbered t u n
+pub choose_number : (t : Table) → Shaped t → (u : List ℕ) (n : ℕ) → choose t u ≡ Some n → Numbered t u n
 unfolding choose
 choose_number t s u n p = from (best t (length t.rules) u) (best_chosen t (length t.rules) u) p
   where
-    by_pair : (b : Bool) → starts_pair u ≡ b → mode t ≡ Paired → some (cond b pair_number default_number) ≡ some n → Numbered t u n
+    by_pair : (b : Bool) → starts_pair u ≡ b → mode t ≡ Paired → Some (cond b pair_number default_number) ≡ Some n → Numbered t u n
     by_pair true e m q = let i : 33 ≡ n = cc in paired (sym i) m (rw e tt)
     by_pair false e m q = let i : 32 ≡ n = cc in plain (omega arith)
 
-    by_mode : (m : Mode) → mode t ≡ m → or_default m u none ≡ some n → Numbered t u n
+    by_mode : (m : Mode) → mode t ≡ m → or_default m u None ≡ Some n → Numbered t u n
     by_mode Absent e q = let z : ◌≡◌ {A = ℕ} 0 1 = cc in absurd (omega arith)
     by_mode Single e q = let i : 32 ≡ n = cc in plain (omega arith)
     by_mode Paired e q = by_pair (starts_pair u) refl e q
 
-    from : (b : Option ℕ) → Chosen t (length t.rules) u b → or_default (mode t) u b ≡ some n → Numbered t u n
-    from none c q = by_mode (mode t) refl q
-    from (some r) c q = let i : r ≡ n = cc in let few : length t.rules ≤ 32 = s.few_rules in let l : r < length t.rules = c.0 in plain (omega arith)
+    from : (b : Option ℕ) → Chosen t (length t.rules) u b → or_default (mode t) u b ≡ Some n → Numbered t u n
+    from None c q = by_mode (mode t) refl q
+    from (Some r) c q = let i : r ≡ n = cc in let few : length t.rules ≤ 32 = s.few_rules in let l : r < length t.rules = c.0 in plain (omega arith)
 
 -- such a pair is there
 pub pair_there : (u : List ℕ) → T (starts_pair u) → 2 ≤ length u

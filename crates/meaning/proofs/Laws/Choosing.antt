@@ -1,16 +1,16 @@
 -- How Definition 7's choice is found on the loaded array: range by range, position by position, rule by rule.
 -- Each loop's test of what is left is the test of its next element and of what is left then.
-use mathlib.Core.Bool.{Bool, true, false, ◌&&◌, ◌||◌, not, cond, or-false}
+use mathlib.Core.Bool.{Bool, true, false, ◌&&◌, ◌||◌, not, or-false}
 use mathlib.Core.List.{List, [], ◌∷◌}
-use mathlib.Core.Option.{Option, none, some}
+use Rattle.std.specs.Prelude.{Option, None, Some}
 use mathlib.Core.Path.{◌≡◌, refl, sym, ap, ◌∙◌}
 use Prim.Native.Nat.{ℕ, suc, ◌+◌, ◌-◌, ◌*◌, ◌≤◌, ◌<◌}
-use native.Mathlib.Nat.{add-zero, zero-add}
+use native.Mathlib.Nat.{zero-add}
 use native.Mathlib.Numerals.{add-one}
 use native.Mathlib.Omega.{arith}
 use borrow.Author.Tests.{eqb-true, lt-ltb, le-ltb, eq-eqb, ne_eqb}
-use lib.Dec.{T, eqb, leb, ltb}
-use lib.ListN.{length, take, drop, length-take, length-drop}
+use lib.Dec.{T, eqb}
+use lib.ListN.{length, take, drop, length-take, drop_of_length-le}
 use lib.Seq.{drop-cons}
 use Rattle.lists.specs.Lists.{tab_from}
 use Rattle.lists.proofs.Laws.Tests.{and-true}
@@ -19,7 +19,7 @@ use Rattle.meaning.specs.Table.{Range, Group, Table, within, in_ranges, every_ch
 use Rattle.meaning.specs.Block.{at, block_size}
 use Rattle.meaning.specs.Value.{fits_word}
 use Rattle.meaning.specs.Meaning.{fits, better, best, or_default, choose}
-use Rattle.meaning.specs.bridge.Flat.{slots_from, ranges_from, range_at, ranges_at, pattern_at, group_at, table_at}
+use Rattle.meaning.specs.bridge.Flat.{slots_from, range_at, ranges_at, pattern_at, group_at, table_at}
 use Rattle.meaning.proofs.Laws.Prefix.{fits_word_length}
 
 -- the n characters from place a on
@@ -56,43 +56,28 @@ module _ (loaded : List ℕ) (place c : ℕ) where
   in_from_end k h = ap (λ rs. in_ranges rs c) (tab_end (range_at loaded place) (at loaded (slots_from + place)) k h)
 
   -- a position with one range
-  pub one_range : (b : Bool) → at loaded (slots_from + place) ≡ 1 →
-      let i = ranges_from + 8 * place in b ≡ leb (at loaded i) c && leb c (at loaded (i + 1)) → in_ranges (ranges_at loaded place) c ≡ b
+  pub one_range : (b : Bool) → at loaded (slots_from + place) ≡ 1 → b ≡ within c (range_at loaded place 0) → b ≡ in_ranges (ranges_at loaded place) c
   one_range b one e =
-      let i : ranges_from + 8 * place + 2 * 0 ≡ ranges_from + 8 * place = omega arith in
-      in_from_start
-      ∙ in_from_next 0 b (omega arith) (rw i e)
-      ∙ ap (λ x. b || x) (in_from_end 1 (omega arith))
-      ∙ or-false b
+      sym (in_from_start ∙ in_from_next 0 b (omega arith) e ∙ ap (λ x. b || x) (in_from_end 1 (omega arith)) ∙ or-false b)
 
--- the characters from place a + p on lie in the ranges of the positions from p on
-module _ (loaded : List ℕ) (place size : ℕ) (u : List ℕ) (a : ℕ) where
+-- the characters of the word from number p on lie in the ranges of the positions from p on
+module _ (loaded : List ℕ) (place : ℕ) (w : List ℕ) where
   abbrev position_at : ℕ → List Range
   position_at p = ranges_at loaded (place + p)
 
   abbrev pub fits_from : ℕ → Bool
-  fits_from p = fits_word (tab_from p (size - p) position_at) (take (size - p) (drop (a + p) u))
+  fits_from p = fits_word (tab_from p (length w - p) position_at) (drop p w)
 
-  pub fits_from_start : fits_word (tab_from 0 size position_at) (take size (drop a u)) ≡ fits_from 0
-  fits_from_start =
-      let e : size ≡ size - 0 = omega arith in
-      ap (λ n. fits_word (tab_from 0 n position_at) (take n (drop a u))) e ∙ ap (λ b. fits_word (tab_from 0 (size - 0) position_at) (take (size - 0) (drop b u))) (sym (add-zero a))
+  pub fits_from_start : fits_word (tab_from 0 (length w) position_at) w ≡ fits_from 0
+  fits_from_start = ap (λ ps. fits_word ps w) (tab_start position_at (length w))
 
-  pub fits_from_next : (p : ℕ) (b : Bool) → p < size → a + size ≤ length u → b ≡ in_ranges (position_at p) (at u (a + p)) → fits_from p ≡ b && fits_from (p + 1)
+  pub fits_from_next : (p : ℕ) (b : Bool) → p < length w → b ≡ in_ranges (position_at p) (at w p) → fits_from p ≡ b && fits_from (p + 1)
   unfolding fits_word
-  fits_from_next p b h k e =
-      let i : a + p < length u = omega arith in
-      let j : size - p ≡ suc (size - (p + 1)) = omega arith in
-      let m : a + p + 1 ≡ a + (p + 1) = omega arith in
-      ap (λ ps. fits_word ps (take (size - p) (drop (a + p) u))) (tab_next position_at size p h)
-      ∙ ap (fits_word (position_at p ∷ tab_from (p + 1) (size - (p + 1)) position_at)) (take_next u (a + p) (size - p) (size - (p + 1)) i j)
-      ∙ ap (λ n. in_ranges (position_at p) (at u (a + p)) && fits_word (tab_from (p + 1) (size - (p + 1)) position_at) (take (size - (p + 1)) (drop n u))) m
-      ∙ ap (λ x. x && fits_from (p + 1)) (sym e)
+  fits_from_next p b h e = rw (tab_next position_at (length w) p h, drop-cons w p 0 h, ← add-one p, ← e) refl
 
-  pub fits_from_end : (p : ℕ) → size ≤ p → fits_from p ≡ true
+  pub fits_from_end : (p : ℕ) → length w ≤ p → fits_from p ≡ true
   unfolding fits_word
-  fits_from_end p h =
-      let e : size - p ≡ 0 = omega arith in ap (λ n. fits_word (tab_from p n position_at) (take n (drop (a + p) u))) e
+  fits_from_end p h = rw (tab_end position_at (length w) p h, drop_of_length-le w h) refl
 
 -- when a group fits
 
@@ -121,82 +106,77 @@ module _ (g : Group) (rest : List ℕ) where
       ends false h = refl
       ends true h = eq-eqb (length rest) g.size (h refl)
 
--- the same of a group read back, on the input from place a on
-module _ (loaded : List ℕ) (g : ℕ) (u : List ℕ) (a : ℕ) where
+-- the same of a group read back
+module _ (loaded : List ℕ) (g : ℕ) (rest : List ℕ) where
   abbrev size : ℕ
   size = at loaded (block_size * g)
 
   abbrev fitting : Bool
-  fitting = fits (group_at loaded g) (drop a u)
+  fitting = fits (group_at loaded g) rest
 
-  pub flat_short : length u - a < size → fitting ≡ false
+  pub flat_short : length rest < size → fitting ≡ false
   unfolding group_at pattern_at
-  flat_short h =
-      fits_short (group_at loaded g) (drop a u) (length_tab (λ p. ranges_at loaded (8 * g + p)) 0 size) (rw length-drop h)
+  flat_short h = fits_short (group_at loaded g) rest (length_tab (λ p. ranges_at loaded (8 * g + p)) 0 size) h
 
-  pub flat_early : at loaded (block_size * g + 1) ≡ 1 → size < length u - a → fitting ≡ false
+  pub flat_early : at loaded (block_size * g + 1) ≡ 1 → size < length rest → fitting ≡ false
   unfolding group_at
-  flat_early e h = fits_early (group_at loaded g) (drop a u) (eq-eqb (at loaded (block_size * g + 1)) 1 e) (rw length-drop h)
+  flat_early e h = fits_early (group_at loaded g) rest (eq-eqb (at loaded (block_size * g + 1)) 1 e) h
 
-  pub flat_word : (b : Bool) → (at loaded (block_size * g + 1) ≡ 1 → length u - a ≡ size) →
-      b ≡ fits_word (tab_from 0 size (λ p. ranges_at loaded (8 * g + p))) (take size (drop a u)) → b ≡ fitting
+  pub flat_word : (b : Bool) → (at loaded (block_size * g + 1) ≡ 1 → length rest ≡ size) →
+      b ≡ fits_word (tab_from 0 size (λ p. ranges_at loaded (8 * g + p))) (take size rest) → b ≡ fitting
   unfolding group_at pattern_at
   flat_word b f e =
-      e ∙ sym (fits_word_lem (group_at loaded g) (drop a u) (λ e. length-drop a u ∙ f (eqb-true (at loaded (block_size * g + 1)) 1 e)))
+      e ∙ sym (fits_word_lem (group_at loaded g) rest (λ e. f (eqb-true (at loaded (block_size * g + 1)) 1 e)))
 
--- the choice among the first rules, kept as two numbers: the rule and its length, or n and 9 for none
+-- the best among the first rules, kept with its length, or with 9 where there is none
 module _ (loaded : List ℕ) (n : ℕ) (d : Mode) (u : List ℕ) where
   abbrev table : Table
   table = table_at loaded n d
 
-  abbrev pub Kept : Option ℕ → ℕ → ℕ → Type 0
-  Kept none b l = (b ≡ n) × (l ≡ 9)
-  Kept (some x) b l = (b ≡ x) × (x < n) × (l ≡ at loaded (block_size * x))
+  abbrev Kept : Option ℕ → ℕ → Type 0
+  Kept None l = l ≡ 9
+  Kept (Some x) l = (x < n) × (l ≡ at loaded (block_size * x))
 
   -- among the rules below r
-  abbrev pub KeptOf : ℕ → ℕ → ℕ → Type 0
-  KeptOf r b l = Kept (best table r u) b l
+  abbrev pub KeptOf : ℕ → Option ℕ → ℕ → Type 0
+  KeptOf r b l = (b ≡ best table r u) × Kept b l
 
   rule_size : (r : ℕ) → r < n → (rule_at table r).size ≡ at loaded (block_size * r)
   unfolding group_at
   rule_size r h = ap (λ g. g.size) (rule_at_lem loaded n d r h)
 
-  pub kept_none : KeptOf 0 n 9
+  pub kept_none : KeptOf 0 None 9
   unfolding best
   kept_none = (refl, refl)
 
-  module _ (r b l : ℕ) (h : r < n) where
-    by_rule : (P : Option ℕ → Type 0) → P (better table (best table r u) r (fits (group_at loaded r) u)) → P (best table (r + 1) u)
+  module _ (r : ℕ) (b : Option ℕ) (l : ℕ) (h : r < n) (k : KeptOf r b l) where
+    best_next : best table (r + 1) u ≡ better table b r (fits (group_at loaded r) u)
     unfolding best
-    by_rule P p = rw (add-one r, rule_at_lem loaded n d r h) p
+    best_next = rw (add-one r, rule_at_lem loaded n d r h, k.0) refl
 
     -- rule r does not fit, or is no shorter than what is kept
-    pub kept_skip : (f : Bool) → f ≡ fits (group_at loaded r) u → f ≡ false → KeptOf r b l → KeptOf (r + 1) b l
-    kept_skip f p e k = by_rule (λ o. Kept o b l) (rw (← p, e) k)
+    pub kept_skip : (f : Bool) → f ≡ fits (group_at loaded r) u → f ≡ false → KeptOf (r + 1) b l
+    kept_skip f p e = (sym (best_next ∙ ap (better table b r) (sym p ∙ e)), k.1)
 
-    pub kept_longer : l ≤ at loaded (block_size * r) → at loaded (block_size * r) ≤ 8 → KeptOf r b l → KeptOf (r + 1) b l
-    kept_longer m s k = by_rule (λ o. Kept o b l) (go (best table r u) (fits (group_at loaded r) u) k)
+    pub kept_longer : l ≤ at loaded (block_size * r) → at loaded (block_size * r) ≤ 8 → KeptOf (r + 1) b l
+    kept_longer m s = (sym (best_next ∙ go b (fits (group_at loaded r) u) k.1), k.1)
       where
-        go : (o : Option ℕ) (f : Bool) → Kept o b l → Kept (better table o r f) b l
-        go none false k = k
-        go (some x) false k = k
-        go none true k = absurd (omega arith)
-        go (some x) true k =
-            rw (rule_size r h, rule_size x k.1, le-ltb (at loaded (block_size * r)) (at loaded (block_size * x)) (omega arith)) k
+        go : (o : Option ℕ) (f : Bool) → Kept o l → better table o r f ≡ o
+        go None false k = refl
+        go (Some x) false k = refl
+        go None true k = absurd (omega arith)
+        go (Some x) true k =
+            rw (rule_size r h, rule_size x k.0, le-ltb (at loaded (block_size * r)) (at loaded (block_size * x)) (omega arith)) refl
 
     -- rule r fits and is shorter
-    pub kept_shorter : (f : Bool) → at loaded (block_size * r) < l → f ≡ fits (group_at loaded r) u → f ≡ true → KeptOf r b l → KeptOf (r + 1) r (at loaded (block_size * r))
-    kept_shorter f m p e k = by_rule (λ o. Kept o r (at loaded (block_size * r))) (rw (← p, e) (go (best table r u) k))
+    pub kept_shorter : (f : Bool) → at loaded (block_size * r) < l → f ≡ fits (group_at loaded r) u → f ≡ true → KeptOf (r + 1) (Some r) (at loaded (block_size * r))
+    kept_shorter f m p e = (sym (best_next ∙ ap (better table b r) (sym p ∙ e) ∙ go b k.1), (h, refl))
       where
-        go : (o : Option ℕ) → Kept o b l → Kept (better table o r true) r (at loaded (block_size * r))
-        go none k = (refl, h, refl)
-        go (some x) k =
-            rw (rule_size r h, rule_size x k.1, lt-ltb (at loaded (block_size * r)) (at loaded (block_size * x)) (omega arith)) (refl, h, refl)
+        go : (o : Option ℕ) → Kept o l → better table o r true ≡ Some r
+        go None k = refl
+        go (Some x) k =
+            rw (rule_size r h, rule_size x k.0, lt-ltb (at loaded (block_size * r)) (at loaded (block_size * x)) (omega arith)) refl
 
-  pub kept_choose : (b l : ℕ) → KeptOf n b l → choose table u ≡ cond (ltb b n) (some b) (or_default d u none)
+  pub kept_choose : (b : Option ℕ) (l : ℕ) → KeptOf n b l → choose table u ≡ or_default d u b
   unfolding choose table_at
-  kept_choose b l k = rw (mode_at_lem loaded n d) (ap (λ m. or_default d u (best table m u)) (length_tab (group_at loaded) 0 n) ∙ go (best table n u) k)
-    where
-      go : (o : Option ℕ) → Kept o b l → or_default d u o ≡ cond (ltb b n) (some b) (or_default d u none)
-      go none k = rw (le-ltb b n (omega arith)) refl
-      go (some x) k = rw (lt-ltb b n (omega arith)) (ap some (sym k.0))
+  kept_choose b l k = rw (mode_at_lem loaded n d, length_tab (group_at loaded) 0 n, ← k.0) refl

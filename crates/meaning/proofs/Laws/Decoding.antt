@@ -2,7 +2,7 @@
 -- The kind decides which of the tests can pass; bytes below 256 make numbers below 65536 and 2 ^ 32.
 use mathlib.Core.Bool.{Bool, true, false}
 use mathlib.Core.List.{List, [], ◌∷◌}
-use mathlib.Core.Option.{Option, none, some}
+use Rattle.std.specs.Prelude.{Option, None, Some}
 use mathlib.Core.Logic.{◌≢◌, ◌⊎◌, inl, inr}
 use mathlib.Core.Path.{◌≡◌, refl, sym, ap, subst, ◌∙◌}
 use Prim.Native.Nat.{ℕ, zero, suc, ◌+◌, ◌*◌, ◌^◌, ◌≤◌, ◌<◌}
@@ -38,14 +38,14 @@ decode_at b i kind h e = rw (eight_elements b i h, e) refl
 -- each kind: its record where all of its tests pass, and else none
 
 abbrev pub only_if_lem : List Bool → Record → Option Record
-only_if_lem tests x = select ((all_of tests, some x) ∷ []) none
+only_if_lem tests x = select ((all_of tests, Some x) ∷ []) None
 
 -- test number i fails; or all pass
-pub refuses : (i : ℕ) (tests : List Bool) (x : Record) → get_or tests i true ≡ false → none ≡ only_if_lem tests x
-refuses i tests x e = sym (select_next (some x) [] none (one_fails i tests e) ∙ select_last none)
+pub refuses : (i : ℕ) (tests : List Bool) (x : Record) → get_or tests i true ≡ false → None ≡ only_if_lem tests x
+refuses i tests x e = sym (select_next (Some x) [] None (one_fails i tests e) ∙ select_last None)
 
-pub accepts : (tests : List Bool) (x : Record) → all_of tests ≡ true → some x ≡ only_if_lem tests x
-accepts tests x e = sym (select_here (some x) [] none e)
+pub accepts : (tests : List Bool) (x : Record) → all_of tests ≡ true → Some x ≡ only_if_lem tests x
+accepts tests x e = sym (select_here (Some x) [] None e)
 
 pub zero_first : (a : ℕ) → eqb 0 a ≡ eqb a 0
 zero_first a =
@@ -92,7 +92,7 @@ module _ (p b2 b3 b4 b5 b6 b7 : ℕ) where
   unfolding decode select all_of
   decode_hexadecimal = rw (← zero_first b3) (simp (and_assoc, and-true))
 
-pub decode_unknown : (kind : ℕ) (rest : List ℕ) → kind ≢ 1 → kind ≢ 2 → kind ≢ 3 → kind ≢ 4 → kind ≢ 5 → kind ≢ 6 → decode (kind ∷ rest) ≡ none
+pub decode_unknown : (kind : ℕ) (rest : List ℕ) → kind ≢ 1 → kind ≢ 2 → kind ≢ 3 → kind ≢ 4 → kind ≢ 5 → kind ≢ 6 → decode (kind ∷ rest) ≡ None
 unfolding decode select all_of
 decode_unknown kind rest h1 h2 h3 h4 h5 h6 =
     simp (ne_eqb kind 1 h1, ne_eqb kind 2 h2, ne_eqb kind 3 h3, ne_eqb kind 4 h4, ne_eqb kind 5 h5, ne_eqb kind 6 h6)
@@ -122,8 +122,8 @@ FittingRecord (default k) = Unit {0}
 FittingRecord (hexadecimal p shift) = (p ≤ 7) × T (is_shift shift)
 
 abbrev IfRecord : Option Record → Type 0
-IfRecord none = Unit {0}
-IfRecord (some x) = FittingRecord x
+IfRecord None = Unit {0}
+IfRecord (Some x) = FittingRecord x
 
 byte_at : (b : List ℕ) (i : ℕ) → Each (λ x. x < 256) b → get_or b i 0 < 256
 byte_at [] i e = omega arith
@@ -135,7 +135,7 @@ unfolding decode
 fits b e =
     let lo : get_or b 4 0 + 256 * get_or b 5 0 < 65536 = omega (arith, byte_at b 4 e, byte_at b 5 e) in
     let hi : get_or b 6 0 + 256 * get_or b 7 0 < 65536 = omega (arith, byte_at b 6 e, byte_at b 7 e) in
-    by_cases IfRecord _ none (
+    by_cases IfRecord _ None (
       λ t. let h = holds _ t in (leb→le _ _ h.1.0, leb→le _ _ h.1.1.0),
       λ _. (
         λ t. let h = holds _ t in (leb→le _ _ h.1.0, leb→le _ _ h.1.1.1.0, hi),
@@ -149,5 +149,5 @@ fits b e =
       ),
     )
 
-pub decode_fits : (b : List ℕ) → Each (λ x. x < 256) b → (x : Record) → decode b ≡ some x → FittingRecord x
+pub decode_fits : (b : List ℕ) → Each (λ x. x < 256) b → (x : Record) → decode b ≡ Some x → FittingRecord x
 decode_fits b e x p = subst IfRecord p (fits b e)

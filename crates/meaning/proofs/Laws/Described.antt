@@ -2,7 +2,7 @@
 -- Each record that is taken in keeps that of the bytes and the groups read so far.
 use mathlib.Core.Bool.{Bool, true, false, ◌&&◌, ◌||◌, not}
 use mathlib.Core.List.{List, [], ◌∷◌, ◌++◌, append-nil, append_assoc}
-use mathlib.Core.Option.{Option, none, some}
+use Rattle.std.specs.Prelude.{Option, None, Some}
 use mathlib.Core.Logic.{◌≢◌}
 use mathlib.Core.Path.{◌≡◌, refl, sym, ap, subst, ◌∙◌}
 use Prim.Native.Nat.{ℕ, zero, suc, ◌+◌, ◌*◌, ◌/◌, ◌%◌, ◌≤◌, ◌<◌}
@@ -83,35 +83,35 @@ pub record Formed (g : Group) : Type 0 where
   pub outputs : Each (WellFormedOutput g.size) g.outputs
 
 abbrev FormedTable : Table → Type 0
-FormedTable t = Each Formed t.rules × Each Formed (optional t.default) × (t.default ≡ none → t.mark ≡ unmarked)
+FormedTable t = Each Formed t.rules × Each Formed (optional t.default) × (t.default ≡ None → t.mark ≡ unmarked)
 
 formed_latest : (f : Group → Group) (rs : List Group) (d : Option Group) (m : Mark) → (Formed (top rs d) → Formed (f (top rs d))) →
     FormedTable (record { rules = rs; default = d; mark = m }) → FormedTable (change_latest f (record { rules = rs; default = d; mark = m }))
 unfolding change_latest
-formed_latest f rs none m h w = (last_each Formed f (every_character []) rs h w.0, tt, w.2)
-formed_latest f rs (some g) m h w = (w.0, (h w.1.0, tt), λ e. absurd (let z : ◌≡◌ {A = ℕ} 0 1 = cc in omega arith))
+formed_latest f rs None m h w = (last_each Formed f (every_character []) rs h w.0, tt, w.2)
+formed_latest f rs (Some g) m h w = (w.0, (h w.1.0, tt), λ e. absurd (let z : ◌≡◌ {A = ℕ} 0 1 = cc in omega arith))
 
 some_latest : (f : Group → Group) (rs : List Group) (d : Option Group) (m : Mark) → 1 ≤ length (rs ++ optional d) → 1 ≤ length (groups (change_latest f (record { rules = rs; default = d; mark = m })))
 unfolding change_latest
-some_latest f rs none m n = rw length-append (omega (arith, at_last_length f rs, length-append {A = Group} rs []))
-some_latest f rs (some g) m n = rw length-append (omega arith)
+some_latest f rs None m n = rw length-append (omega (arith, at_last_length f rs, length-append {A = Group} rs []))
+some_latest f rs (Some g) m n = rw length-append (omega arith)
 
-none_latest : (f : Group → Group) (rs : List Group) (d : Option Group) (m : Mark) → d ≡ none → (change_latest f (record { rules = rs; default = d; mark = m })).default ≡ none
+none_latest : (f : Group → Group) (rs : List Group) (d : Option Group) (m : Mark) → d ≡ None → (change_latest f (record { rules = rs; default = d; mark = m })).default ≡ None
 unfolding change_latest
-none_latest f rs none m e = refl
-none_latest f rs (some g) m e = absurd (let z : ◌≡◌ {A = ℕ} 0 1 = cc in omega arith)
+none_latest f rs None m e = refl
+none_latest f rs (Some g) m e = absurd (let z : ◌≡◌ {A = ℕ} 0 1 = cc in omega arith)
 
 -- what has been read
 pub record Described (s : Reading) (b : List ℕ) : Type 0 where
   pub records : Records b s.table
   pub formed : FormedTable s.table
   pub begun : s.kind ≢ 0 → 1 ≤ length (groups s.table)
-  pub bare : T (ranging s) → ((latest s).outputs ≡ []) × (s.table.default ≡ none)
+  pub bare : T (ranging s) → ((latest s).outputs ≡ []) × (s.table.default ≡ None)
   pub writing : T (eqb s.kind 3 || eqb s.kind 4) → (1 ≤ length (latest s).outputs) × IsSum (last_d (sum (pos 0) []) (latest s).outputs)
 
-pub is_none : {A : Type 0} (d : Option A) → T (not (is_some d)) → d ≡ none
-is_none none t = refl
-is_none (some a) t = absurd t
+pub is_none : {A : Type 0} (d : Option A) → T (not (is_some d)) → d ≡ None
+is_none None t = refl
+is_none (Some a) t = absurd t
 
 and_fails : (a b : Bool) → T (not (a && b)) → T a → T (not b)
 and_fails true b t u = t
@@ -266,8 +266,8 @@ unfolding read_one
 one_described s c l y b w = go (decode c) refl
   where
     go : (o : Option Record) → decode c ≡ o → IfRead (b ++ c) (read_one s o)
-    go none e = tt
-    go (some x) e =
+    go None e = tt
+    go (Some x) e =
         by_cases (IfRead (b ++ c)) _ (accepted (taken s x)) (
           λ _. tt,
           λ m. (

@@ -3,7 +3,7 @@
 use mathlib.Core.Bool.{Bool, true, false, ◌||◌, not, cond}
 use mathlib.Core.List.{List, [], ◌∷◌, ◌++◌, append_assoc}
 use mathlib.Core.Logic.{◌↔◌}
-use mathlib.Core.Option.{none, some}
+use Rattle.std.specs.Prelude.{None, Some}
 use mathlib.Core.Path.{◌≡◌, refl, sym, ap, ◌∙◌}
 use Prim.Native.Nat.{ℕ, suc, ◌+◌, ◌*◌, ◌/◌, ◌%◌, ◌^◌, ◌≤◌, ◌<◌}
 use native.Mathlib.Nat.{mod-lt}
@@ -42,7 +42,7 @@ unfolding decode select all_of
 kind_6 p shift rest = refl
 
 -- a record that is one is not refused by 2
-not_2 : (s : Reading) (x : Record) → read_one s (some x) ≡ refused 2 → ⊥
+not_2 : (s : Reading) (x : Record) → read_one s (Some x) ≡ refused 2 → ⊥
 unfolding read_one
 not_2 s x =
     by_cases (λ o. o ≡ refused 2 → ⊥) _ (accepted (taken s x)) (
@@ -57,13 +57,13 @@ refused_2 : (s : Reading) (p shift : ℕ) (rest : List ℕ) → read_one s (deco
 refused_2 s p shift rest e h =
     let tests : List Bool = leb p 7 ∷ is_shift shift ∷ zeros rest ∷ [] in
     let all : T (all_of tests) = to_all_of tests (le→leb p 7 h.0, (h.1, (each_all (eqb 0) rest (λ x z. eq→eqb 0 x (sym z)) h.2, tt))) in
-    not_2 s (hexadecimal p shift) (sym (ap (read_one s) (kind_6 p shift rest ∙ select_here (some (hexadecimal p shift)) [] none (of_T (all_of tests) all))) ∙ e)
+    not_2 s (hexadecimal p shift) (sym (ap (read_one s) (kind_6 p shift rest ∙ select_here (Some (hexadecimal p shift)) [] None (of_T (all_of tests) all))) ∙ e)
 
 to_2 : (s : Reading) (p shift : ℕ) (rest : List ℕ) → (RightBytes p shift rest → ⊥) → read_one s (decode (6 ∷ p ∷ shift ∷ rest)) ≡ refused 2
 unfolding read_one
 to_2 s p shift rest h =
     ap (read_one s) (kind_6 p shift rest)
-    ∙ by_cases (λ o. read_one s o ≡ refused 2) ((all_of (leb p 7 ∷ is_shift shift ∷ zeros rest ∷ []), some (hexadecimal p shift)) ∷ []) none (
+    ∙ by_cases (λ o. read_one s o ≡ refused 2) ((all_of (leb p 7 ∷ is_shift shift ∷ zeros rest ∷ []), Some (hexadecimal p shift)) ∷ []) None (
       λ t. let k = holds _ t in absurd (h (leb→le p 7 k.0, k.1.0, all_each (eqb 0) rest (λ x z. sym (eqb→eq 0 x z)) k.1.1.0)),
       λ _. refl,
     )
@@ -138,7 +138,7 @@ position_3 s p shift l t h =
 abbrev pub TakenTo : Reading → Record → Reading → Type 0
 TakenTo s x s' = T (not (misplaced s x)) × (s' ≡ taken s x)
 
-pub one_taken : (s s' : Reading) (x : Record) → read_one s (some x) ≡ accepted s' → TakenTo s x s'
+pub one_taken : (s s' : Reading) (x : Record) → read_one s (Some x) ≡ accepted s' → TakenTo s x s'
 unfolding read_one
 one_taken s s' x =
     by_cases (λ o. o ≡ accepted s' → TakenTo s x s') _ (accepted (taken s x)) (
@@ -152,7 +152,7 @@ one_taken s s' x =
 decoded_taken : (s s' : Reading) (p shift : ℕ) → read_one s (decode (digit_record p shift)) ≡ accepted s' → TakenTo s (hexadecimal p shift) s'
 unfolding read_one
 decoded_taken s s' p shift e =
-    by_cases (λ o. read_one s o ≡ accepted s' → TakenTo s (hexadecimal p shift) s') ((all_of (leb p 7 ∷ is_shift shift ∷ true ∷ []), some (hexadecimal p shift)) ∷ []) none
+    by_cases (λ o. read_one s o ≡ accepted s' → TakenTo s (hexadecimal p shift) s') ((all_of (leb p 7 ∷ is_shift shift ∷ true ∷ []), Some (hexadecimal p shift)) ∷ []) None
     (λ _. one_taken s s' (hexadecimal p shift), λ _ q. absurd (accepted_not s' 2 (sym q)))
     (sym (ap (read_one s) (kind_6 p shift (0 ∷ 0 ∷ 0 ∷ 0 ∷ 0 ∷ []))) ∙ e)
 
@@ -179,7 +179,7 @@ appended b p shift s s' y lead on =
 
 -- a term behind it
 
-pub known_term : {r : List ℕ} → Known r → get_or r 0 0 ≡ 4 → (p : ℕ) × (a : ℕ) × (decode r ≡ some (term p a))
+pub known_term : {r : List ℕ} → Known r → get_or r 0 0 ≡ 4 → (p : ℕ) × (a : ℕ) × (decode r ≡ Some (term p a))
 known_term (described.rule k a h l) e = absurd (omega arith)
 known_term (described.range p r h w) e = absurd (omega arith)
 known_term (described.output c s) e = absurd (omega arith)
@@ -187,7 +187,7 @@ known_term (described.term x h s d) e = (_, _, read_term x.position x.coefficien
 known_term (described.default m) e = absurd (omega arith)
 known_term (described.hexadecimal p shift h s) e = absurd (omega arith)
 
-term_3 : (s : Reading) (p a : ℕ) → s.kind ≡ 6 → read_one s (some (term p a)) ≡ refused 3
+term_3 : (s : Reading) (p a : ℕ) → s.kind ≡ 6 → read_one s (Some (term p a)) ≡ refused 3
 unfolding read_one misplaced
 term_3 s p a e = select_here (refused 3) _ _ (rw e refl)
 

@@ -2,7 +2,7 @@
 -- Numbers by dividing by 256 and by the two cases of a sign; records by the tests of their kind.
 use mathlib.Core.Bool.{Bool, true, false, cond}
 use mathlib.Core.List.{List, [], ◌∷◌}
-use mathlib.Core.Option.{none, some}
+use Rattle.std.specs.Prelude.{None, Some}
 use mathlib.Core.Logic.{◌≢◌}
 use mathlib.Core.Path.{◌≡◌, refl, sym, ap, subst, ◌∙◌}
 use Prim.Native.Nat.{ℕ, zero, suc, ◌+◌, ◌*◌, ◌-◌, ◌/◌, ◌%◌, ◌^◌, ◌≤◌, ◌<◌}
@@ -111,11 +111,11 @@ bytes_of (term p a) = term_record (record { position = p; coefficient = signed 1
 bytes_of (default m) = default_record m
 bytes_of (hexadecimal p shift) = digit_record p shift
 
-pub no_record : {x : Record} → none ≡ some x → ⊥
+pub no_record : {x : Record} → None ≡ Some x → ⊥
 no_record e = let z : ◌≡◌ {A = ℕ} 0 1 = cc in omega arith
 
-pub only_some : (tests : List Bool) (x y : Record) → only_if_lem tests x ≡ some y → Each T tests × (x ≡ y)
-only_some tests x y = by_cases (λ o. o ≡ some y → Each T tests × (x ≡ y)) ((all_of tests, some x) ∷ []) none (λ t e. (holds tests t, cc), λ _ e. absurd (no_record e))
+pub only_some : (tests : List Bool) (x y : Record) → only_if_lem tests x ≡ Some y → Each T tests × (x ≡ y)
+only_some tests x y = by_cases (λ o. o ≡ Some y → Each T tests × (x ≡ y)) ((all_of tests, Some x) ∷ []) None (λ t e. (holds tests t, cc), λ _ e. absurd (no_record e))
 
 all_zero_lem : (bs : List ℕ) → T (zeros bs) → Each (λ x. 0 ≡ x) bs
 all_zero_lem bs t = all_each (eqb 0) bs (λ x. eqb→eq 0 x) t
@@ -132,7 +132,7 @@ mark_flag x h = go (eqb x 1) refl
 
 module _ (p b2 b3 b4 b5 b6 b7 : ℕ) (y : Record) where
   abbrev Of : ℕ → Type 0
-  Of kind = Bytes (kind ∷ p ∷ b2 ∷ b3 ∷ b4 ∷ b5 ∷ b6 ∷ b7 ∷ []) → decode (kind ∷ p ∷ b2 ∷ b3 ∷ b4 ∷ b5 ∷ b6 ∷ b7 ∷ []) ≡ some y →
+  Of kind = Bytes (kind ∷ p ∷ b2 ∷ b3 ∷ b4 ∷ b5 ∷ b6 ∷ b7 ∷ []) → decode (kind ∷ p ∷ b2 ∷ b3 ∷ b4 ∷ b5 ∷ b6 ∷ b7 ∷ []) ≡ Some y →
       kind ∷ p ∷ b2 ∷ b3 ∷ b4 ∷ b5 ∷ b6 ∷ b7 ∷ [] ≡ bytes_of y
 
   of_rule : Of 1
@@ -221,7 +221,7 @@ module _ (p b2 b3 b4 b5 b6 b7 : ℕ) (y : Record) where
       ]
 
 -- what eight bytes are read to has those bytes
-pub encode_decode : (b : List ℕ) → length b ≡ 8 → Bytes b → (x : Record) → decode b ≡ some x → b ≡ bytes_of x
+pub encode_decode : (b : List ℕ) → length b ≡ 8 → Bytes b → (x : Record) → decode b ≡ Some x → b ≡ bytes_of x
 encode_decode [] l s x e = absurd (omega arith)
 encode_decode (a ∷ []) l s x e = absurd (omega arith)
 encode_decode (a ∷ b ∷ []) l s x e = absurd (omega arith)
@@ -235,14 +235,14 @@ encode_decode (a ∷ b ∷ c ∷ d ∷ f ∷ g ∷ h ∷ i ∷ j ∷ k) l s x e 
 
 -- and the bytes of a record are read to it
 
-only_if : (tests : List Bool) (x : Record) → Each T tests → only_if_lem tests x ≡ some x
+only_if : (tests : List Bool) (x : Record) → Each T tests → only_if_lem tests x ≡ Some x
 only_if tests x h = sym (accepts tests x (of_T (all_of tests) (to_all_of tests h)))
 
-pub read_rule : (k : ℕ) (a : Bool) → 1 ≤ k → k ≤ 8 → decode (rule_record k a) ≡ some (rule k a)
+pub read_rule : (k : ℕ) (a : Bool) → 1 ≤ k → k ≤ 8 → decode (rule_record k a) ≡ Some (rule k a)
 read_rule k true h l = decode_rule k 1 0 0 0 0 0 ∙ only_if _ _ (le→leb 1 k h, (le→leb k 8 l, (tt, (tt, (tt, (tt, tt))))))
 read_rule k false h l = decode_rule k 0 0 0 0 0 0 ∙ only_if _ _ (le→leb 1 k h, (le→leb k 8 l, (tt, (tt, (tt, (tt, tt))))))
 
-pub read_range : (p : ℕ) (r : Range) → p ≤ 7 → WellFormedRange r → decode (range_record p r) ≡ some (range p r)
+pub read_range : (p : ℕ) (r : Range) → p ≤ 7 → WellFormedRange r → decode (range_record p r) ≡ Some (range p r)
 unfolding little_endian
 read_range p r h w =
     let o : r.lowest ≤ r.highest = w.ordered in
@@ -252,7 +252,7 @@ read_range p r h w =
     decode_range p 0 0 (r.lowest % 256) (r.lowest / 256 % 256) (r.highest % 256) (r.highest / 256 % 256)
     ∙ rw (lo, hi) (only_if _ _ (le→leb p 7 h, (tt, (le→leb _ _ o, tt))))
 
-pub read_output : (c : ℤ) → Signed 32 c → decode (output_record c) ≡ some (output (twos_complement 32 c))
+pub read_output : (c : ℤ) → Signed 32 c → decode (output_record c) ≡ Some (output (twos_complement 32 c))
 unfolding little_endian
 read_output c s =
     let x = twos_complement 32 c in
@@ -260,16 +260,16 @@ read_output c s =
     ∙ rw (four_read x (bits_below 32 half_32 c s)) (only_if _ _ (tt, (tt, tt)))
 
 pub read_term : (p : ℕ) (a : ℤ) → p ≤ 7 → Signed 16 a → a ≢ pos 0 →
-    decode (term_record (record { position = p; coefficient = a })) ≡ some (term p (twos_complement 16 a))
+    decode (term_record (record { position = p; coefficient = a })) ≡ Some (term p (twos_complement 16 a))
 unfolding little_endian
 read_term p a h s d =
     let x = twos_complement 16 a in
     decode_term p 0 0 (x % 256) (x / 256 % 256) 0 0
     ∙ rw (two_read x (bits_below 16 half_16 a s)) (only_if _ _ (le→leb p 7 h, (tt, (tt, (le→leb 1 x (bits_named 16 half_16 a s d), tt)))))
 
-pub read_default : (m : Mark) → decode (default_record m) ≡ some (default m)
+pub read_default : (m : Mark) → decode (default_record m) ≡ Some (default m)
 read_default unmarked = decode_default 0 0 0 0 0 0 0 ∙ only_if _ _ (tt, (tt, (tt, (tt, tt))))
 read_default marked = decode_default 1 0 0 0 0 0 0 ∙ only_if _ _ (tt, (tt, (tt, (tt, tt))))
 
-pub read_hexadecimal : (p shift : ℕ) → p ≤ 7 → T (is_shift shift) → decode (digit_record p shift) ≡ some (hexadecimal p shift)
+pub read_hexadecimal : (p shift : ℕ) → p ≤ 7 → T (is_shift shift) → decode (digit_record p shift) ≡ Some (hexadecimal p shift)
 read_hexadecimal p shift h s = decode_hexadecimal p shift 0 0 0 0 0 ∙ only_if _ _ (le→leb p 7 h, (s, (tt, (tt, (tt, tt)))))

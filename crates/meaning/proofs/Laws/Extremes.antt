@@ -3,19 +3,18 @@
 use mathlib.Core.Bool.{Bool, true, false, not, cond, beq}
 use mathlib.Core.List.{List, [], ◌∷◌, map}
 use mathlib.Core.Path.{◌≡◌, refl, sym, ap, ap₂, ◌∙◌, subst}
-use Prim.Native.Nat.{ℕ, zero, suc, ◌+◌, ◌*◌, ◌-◌, ◌^◌, min, max, ◌≤◌, ◌<◌}
+use Prim.Native.Nat.{ℕ, suc, ◌+◌, ◌*◌, ◌-◌, min, max, ◌≤◌, ◌<◌}
 use native.Mathlib.Omega.{arith}
-use native.Mathlib.Nat.{mul-le-mul, zero-mul}
 use native.Mathlib.Numerals.{add-one}
-use borrow.Author.Tests.{not-true, not-false, lt-ltb, le-ltb, le-leb, lt-leb}
-use lib.Dec.{T, leb, ltb, leb→le, le→leb, nltb→le, ltb→lt}
-use lib.IntN.{ℤ, pos, negsuc, neg_ℤ, sub_ℕ, ◌+ℤ◌, ◌-ℤ◌, ◌*ℤ◌, +ℤ_assoc, +ℤ_comm, neg_ℤ-+ℤ}
+use borrow.Author.Tests.{not-true, not-false}
+use lib.Dec.{T}
+use lib.IntN.{ℤ, pos, ◌+ℤ◌, ◌*ℤ◌}
 use lib.ListN.{length, take, drop}
 use lib.Seq.{drop-cons}
 use lib.Signed.{le_z, non_neg}
 use Rattle.lists.specs.Lists.{tab_from}
 use Rattle.lists.specs.Decide.{for_below}
-use Rattle.lists.proofs.Laws.Tests.{test_eq, of_cond, below}
+use Rattle.lists.proofs.Laws.Tests.{test_eq, below}
 use Rattle.meaning.specs.Table.{Range, sum}
 use Rattle.meaning.specs.Block.{at, block_size, entry_size}
 use Rattle.meaning.specs.Reader.{signed}
@@ -75,91 +74,6 @@ module _ (f : ℕ → Range) (n : ℕ) where
       by_end true = rw (rest, later) refl
       by_end false = rw (rest, later) refl
 
--- A difference, with a number added to either side.
-
-pub difference : (p n : ℕ) → sub_ℕ p n ≡ pos p -ℤ pos n
-difference p zero = of_cond (λ z. z ≡ pos (p + 0)) (ltb p 0) (negsuc (0 - suc p)) (pos (p - 0))
-    (λ t. let h : p < 0 = ltb→lt p 0 t in absurd (omega arith)) (λ t. let e : p - 0 ≡ p + 0 = omega arith in ap pos e)
-difference p (suc n) = refl
-
-pub add_plus : (p n m : ℕ) → sub_ℕ (p + m) n ≡ pos m +ℤ sub_ℕ p n
-add_plus p n m =
-    difference (p + m) n
-    ∙ ap (λ z. z -ℤ pos n) (+ℤ_comm (pos p) (pos m))
-    ∙ +ℤ_assoc (pos m) (pos p) (neg_ℤ (pos n))
-    ∙ ap (λ z. pos m +ℤ z) (sym (difference p n))
-
-pub add_minus : (p n m : ℕ) → sub_ℕ p (n + m) ≡ neg_ℤ (pos m) +ℤ sub_ℕ p n
-add_minus p n m =
-    difference p (n + m)
-    ∙ ap (λ z. pos p +ℤ z) (neg_ℤ-+ℤ (pos n) (pos m))
-    ∙ sym (+ℤ_assoc (pos p) (neg_ℤ (pos n)) (neg_ℤ (pos m)))
-    ∙ +ℤ_comm (pos p -ℤ pos n) (neg_ℤ (pos m))
-    ∙ ap (λ z. neg_ℤ (pos m) +ℤ z) (sym (difference p n))
-
--- a number of n bits, by its sign
-
-pub signed_plus : (n x : ℕ) → x < 2 ^ (n - 1) → signed n x ≡ pos x
-unfolding signed
-signed_plus n x h = rw (lt-ltb x (2 ^ (n - 1)) h) refl
-
-pub signed_minus : (n x : ℕ) → 2 ^ (n - 1) ≤ x → x < 2 ^ n → signed n x ≡ neg_ℤ (pos (2 ^ n - x))
-unfolding signed
-signed_minus n x h k =
-    let e : 2 ^ n - x ≡ suc (2 ^ n - suc x) = omega arith in
-    rw (le-ltb x (2 ^ (n - 1)) h, lt-ltb x (2 ^ n) k, e) refl
-
-by_sign : (x y : ℕ) (b : Bool) → non_neg (cond b (pos x) (negsuc y)) ≡ b
-by_sign x y true = refl
-by_sign x y false = refl
-
-pub signed_sign : (n x : ℕ) → x < 2 ^ n → non_neg (signed n x) ≡ ltb x (2 ^ (n - 1))
-unfolding signed
-signed_sign n x h = rw (lt-ltb x (2 ^ n) h) (by_sign x (2 ^ n - suc x) (ltb x (2 ^ (n - 1))))
-
-pub negative_product : (m c : ℕ) → neg_ℤ (pos m) *ℤ pos c ≡ neg_ℤ (pos (m * c))
-negative_product zero c = rw zero-mul refl
-negative_product (suc m) c = refl
-
--- A difference, with a coefficient times a character added, or a constant.
-module _ (p n a c : ℕ) where
-  pub product_plus : a < 2 ^ 15 → sub_ℕ (p + a * c) n ≡ signed 16 a *ℤ pos c +ℤ sub_ℕ p n
-  product_plus h = add_plus p n (a * c) ∙ ap (λ z. z *ℤ pos c +ℤ sub_ℕ p n) (sym (signed_plus 16 a h))
-
-  pub product_minus : 2 ^ 15 ≤ a → a < 2 ^ 16 → sub_ℕ p (n + (2 ^ 16 - a) * c) ≡ signed 16 a *ℤ pos c +ℤ sub_ℕ p n
-  product_minus h k =
-      add_minus p n ((2 ^ 16 - a) * c)
-      ∙ ap (λ z. z +ℤ sub_ℕ p n) (sym (negative_product (2 ^ 16 - a) c))
-      ∙ ap (λ z. z *ℤ pos c +ℤ sub_ℕ p n) (sym (signed_minus 16 a h k))
-
-pub product_small : (a c : ℕ) → a ≤ 2 ^ 16 → c ≤ 2 ^ 16 → a * c ≤ 2 ^ 32
-product_small a c h k = mul-le-mul h k
-
-module _ (p n c : ℕ) where
-  pub constant_plus : c < 2 ^ 31 → sub_ℕ (p + c) n ≡ signed 32 c +ℤ sub_ℕ p n
-  constant_plus h = add_plus p n c ∙ ap (λ z. z +ℤ sub_ℕ p n) (sym (signed_plus 32 c h))
-
-  pub constant_minus : 2 ^ 31 ≤ c → c < 2 ^ 32 → sub_ℕ p (n + (2 ^ 32 - c)) ≡ signed 32 c +ℤ sub_ℕ p n
-  constant_minus h k = add_minus p n (2 ^ 32 - c) ∙ ap (λ z. z +ℤ sub_ℕ p n) (sym (signed_minus 32 c h k))
-
--- A difference is not negative, and is at most 65535.
-
-pub not_negative : (p n : ℕ) → le_z (pos 0) (sub_ℕ p n) ≡ leb n p
-not_negative p n =
-    of_cond (λ z. le_z (pos 0) z ≡ leb n p) (ltb p n) (negsuc (n - suc p)) (pos (p - n))
-    (λ t. sym (lt-leb n p (ltb→lt p n t)))
-    (λ t. le-leb 0 (p - n) (omega arith) ∙ sym (le-leb n p (nltb→le p n t)))
-
-pub at_most : (p n : ℕ) → le_z (sub_ℕ p n) (pos 65535) ≡ leb p (n + 65535)
-at_most p n =
-    of_cond (λ z. le_z z (pos 65535) ≡ leb p (n + 65535)) (ltb p n) (negsuc (n - suc p)) (pos (p - n))
-    (λ t. let h : p < n = ltb→lt p n t in sym (le-leb p (n + 65535) (omega arith)))
-    (λ t.
-    let h : n ≤ p = nltb→le p n t in
-    test_eq (leb (p - n) 65535) (leb p (n + 65535))
-    (λ u. let k : p - n ≤ 65535 = leb→le (p - n) 65535 u in le→leb p (n + 65535) (omega arith))
-    (λ u. let k : p ≤ n + 65535 = leb→le p (n + 65535) u in le→leb (p - n) 65535 (omega arith)))
-
 -- The sum over the positions from k on of output character j of group g: over none, with one before, and over all.
 
 abbrev pub coefficients_from : List ℕ → ℕ → ℕ → ℕ → List ℤ
@@ -202,15 +116,15 @@ module _ (sign : Bool) (loaded : List ℕ) (g j : ℕ) where
       let ks : coefficients_from loaded g j k ≡ map (signed 16) (take n (drop (block_size * g + 5 + entry_size * j) loaded)) = rw (e, d) refl in
       rw (ks, tab_whole (λ p. ranges_at loaded (8 * g + p)) k n h) refl
 
--- refusal 7's test of an output character by the two differences
-module _ (ps : List (List Range)) (c : ℤ) (ks : List ℤ) {x : ℤ} (dotted : x ≡ dot ks (extreme true ks ps)) (p n : ℕ) (least : sub_ℕ p n ≡ c +ℤ x) where
-  pub unsafe_low : p < n → safe_output ps (sum c ks) ≡ false
+-- refusal 7's test of an output character by its least and its greatest value
+module _ (ps : List (List Range)) (c : ℤ) (ks : List ℤ) {x : ℤ} (least : x ≡ c +ℤ dot ks (extreme true ks ps)) where
+  pub unsafe_low : le_z (pos 0) x ≡ false → safe_output ps (sum c ks) ≡ false
   unfolding safe_output value
-  unsafe_low h = rw (← dotted, ← least, not_negative, lt-leb n p h) refl
+  unsafe_low e = rw (← least, e) refl
 
-  pub safe_high : {y : ℤ} → y ≡ dot ks (extreme false ks ps) → (q m : ℕ) → sub_ℕ q m ≡ c +ℤ y → n ≤ p → safe_output ps (sum c ks) ≡ leb q (m + 65535)
+  pub safe_high : {y : ℤ} → y ≡ c +ℤ dot ks (extreme false ks ps) → le_z (pos 0) x ≡ true → safe_output ps (sum c ks) ≡ le_z y (pos 65535)
   unfolding safe_output value
-  safe_high e q m greatest h = rw (← dotted, ← least, ← e, ← greatest, not_negative, le-leb n p h) (at_most q m)
+  safe_high greatest e = rw (← least, e, ← greatest) refl
 
 -- a test at each number below n, one after another, by the answer r at k
 module _ (p : ℕ → Bool) where

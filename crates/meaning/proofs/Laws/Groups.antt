@@ -2,7 +2,7 @@
 -- Each is a group of the table's list, over which the longest pattern and the expansion are the greatest values.
 use mathlib.Core.Bool.{true, false≢true, cond}
 use mathlib.Core.List.{List, [], ◌∷◌}
-use mathlib.Core.Option.{Option, none, some}
+use Rattle.std.specs.Prelude.{Option, None, Some}
 use mathlib.Core.Logic.{◌≢◌}
 use mathlib.Core.Path.{◌≡◌, refl, ap, ap₂, subst, ◌∙◌}
 use Prim.Native.Nat.{ℕ, ◌≤◌, ◌<◌}
@@ -23,7 +23,7 @@ pub rule_shaped : (t : Table) → Shaped t → (r : ℕ) → r < length t.rules 
 rule_shaped t s r h = each_get_d ShapedGroup t.rules r (every_character []) s.rules h
 
 -- what holds of the default, if there is one
-pub default_each : (P : Group → Type 0) (t : Table) (g : Group) → t.default ≡ some g → Each P (optional t.default) → P g
+pub default_each : (P : Group → Type 0) (t : Table) (g : Group) → t.default ≡ Some g → Each P (optional t.default) → P g
 default_each P t g e a = (subst (λ o. Each P (optional o)) e a).0
 
 -- the groups of the numbers
@@ -39,7 +39,7 @@ group_rule t r s h =
     of_cond (λ g. g ≡ rule_at t r) (eqb r default_number) (or_else (every_character []) t.default) (rule_at t r)
     (λ e. let p : r ≡ 32 = eqb→eq r 32 e in absurd (omega arith)) (λ e. refl))
 
-pub group_default : (t : Table) (g : Group) → t.default ≡ some g → group t default_number ≡ g
+pub group_default : (t : Table) (g : Group) → t.default ≡ Some g → group t default_number ≡ g
 unfolding group
 group_default t g p = rw p
 
@@ -48,14 +48,14 @@ unfolding group
 group_pair t = refl
 
 -- a mode with a default
-pub some_default : (o : Option Group) (k : Mark) → present (mode_of o k) ≡ true → (g : Group) × (o ≡ some g)
-some_default none k e = absurd (false≢true e)
-some_default (some g) k e = (g, refl)
+pub some_default : (o : Option Group) (k : Mark) → present (mode_of o k) ≡ true → (g : Group) × (o ≡ Some g)
+some_default None k e = absurd (false≢true e)
+some_default (Some g) k e = (g, refl)
 
 pub mode_present : (o : Option Group) (k : Mark) → present (mode_of o k) ≡ is_some o
-mode_present none k = refl
-mode_present (some g) unmarked = refl
-mode_present (some g) marked = refl
+mode_present None k = refl
+mode_present (Some g) unmarked = refl
+mode_present (Some g) marked = refl
 
 pub default_size : (t : Table) → Shaped t → present (mode t) ≡ true → (group t default_number).size ≡ 1
 default_size t s h =
@@ -97,8 +97,8 @@ group_short t n other =
     (λ _. each_anywhere Short t.rules n (every_character []) (each_front Short t.rules (optional t.default) short) (omega arith)))
   where
     of_default : (E : ℕ) (d : Option Group) → Each (λ g. length g.outputs ≤ E) (optional d) → length (or_else (every_character []) d).outputs ≤ E
-    of_default E none h = omega arith
-    of_default E (some g) h = h.0
+    of_default E None h = omega arith
+    of_default E (Some g) h = h.0
 
 pub least_small : (m : Mode) → least m ≤ 1
 least_small Absent = omega arith

@@ -2,7 +2,7 @@
 -- Each choice is made at a character of its own, and no group writes more than E characters; a pair has two characters of its own, and E is
 -- at least 1 where one is chosen.
 use mathlib.Core.List.{List, [], ◌∷◌}
-use mathlib.Core.Option.{Option, none, some}
+use Rattle.std.specs.Prelude.{Option, None, Some}
 use mathlib.Core.Path.{◌≡◌, refl, ap, subst, ◌∙◌}
 use Prim.Native.Nat.{ℕ, zero, suc, pred, ◌+◌, ◌-◌, ◌*◌, ◌≤◌}
 use native.Mathlib.Nat.{mul-suc, mul-le-mul_left}
@@ -33,7 +33,7 @@ text_from t s zero (c ∷ rest) =
     rw z (go (choose t (c ∷ rest)) refl (λ skip. text_from t s skip rest))
   where
     by : (n : ℕ) → Numbered t (c ∷ rest) n → ((skip : ℕ) → length (text_of (writes t) (convert_from t skip rest).log) ≤ expansion t * (length rest - skip)) →
-        length (text_of (writes t) (convert_by t (some n) (c ∷ rest) (λ skip. convert_from t skip rest)).log) ≤ expansion t * suc (length rest)
+        length (text_of (writes t) (convert_by t (Some n) (c ∷ rest) (λ skip. convert_from t skip rest)).log) ≤ expansion t * suc (length rest)
     by n (plain l) h =
         let E = expansion t in
         let k = (group t n).size in
@@ -56,8 +56,8 @@ text_from t s zero (c ∷ rest) =
 
     go : (o : Option ℕ) → choose t (c ∷ rest) ≡ o → ((skip : ℕ) → length (text_of (writes t) (convert_from t skip rest).log) ≤ expansion t * (length rest - skip)) →
         length (text_of (writes t) (convert_by t o (c ∷ rest) (λ skip. convert_from t skip rest)).log) ≤ expansion t * suc (length rest)
-    go none p h = omega arith
-    go (some n) p h = by n (choose_number t s (c ∷ rest) n p) h
+    go None p h = omega arith
+    go (Some n) p h = by n (choose_number t s (c ∷ rest) n p) h
 
 pub text_short : (t : Table) → Shaped t → (input : List ℕ) → length (meaning_text t input) ≤ expansion t * length input
 unfolding convert

@@ -2,7 +2,7 @@
 -- The records before the one at fault were taken in; a rule, once taken in, stays.
 use mathlib.Core.Bool.{not}
 use mathlib.Core.List.{List, [], ◌∷◌, ◌++◌}
-use mathlib.Core.Option.{Option, none, some}
+use Rattle.std.specs.Prelude.{Option, None, Some}
 use mathlib.Core.Logic.{◌≢◌, ◌↔◌}
 use mathlib.Core.Path.{◌≡◌, refl, sym, ap, ap₂, subst, ◌∙◌}
 use Prim.Native.Nat.{ℕ, zero, suc, ◌+◌, ◌*◌, ◌-◌, ◌/◌, ◌%◌, ◌≤◌, ◌<◌}
@@ -25,7 +25,7 @@ use Rattle.meaning.proofs.Laws.Reading.{at_last_length}
 use Rattle.meaning.proofs.Laws.Encoding.{no_record, bytes_of, encode_decode, read_rule, read_range, read_output, read_term, read_default, read_hexadecimal}
 
 -- bytes of a known record are read to a record
-known_read : {r : List ℕ} → Known r → decode r ≡ none → ⊥
+known_read : {r : List ℕ} → Known r → decode r ≡ None → ⊥
 known_read (described.rule k a h l) e = no_record (sym e ∙ read_rule k a h l)
 known_read (described.range p r h w) e = no_record (sym e ∙ read_range p r h w)
 known_read (described.output c s) e = no_record (sym e ∙ read_output c s)
@@ -52,8 +52,8 @@ one_fault s c l = go (decode (take 8 c)) refl
     other k h d = record { length_asked = λ e. omega arith; rule_asked = d; unknown = λ e. absurd (omega arith) }
 
     go : (o : Option Record) → decode (take 8 c) ≡ o → IfFault c (read_one s o)
-    go none e = record { length_asked = λ q. omega arith; rule_asked = λ q. omega arith; unknown = λ _. (0, l, λ k. known_read k e) }
-    go (some x) e =
+    go None e = record { length_asked = λ q. omega arith; rule_asked = λ q. omega arith; unknown = λ _. (0, l, λ k. known_read k e) }
+    go (Some x) e =
         by_cases (IfFault c) _ (accepted (taken s x)) (
           λ _. other 3 (omega arith) (λ q. omega arith),
           λ _. (λ _. other 4 (omega arith) (λ q. omega arith), λ _. (λ _. other 6 (omega arith) (λ q. omega arith), λ _. tt)),
@@ -97,8 +97,8 @@ kind_of r = get_or r 0 0
 
 change_count : (f : Group → Group) (rs : List Group) (d : Option Group) (m : Mark) → length (change_latest f (record { rules = rs; default = d; mark = m })).rules ≡ length rs
 unfolding change_latest
-change_count f rs none m = at_last_length f rs
-change_count f rs (some g) m = refl
+change_count f rs None m = at_last_length f rs
+change_count f rs (Some g) m = refl
 
 -- a record that leaves the table without a rule is not one of a rule, and found it so
 taken_none : (s : Reading) (x : Record) → count (taken s x) ≡ 0 → (count s ≡ 0) × (kind_of (bytes_of x) ≢ 1)
@@ -119,8 +119,8 @@ unfolding read_one
 one_none s r l y = go (decode r) refl
   where
     go : (o : Option Record) → decode r ≡ o → OneNone r s (read_one s o)
-    go none d = tt
-    go (some x) d =
+    go None d = tt
+    go (Some x) d =
         by_cases (OneNone r s) _ (accepted (taken s x)) (
           λ _. tt,
           λ _. (

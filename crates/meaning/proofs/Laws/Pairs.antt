@@ -3,7 +3,7 @@
 use mathlib.Core.Bool.{false, ◌&&◌, cond}
 use mathlib.Core.List.{List, [], ◌∷◌, ◌++◌}
 use mathlib.Core.Logic.{◌≢◌}
-use mathlib.Core.Option.{Option, none, some}
+use Rattle.std.specs.Prelude.{Option, None, Some}
 use mathlib.Core.Path.{◌≡◌, refl, sym, ap, subst, ◌∙◌}
 use Prim.Native.Nat.{ℕ, ◌≤◌, ◌<◌}
 use native.Mathlib.Omega.{arith}
@@ -26,11 +26,11 @@ use Rattle.meaning.proofs.Laws.Described.{well_formed_shaped}
 use Rattle.meaning.proofs.Laws.Writing.{convert_step}
 
 -- where no rule fits, the mode chooses
-none_fits : (t : Table) (rest : List ℕ) → mode t ≡ Paired → NoneFits t rest → choose t rest ≡ or_default Paired rest none
-none_fits t rest m h = choose_is t rest none (λ r b f. h r b (facts_fit t r rest f)) ∙ ap (λ k. or_default k rest none) m
+none_fits : (t : Table) (rest : List ℕ) → mode t ≡ Paired → NoneFits t rest → choose t rest ≡ or_default Paired rest None
+none_fits t rest m h = choose_is t rest None (λ r b f. h r b (facts_fit t r rest f)) ∙ ap (λ k. or_default k rest None) m
 
 -- a choice of a group with as many characters as the word, which writes out for it
-writes_first : (t : Table) (n : ℕ) (word out rest : List ℕ) → 1 ≤ length word → (group t n).size ≡ length word → choose t (word ++ rest) ≡ some n →
+writes_first : (t : Table) (n : ℕ) (word out rest : List ℕ) → 1 ≤ length word → (group t n).size ≡ length word → choose t (word ++ rest) ≡ Some n →
     written (group t n) word ≡ out → Writes t n word out rest
 unfolding convert text_of
 writes_first t n word out rest l e c w =
@@ -57,12 +57,12 @@ starts_none x (y ∷ rest) h =
 
 -- the choice is that among the rules where one fits
 rule_first : (t : Table) (rest : List ℕ) (r : ℕ) → r < length t.rules → T (fits (rule_at t r) rest) →
-    (n : ℕ) × (choose t rest ≡ some n) × (n < length t.rules)
+    (n : ℕ) × (choose t rest ≡ Some n) × (n < length t.rules)
 rule_first t rest r l f = from (best t (length t.rules) rest) (best_chosen t (length t.rules) rest)
   where
-    from : (b : Option ℕ) → Chosen t (length t.rules) rest b → (n : ℕ) × (choose t rest ≡ some n) × (n < length t.rules)
-    from none c = absurd (c r l (fits_facts t r rest f))
-    from (some n) c = (n, choose_is t rest (some n) c, c.0)
+    from : (b : Option ℕ) → Chosen t (length t.rules) rest b → (n : ℕ) × (choose t rest ≡ Some n) × (n < length t.rules)
+    from None c = absurd (c r l (fits_facts t r rest f))
+    from (Some n) c = (n, choose_is t rest (Some n) c, c.0)
 
 refuses_mark : (s : Reading) (m : ℕ) → 1 < m → read_one s (decode (default_with m)) ≡ refused 2
 unfolding read_one
@@ -77,11 +77,11 @@ pairs_meant =
       rules_first = rule_first;
       both = λ t m x y rest f g h.
           writes_first t pair_number (x ∷ y ∷ []) (x ∷ y ∷ []) rest (omega arith) (ap (λ k. k.size) (group_pair t))
-          (none_fits t (x ∷ y ∷ rest) m h ∙ ap (λ b. some (cond b pair_number default_number)) (of_T (is_first x && is_second y) (both (is_first x) (is_second y) f g)))
+          (none_fits t (x ∷ y ∷ rest) m h ∙ ap (λ b. Some (cond b pair_number default_number)) (of_T (is_first x && is_second y) (both (is_first x) (is_second y) f g)))
           (ap (λ k. written k (x ∷ y ∷ [])) (group_pair t) ∙ written_pair x y);
       alone = λ t W m x rest n h.
           writes_first t default_number (x ∷ []) _ rest (omega arith) (default_size t (well_formed_shaped t W) (ap present m))
-          (none_fits t (x ∷ rest) m h ∙ ap (λ b. some (cond b pair_number default_number)) (starts_none x rest n)) refl;
+          (none_fits t (x ∷ rest) m h ∙ ap (λ b. Some (cond b pair_number default_number)) (starts_none x rest n)) refl;
       unmarked = λ t W m rest e. no_pair t m rest (choose_number t (well_formed_shaped t W) rest pair_number e);
       at_least = λ t m. subst (λ k. least k ≤ expansion t) m (least_le t);
     }

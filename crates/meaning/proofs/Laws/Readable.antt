@@ -2,7 +2,7 @@
 -- The records of each position, output character and group are taken in, in turn, and lead to the table with that part at its end.
 use mathlib.Core.Bool.{Bool, true, false, ◌&&◌, ◌||◌, not, cond}
 use mathlib.Core.List.{List, [], ◌∷◌, ◌++◌, append-nil, append_assoc}
-use mathlib.Core.Option.{Option, none, some}
+use Rattle.std.specs.Prelude.{Option, None, Some}
 use mathlib.Core.Logic.{◌≢◌}
 use mathlib.Core.Path.{◌≡◌, refl, sym, ap, subst, ◌∙◌}
 use Prim.Native.Nat.{ℕ, suc, ◌+◌, ◌*◌, ◌/◌, ◌%◌, ◌≤◌, ◌<◌}
@@ -50,7 +50,7 @@ then {s} {s'' = s''} {c = c} (next a {d = d} l e q) r = subst (λ x. Reads s x s
 moved : {s s' s'' : Reading} {b c : List ℕ} → b ≡ c → s' ≡ s'' → Reads s b s' → Reads s c s''
 moved {s} {s'' = s''} {b} e f r = subst (λ c. Reads s c s'') e (subst (Reads s b) f r)
 
-one : (s s' : Reading) (c : List ℕ) (x : Record) → length c ≡ 8 → decode c ≡ some x →
+one : (s s' : Reading) (c : List ℕ) (x : Record) → length c ≡ 8 → decode c ≡ Some x →
     T (not (misplaced s x)) → T (not (skipping s x)) → T (not (too_many s x)) → taken s x ≡ s' → Reads s c s'
 unfolding read_one
 one s s' c x l e m n o t =
@@ -75,16 +75,16 @@ counted (next c {d = d} l e r) =
 -- a reading whose last group is g: the default, with its mark, or a rule
 
 abbrev pub holding : Option Mark → List Group → Group → Table
-holding (some m) rs g = record { rules = rs; default = some g; mark = m }
-holding none rs g = record { rules = rs ++ (g ∷ []); default = none; mark = unmarked }
+holding (Some m) rs g = record { rules = rs; default = Some g; mark = m }
+holding None rs g = record { rules = rs ++ (g ∷ []); default = None; mark = unmarked }
 
 abbrev pub at : Option Mark → List Group → Group → ℕ → Reading
 at d rs g kind = record { table = holding d rs g; kind = kind }
 
 pub latest_at : (d : Option Mark) (rs : List Group) (g : Group) (kind : ℕ) → latest (at d rs g kind) ≡ g
 unfolding latest
-latest_at (some m) rs g kind = refl
-latest_at none rs g kind = last_d_snoc (every_character []) rs g
+latest_at (Some m) rs g kind = refl
+latest_at None rs g kind = last_d_snoc (every_character []) rs g
 
 pub at_last_snoc : {A : Type 0} (f : A → A) (xs : List A) (x : A) → at_last f (xs ++ (x ∷ [])) ≡ xs ++ (f x ∷ [])
 at_last_snoc f [] x = refl
@@ -93,8 +93,8 @@ at_last_snoc f (y ∷ (z ∷ zs)) x = ap (λ l. y ∷ l) (at_last_snoc f (z ∷ 
 
 pub change_at : (f : Group → Group) (d : Option Mark) (rs : List Group) (g : Group) → change_latest f (holding d rs g) ≡ holding d rs (f g)
 unfolding change_latest
-change_at f (some m) rs g = refl
-change_at f none rs g = λ i. record { rules = at_last_snoc f rs g i; default = none; mark = unmarked }
+change_at f (Some m) rs g = refl
+change_at f None rs g = λ i. record { rules = at_last_snoc f rs g i; default = None; mark = unmarked }
 
 -- ranges
 
@@ -274,7 +274,7 @@ module _ (d : Option Mark) (gs : List Group) (k : ℕ) (small : k ≤ 8) (anchor
 -- groups
 
 abbrev between : List Group → ℕ → Reading
-between gs kind = record { table = record { rules = gs; default = none; mark = unmarked }; kind = kind }
+between gs kind = record { table = record { rules = gs; default = None; mark = unmarked }; kind = kind }
 
 rule_read : (gs : List Group) (kind : ℕ) (g : Group) (b : List ℕ) → T (not (unfilled (between gs kind))) → length gs < 32 → WellFormedRule g → RuleRecords g b →
     (kind' : ℕ) × T (not (unfilled (between (gs ++ (g ∷ [])) kind'))) × Reads (between gs kind) b (between (gs ++ (g ∷ [])) kind')
@@ -282,11 +282,11 @@ unfolding misplaced skipping too_many taken
 rule_read gs kind g b u l w r =
     let k = g.size in
     let a = g.anchored in
-    let here : Reads (between gs kind) (rule_record k a) (at none gs (ranged none gs k w.short a []) 1) =
+    let here : Reads (between gs kind) (rule_record k a) (at None gs (ranged None gs k w.short a []) 1) =
     one (between gs kind) _ (rule_record k a) (rule k a) refl (read_rule k a w.long w.short) tt u (ne→neqb (length gs) 32 (λ e. omega arith)) refl in
-    let mid = positions_read none gs k w.short a [] g.ranges 1 tt (omega (arith, w.places)) w.positions in
-    let rest = outputs_read none gs k w.short a g.ranges w.places [] g.outputs r.written mid.0 (kind_some mid.0 mid.1) (omega (arith, w.few_outputs)) w.outputs r.outputs in
-    (rest.0, filled none gs k w.short a g.ranges w.places g.outputs rest.0, moved (sym r.bytes) refl (then (then here mid.2) rest.1))
+    let mid = positions_read None gs k w.short a [] g.ranges 1 tt (omega (arith, w.places)) w.positions in
+    let rest = outputs_read None gs k w.short a g.ranges w.places [] g.outputs r.written mid.0 (kind_some mid.0 mid.1) (omega (arith, w.few_outputs)) w.outputs r.outputs in
+    (rest.0, filled None gs k w.short a g.ranges w.places g.outputs rest.0, moved (sym r.bytes) refl (then (then here mid.2) rest.1))
   where
     kind_some : (j : ℕ) → T (eqb j 1 || eqb j 2) → j ≢ 0
     kind_some j t e = or_cases (eqb j 1) (eqb j 2) t (λ u. omega (arith, eqb→eq j 1 u)) (λ u. omega (arith, eqb→eq j 2 u))
@@ -307,22 +307,22 @@ rules_read gs (g ∷ rs) kind b u l w j =
 abbrev after : List Group → Option Group → Mark → ℕ → Reading
 after gs d m kind = record { table = record { rules = gs; default = d; mark = m }; kind = kind }
 
-default_read : (gs : List Group) (d : Option Group) (m : Mark) (kind : ℕ) (b : List ℕ) → (d ≡ none → m ≡ unmarked) → T (not (unfilled (between gs kind))) → Each WellFormedDefault (optional d) → Joined (DefaultRecords m) (optional d) b →
+default_read : (gs : List Group) (d : Option Group) (m : Mark) (kind : ℕ) (b : List ℕ) → (d ≡ None → m ≡ unmarked) → T (not (unfilled (between gs kind))) → Each WellFormedDefault (optional d) → Joined (DefaultRecords m) (optional d) b →
     (kind' : ℕ) × T (not (unfilled (after gs d m kind'))) × Reads (between gs kind) b (after gs d m kind')
 unfolding misplaced skipping too_many taken
-default_read gs none m kind b k u w j =
-    let same : between gs kind ≡ after gs none m kind = ap (λ y. after gs none y kind) (sym (k refl)) in
+default_read gs None m kind b k u w j =
+    let same : between gs kind ≡ after gs None m kind = ap (λ y. after gs None y kind) (sym (k refl)) in
     (kind, subst (λ y. T (not (unfilled y))) same u, moved (sym j) same stay)
-default_read gs (some g) m kind b k u w j =
+default_read gs (Some g) m kind b k u w j =
     let ranges = (every_character []).ranges in
     let r : DefaultRecords m g j.0 = j.2 in
     let one_place : 1 ≤ 8 = omega arith in
-    let here : Reads (between gs kind) (default_record m) (at (some m) gs (every_character []) 5) =
+    let here : Reads (between gs kind) (default_record m) (at (Some m) gs (every_character []) 5) =
     one (between gs kind) _ (default_record m) (default m) refl (read_default m) tt u tt refl in
-    let rest = outputs_read (some m) gs 1 one_place false ranges refl [] g.outputs r.written 5 (λ e. omega arith) (omega (arith, w.0.few_outputs)) w.0.outputs r.outputs in
-    let same : at (some m) gs (every_character g.outputs) rest.0 ≡ after gs (some g) m rest.0 = ap (λ y. after gs (some y) m rest.0) (sym w.0.acts) in (
+    let rest = outputs_read (Some m) gs 1 one_place false ranges refl [] g.outputs r.written 5 (λ e. omega arith) (omega (arith, w.0.few_outputs)) w.0.outputs r.outputs in
+    let same : at (Some m) gs (every_character g.outputs) rest.0 ≡ after gs (Some g) m rest.0 = ap (λ y. after gs (Some y) m rest.0) (sym w.0.acts) in (
       rest.0,
-      subst (λ y. T (not (unfilled y))) same (filled (some m) gs 1 one_place false ranges refl g.outputs rest.0),
+      subst (λ y. T (not (unfilled y))) same (filled (Some m) gs 1 one_place false ranges refl g.outputs rest.0),
       moved (sym (j.4 ∙ ap (λ y. j.0 ++ y) j.3 ∙ append-nil j.0 ∙ r.bytes)) same (then here rest.1),
     )
 

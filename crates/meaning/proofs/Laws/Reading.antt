@@ -2,7 +2,7 @@
 -- Each record keeps that of the groups read so far, where only the last rule may still lack ranges, and only while ranges may come.
 use mathlib.Core.Bool.{Bool, true, false, ◌&&◌, ◌||◌, not}
 use mathlib.Core.List.{List, [], ◌∷◌, ◌++◌}
-use mathlib.Core.Option.{Option, none, some}
+use Rattle.std.specs.Prelude.{Option, None, Some}
 use mathlib.Core.Logic.{◌≢◌}
 use mathlib.Core.Path.{◌≡◌, refl, sym, ap, subst}
 use Prim.Native.Nat.{ℕ, zero, suc, ◌/◌, ◌≤◌, ◌<◌}
@@ -102,8 +102,8 @@ all_full s k t = go s.table.default (ranging s) k t
 
     go : (d : Option Group) (b : Bool) → Kept b (record { rules = rs; default = d; mark = s.table.mark }) → T (not (b && ltb (length (top rs d).ranges) (top rs d).size)) → Each Full rs
     go d false k t = k.ended
-    go none true k t = before_last Full (every_character []) rs k.ended.0 (nltb→le (length (top rs none).ranges) (top rs none).size t)
-    go (some g) true k t = absurd k.ended.1
+    go None true k t = before_last Full (every_character []) rs k.ended.0 (nltb→le (length (top rs None).ranges) (top rs None).size t)
+    go (Some g) true k t = absurd k.ended.1
 
 -- an output character or a term
 
@@ -114,14 +114,14 @@ outputs_kept : (h : List Output → List Output) (b : Bool) (rs : List Group) (d
     (Outputs (top rs d).size (top rs d).outputs → Outputs (top rs d).size (h (top rs d).outputs)) →
     Kept false (change_latest (change_outputs h) (record { rules = rs; default = d; mark = m }))
 unfolding change_latest
-outputs_kept h b rs none m k e f =
+outputs_kept h b rs None m k e f =
     record {
       few = let l : length rs ≤ 32 = k.few in omega (arith, at_last_length (change_outputs h) rs);
-      rules = last_each Begun (change_outputs h) (every_character []) rs (outputs_begun h (top rs none) f) k.rules;
+      rules = last_each Begun (change_outputs h) (every_character []) rs (outputs_begun h (top rs None) f) k.rules;
       default = tt;
       ended = each_at_last Full (change_outputs h) rs (λ g x. x) e;
     }
-outputs_kept h b rs (some d) m k e f =
+outputs_kept h b rs (Some d) m k e f =
     record {
       few = k.few;
       rules = k.rules;
@@ -173,32 +173,32 @@ range_begun p r g o l m b =
 range_kept : (p : ℕ) (r : Range) (rs : List Group) (d : Option Group) (z : Mark) → Ordered r → p < (top rs d).size → p ≤ length (top rs d).ranges →
     Kept true (record { rules = rs; default = d; mark = z }) → Kept true (change_latest (change_ranges (add_range p r)) (record { rules = rs; default = d; mark = z }))
 unfolding change_latest
-range_kept p r rs none z o l m k =
+range_kept p r rs None z o l m k =
     let f = change_ranges (add_range p r) in
     record {
       few = let n : length rs ≤ 32 = k.few in omega (arith, at_last_length f rs);
-      rules = last_each Begun f (every_character []) rs (range_begun p r (top rs none) o l m) k.rules;
+      rules = last_each Begun f (every_character []) rs (range_begun p r (top rs None) o l m) k.rules;
       default = tt;
       ended = (before_at_last Full f rs k.ended.0, tt);
     }
-range_kept p r rs (some d) z o l m k = absurd k.ended.1
+range_kept p r rs (Some d) z o l m k = absurd k.ended.1
 
 -- one record
 
 -- what its fields are known to be
 abbrev pub Fields : Option Record → Type 0
-Fields none = Unit {0}
-Fields (some (rule k a)) = (1 ≤ k) × (k ≤ 8)
-Fields (some (range p r)) = Ordered r
-Fields (some (output c)) = Unit {0}
-Fields (some (term p a)) = Unit {0}
-Fields (some (default k)) = Unit {0}
-Fields (some (hexadecimal p shift)) = T (is_shift shift)
+Fields None = Unit {0}
+Fields (Some (rule k a)) = (1 ≤ k) × (k ≤ 8)
+Fields (Some (range p r)) = Ordered r
+Fields (Some (output c)) = Unit {0}
+Fields (Some (term p a)) = Unit {0}
+Fields (Some (default k)) = Unit {0}
+Fields (Some (hexadecimal p shift)) = T (is_shift shift)
 
 decode_fields : (b : List ℕ) → Fields (decode b)
 unfolding decode
 decode_fields b =
-    by_cases Fields _ none (
+    by_cases Fields _ None (
       λ t. let h = holds _ t in (leb→le _ _ h.1.0, leb→le _ _ h.1.1.0),
       λ _. (λ t. leb→le _ _ (holds _ t).1.1.1.0, λ _. (λ _. tt, λ _. (λ _. tt, λ _. (λ _. tt, λ _. (λ t. (holds _ t).1.1.0, λ _. tt))))),
     )
@@ -212,7 +212,7 @@ ended_before s t =
     (λ e. subst P (sym (eqb→eq s.kind 3 e)) tt)
     (λ e. subst P (sym (eqb→eq s.kind 4 e)) tt)
 
-pub taken_kept : (s : Reading) (r : Record) → Fields (some r) → T (not (misplaced s r)) → T (not (skipping s r)) → T (not (too_many s r)) →
+pub taken_kept : (s : Reading) (r : Record) → Fields (Some r) → T (not (misplaced s r)) → T (not (skipping s r)) → T (not (too_many s r)) →
     KeptReading s → KeptReading (taken s r)
 unfolding taken misplaced skipping too_many latest
 taken_kept s (rule k a) f m n o h =
@@ -263,8 +263,8 @@ Read P o = Says record_refusals P o
 
 one_kept : (s : Reading) (r : Option Record) → Fields r → KeptReading s → Read KeptReading (read_one s r)
 unfolding read_one
-one_kept s none f h = tt
-one_kept s (some r) f h = by_cases (Read KeptReading) _ (accepted (taken s r)) (λ _. tt, λ m. (λ _. tt, λ n. (λ _. tt, λ o. taken_kept s r f m n o h)))
+one_kept s None f h = tt
+one_kept s (Some r) f h = by_cases (Read KeptReading) _ (accepted (taken s r)) (λ _. tt, λ m. (λ _. tt, λ n. (λ _. tt, λ o. taken_kept s r f m n o h)))
 
 records_kept : (n : ℕ) (b : List ℕ) (s : Reading) → KeptReading s → Read KeptReading (read_records n b s)
 unfolding read_records
@@ -289,8 +289,8 @@ unfilled_rule s k t = go s.table.rules s.table.default s.table.mark (ranging s) 
         T (b && ltb (length (top rs d).ranges) (top rs d).size) → 1 ≤ length rs
     go (g ∷ rs) d m b k t = omega arith
     go [] d m false k t = absurd t
-    go [] none m true k t = absurd t
-    go [] (some g) m true k t = absurd k.ended.1
+    go [] None m true k t = absurd t
+    go [] (Some g) m true k t = absurd k.ended.1
 
 pub ends_apart : EndsApart
 unfolding EndsApart

@@ -3,7 +3,7 @@
 use mathlib.Core.Bool.{Bool, true, false, ◌||◌, not, or-true, or-false, or_assoc}
 use mathlib.Core.List.{List, [], ◌∷◌, ◌++◌}
 use mathlib.Core.Logic.{◌↔◌}
-use mathlib.Core.Option.{Option, none, some}
+use Rattle.std.specs.Prelude.{Option, None, Some}
 use mathlib.Core.Path.{◌≡◌, refl, sym, ap, subst, ◌∙◌}
 use Prim.Native.Nat.{ℕ, suc, ◌*◌, ◌≤◌, ◌<◌}
 use native.Mathlib.Decide.{ℕ_discrete}
@@ -75,16 +75,16 @@ module _ (s : Reading) (p a : ℕ) (summing : Summing s) where
 
 -- the first of some records that are all taken in, and the rest
 first_taken : (e more : List ℕ) (m : ℕ) (s s' : Reading) → length e ≡ 8 → read_records (suc m) (e ++ more) s ≡ accepted s' →
-    (x : Record) × (decode e ≡ some x) × T (not (misplaced s x)) × (read_records m more (taken s x) ≡ accepted s')
+    (x : Record) × (decode e ≡ Some x) × T (not (misplaced s x)) × (read_records m more (taken s x) ≡ accepted s')
 unfolding read_records read_one and_then
 first_taken e more m s s' l h = go (decode e) refl (subst (λ d. and_then (read_one s (decode d)) (λ r. read_records m (drop 8 (e ++ more)) r) ≡ accepted s') (take_at e more 8 l) h)
   where
     go : (o : Option Record) → decode e ≡ o → and_then (read_one s o) (λ r. read_records m (drop 8 (e ++ more)) r) ≡ accepted s' →
-        (x : Record) × (decode e ≡ some x) × T (not (misplaced s x)) × (read_records m more (taken s x) ≡ accepted s')
-    go none q k = absurd (refused_not 2 s' k)
-    go (some x) q k =
-        by_then (λ o. o ≡ accepted s' → (x : Record) × (decode e ≡ some x) × T (not (misplaced s x)) × (read_records m more (taken s x) ≡ accepted s'))
-        (read_one s (some x)) (λ r. read_records m (drop 8 (e ++ more)) r)
+        (x : Record) × (decode e ≡ Some x) × T (not (misplaced s x)) × (read_records m more (taken s x) ≡ accepted s')
+    go None q k = absurd (refused_not 2 s' k)
+    go (Some x) q k =
+        by_then (λ o. o ≡ accepted s' → (x : Record) × (decode e ≡ Some x) × T (not (misplaced s x)) × (read_records m more (taken s x) ≡ accepted s'))
+        (read_one s (Some x)) (λ r. read_records m (drop 8 (e ++ more)) r)
         (λ n _ j. absurd (refused_not n s' j))
         (λ r i j.
         let t : TakenTo s x r = one_taken s r x i in
@@ -121,7 +121,7 @@ terms_named (x ∷ xs) s s' summing kind b e =
 
 -- an output character begins without terms
 
-kind_3 : (c : ℤ) → (k : ℕ) × (decode (output_record c) ≡ some (output k))
+kind_3 : (c : ℤ) → (k : ℕ) × (decode (output_record c) ≡ Some (output k))
 unfolding little_endian decode select all_of
 kind_3 c = (_, refl)
 
@@ -161,7 +161,7 @@ output_begins b c s bytes lead =
 -- ONE MORE TERM IS REFUSED EXACTLY IF ITS POSITION WAS NAMED
 
 one_more_term : (s : Reading) (p a : ℕ) → T (eqb s.kind 3 || eqb s.kind 4) → p < (latest s).size → (n : ℕ) →
-    (read_one s (some (term p a)) ≡ refused n) ↔ ((n ≡ 3) × T (repeated s p))
+    (read_one s (Some (term p a)) ≡ refused n) ↔ ((n ≡ 3) × T (repeated s p))
 unfolding read_one misplaced skipping too_many
 one_more_term s p a kind below n = (
   by_cases (λ o. o ≡ refused n → (n ≡ 3) × T (repeated s p)) _ (accepted (taken s (term p a))) (

@@ -2,7 +2,7 @@
 -- Filling up is `pad` over any element; a store in a row is a store in the joined rows, past the rows before it.
 use mathlib.Core.Bool.{cond, not}
 use mathlib.Core.List.{List, [], ◌∷◌, ◌++◌, map}
-use mathlib.Core.Option.{Option, none, some}
+use Rattle.std.specs.Prelude.{Option, None, Some}
 use mathlib.Core.Path.{◌≡◌, refl, sym, ap, ap₂, subst, ◌∙◌}
 use Prim.Native.Nat.{ℕ, zero, suc, pred, ◌+◌, ◌*◌, ◌≤◌, ◌<◌}
 use native.Mathlib.Nat.{mul-zero, mul-suc, suc-mul, zero-mul, add_assoc, add_comm, suc-add, zero-add}
@@ -199,10 +199,10 @@ rows_of_front f rs d r h = get_or-append (fill [] 32 (map f rs)) (fill [] 1 (map
 pub rows_of_rule : (f : Group → List ℕ) (rs : List Group) (d : Option Group) (r : ℕ) (e : Group) → length rs ≤ 32 → r < length rs → get_or (rows_of f rs d) r [] ≡ f (get_or rs r e)
 rows_of_rule f rs d r e k h = rows_of_front f rs d r (omega arith) ∙ get_d_fill_map f 32 rs r e h k
 
-pub rows_of_default : (f : Group → List ℕ) (rs : List Group) (g : Group) → get_or (rows_of f rs (some g)) 32 [] ≡ f g
+pub rows_of_default : (f : Group → List ℕ) (rs : List Group) (g : Group) → get_or (rows_of f rs (Some g)) 32 [] ≡ f g
 rows_of_default f rs g = get_or_at (fill [] 32 (map f rs)) (f g) [] [] 32 (length_fill [] 32 (map f rs))
 
-pub rows_of_none : (f : Group → List ℕ) (rs : List Group) → get_or (rows_of f rs none) 32 [] ≡ []
+pub rows_of_none : (f : Group → List ℕ) (rs : List Group) → get_or (rows_of f rs None) 32 [] ≡ []
 rows_of_none f rs = get_or_at (fill [] 32 (map f rs)) [] [] [] 32 (length_fill [] 32 (map f rs))
 
 -- where there is no rule yet
@@ -254,21 +254,21 @@ module _ (n : ℕ) (f : Group → List ℕ) (cs : List (ℕ × ℕ)) (inside : E
 
   -- by a default, where there was none
   pub rows_default : (g : Group) → T (not (is_some d)) → pad n (f g) ≡ stores (pad n []) cs →
-      rows n f (record { rules = rs; default = some g; mark = m' }) ≡ stores (rows n f (record { rules = rs; default = d; mark = m })) (shift (n * 32) cs)
-  rows_default g t p = changed rs (some g) 32 (f g) [] (omega arith) (at d) (empty d t) p
+      rows n f (record { rules = rs; default = Some g; mark = m' }) ≡ stores (rows n f (record { rules = rs; default = d; mark = m })) (shift (n * 32) cs)
+  rows_default g t p = changed rs (Some g) 32 (f g) [] (omega arith) (at d) (empty d t) p
     where
-      at : (d : Option Group) → rows_of f rs (some g) ≡ set (rows_of f rs d) 32 (f g)
-      at none = sym (set_at (fill [] 32 (map f rs)) [] [] (f g) 32 (length_fill [] 32 (map f rs)))
-      at (some x) = sym (set_at (fill [] 32 (map f rs)) (f x) [] (f g) 32 (length_fill [] 32 (map f rs)))
+      at : (d : Option Group) → rows_of f rs (Some g) ≡ set (rows_of f rs d) 32 (f g)
+      at None = sym (set_at (fill [] 32 (map f rs)) [] [] (f g) 32 (length_fill [] 32 (map f rs)))
+      at (Some x) = sym (set_at (fill [] 32 (map f rs)) (f x) [] (f g) 32 (length_fill [] 32 (map f rs)))
 
       empty : (d : Option Group) → T (not (is_some d)) → get_or (rows_of f rs d) 32 [] ≡ []
-      empty none t = rows_of_none f rs
-      empty (some x) t = absurd t
+      empty None t = rows_of_none f rs
+      empty (Some x) t = absurd t
 
 -- a group read last is there, and its number
 abbrev pub Grouped : List Group → Option Group → Type 0
-Grouped rs none = 1 ≤ length rs
-Grouped rs (some g) = Unit {0}
+Grouped rs None = 1 ≤ length rs
+Grouped rs (Some g) = Unit {0}
 
 abbrev pub number_of : List Group → Option Group → ℕ
 number_of rs d = cond (is_some d) 32 (pred (length rs))
@@ -278,12 +278,12 @@ pub rows_latest : (n : ℕ) (f : Group → List ℕ) (cs : List (ℕ × ℕ)) (i
     length rs ≤ 32 → Grouped rs d → pad n (f (F (top rs d))) ≡ stores (pad n (f (top rs d))) cs →
     rows n f (change_latest F (record { rules = rs; default = d; mark = m })) ≡ stores (rows n f (record { rules = rs; default = d; mark = m })) (shift (n * number_of rs d) cs)
 unfolding change_latest
-rows_latest n f cs inside rs none m F h k p =
-    changed n f cs inside rs none m m (at_last F rs) none (pred (length rs)) (f (F (top rs none))) (f (top rs none)) (omega arith)
+rows_latest n f cs inside rs None m F h k p =
+    changed n f cs inside rs None m m (at_last F rs) None (pred (length rs)) (f (F (top rs None))) (f (top rs None)) (omega arith)
     (ap (λ l. l ++ fill [] 1 (map f [])) (fill_at_last [] f F (every_character []) 32 rs k h)
-    ∙ sym (set-append_left (fill [] 32 (map f rs)) ([] ∷ []) (pred (length rs)) (f (F (top rs none))) (rw length_fill (omega arith))))
-    (rows_of_front f rs none (pred (length rs)) (omega arith) ∙ fill_last [] f (every_character []) 32 rs k h) p
-rows_latest n f cs inside rs (some g) m F h k p =
-    changed n f cs inside rs (some g) m m rs (some (F g)) 32 (f (F g)) (f g) (omega arith)
+    ∙ sym (set-append_left (fill [] 32 (map f rs)) ([] ∷ []) (pred (length rs)) (f (F (top rs None))) (rw length_fill (omega arith))))
+    (rows_of_front f rs None (pred (length rs)) (omega arith) ∙ fill_last [] f (every_character []) 32 rs k h) p
+rows_latest n f cs inside rs (Some g) m F h k p =
+    changed n f cs inside rs (Some g) m m rs (Some (F g)) 32 (f (F g)) (f g) (omega arith)
     (sym (set_at (fill [] 32 (map f rs)) (f g) [] (f (F g)) 32 (length_fill [] 32 (map f rs))))
     (rows_of_default f rs g) p

@@ -2,7 +2,7 @@
 -- What is read back of the array is the table, its coefficients filled up with zeros, which change no value; a digit is known by its sort.
 use mathlib.Core.Bool.{Bool, true, false, ◌&&◌}
 use mathlib.Core.List.{List, [], ◌∷◌, ◌++◌, map}
-use mathlib.Core.Option.{Option, none, some}
+use Rattle.std.specs.Prelude.{Option, None, Some}
 use mathlib.Core.Path.{◌≡◌, refl, sym, ap, ap₂, subst, ◌∙◌}
 use Prim.Native.Nat.{ℕ, zero, suc, ◌+◌, ◌*◌, ◌/◌, ◌≤◌, ◌<◌, ◌-◌}
 use native.Mathlib.Omega.{arith}
@@ -192,14 +192,14 @@ safe_flat t s w =
         (sym (rule_at_lem (loaded_words t) (length t.rules) (mode t) r h) ∙ ap (λ x. rule_at x r) (table_flat t s w) ∙ rule_at_bare t r)
         sg.small sg.outputs sg.reaches ng.narrow
 
-    there : (g : Group) (k : Mark) (h : Group) → h ≡ or_else (every_character []) (default_by (mode_of (some g) k) h)
+    there : (g : Group) (k : Mark) (h : Group) → h ≡ or_else (every_character []) (default_by (mode_of (Some g) k) h)
     there g unmarked h = refl
     there g marked h = refl
 
     of : (d : Option Group) → t.default ≡ d → Each ShapedDefault (optional d) → Each NarrowGroup (optional d) →
         implies (is_some d) (safe_group_at (loaded_words t) 32) ≡ all test_of (optional d)
-    of none e a b = refl
-    of (some g) e a b =
+    of None e a b = refl
+    of (Some g) e a b =
         let G = group_at (loaded_words t) 32 in
         let one : g.size ≡ 1 = a.0.size in
         let same : G ≡ bare_group g =

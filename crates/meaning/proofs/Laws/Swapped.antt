@@ -3,7 +3,7 @@
 use mathlib.Core.Bool.{◌||◌, not}
 use mathlib.Core.List.{List, [], ◌∷◌}
 use mathlib.Core.Logic.{◌≢◌}
-use mathlib.Core.Option.{Option, none, some}
+use Rattle.std.specs.Prelude.{Option, None, Some}
 use mathlib.Core.Path.{◌≡◌, refl, sym, ap, subst, ◌∙◌}
 use Prim.Native.Nat.{ℕ, ◌≤◌, ◌<◌}
 use native.Mathlib.Decide.{ℕ_discrete}
@@ -44,19 +44,19 @@ group_comm p q a b n g =
 change_comm : (f g : Group → Group) → ((x : Group) → f (g x) ≡ g (f x)) → (rs : List Group) (d : Option Group) (k : Mark) →
     change_latest f (change_latest g (record { rules = rs; default = d; mark = k })) ≡ change_latest g (change_latest f (record { rules = rs; default = d; mark = k }))
 unfolding change_latest
-change_comm f g h rs none k = ap (λ l. record { rules = l; default = none; mark = k }) (at_last_comm f g h rs)
-change_comm f g h rs (some x) k = ap (λ y. record { rules = rs; default = some y; mark = k }) (h x)
+change_comm f g h rs None k = ap (λ l. record { rules = l; default = None; mark = k }) (at_last_comm f g h rs)
+change_comm f g h rs (Some x) k = ap (λ y. record { rules = rs; default = Some y; mark = k }) (h x)
 
 change_none : (f : Group → Group) (rs : List Group) (d : Option Group) (k : Mark) → f (top rs d) ≡ top rs d → change_latest f (record { rules = rs; default = d; mark = k }) ≡ record { rules = rs; default = d; mark = k }
 unfolding change_latest
-change_none f rs none k e = ap (λ l. record { rules = l; default = none; mark = k }) (at_last_none f (every_character []) rs e)
-change_none f rs (some x) k e = ap (λ y. record { rules = rs; default = some y; mark = k }) e
+change_none f rs None k e = ap (λ l. record { rules = l; default = None; mark = k }) (at_last_none f (every_character []) rs e)
+change_none f rs (Some x) k e = ap (λ y. record { rules = rs; default = Some y; mark = k }) e
 
 change_top : (f : Group → Group) → f (every_character []) ≡ every_character [] → (rs : List Group) (d : Option Group) (k : Mark) →
     (let t = change_latest f (record { rules = rs; default = d; mark = k }) in top t.rules t.default) ≡ f (top rs d)
 unfolding change_latest
-change_top f e rs none k = last_changed f (every_character []) e rs
-change_top f e rs (some x) k = refl
+change_top f e rs None k = last_changed f (every_character []) e rs
+change_top f e rs (Some x) k = refl
 
 -- a reading with a term taken in
 
@@ -150,13 +150,13 @@ module _ (s : Reading) (p a : ℕ) where
 
   module _ {B : Type 0} (f : Reading → Outcome B) (o : B) where
     -- a term that was taken might come, and what comes after it was accepted
-    one_taken : and_then (read_one s (some (term p a))) f ≡ accepted o → Comes s p × (f (taken s (term p a)) ≡ accepted o)
+    one_taken : and_then (read_one s (Some (term p a))) f ≡ accepted o → Comes s p × (f (taken s (term p a)) ≡ accepted o)
     unfolding read_one and_then skipping too_many
     one_taken =
         by_cases (λ r. and_then r f ≡ accepted o → Comes s p × (f (taken s (term p a)) ≡ accepted o)) _ (accepted (taken s (term p a)))
         (λ _ e. absurd (refused_not 3 o e), λ m. (λ t. absurd t, λ _. (λ t. absurd t, λ _ e. (to_comes m, e))))
 
-    one_takes : Comes s p → f (taken s (term p a)) ≡ accepted o → and_then (read_one s (some (term p a))) f ≡ accepted o
+    one_takes : Comes s p → f (taken s (term p a)) ≡ accepted o → and_then (read_one s (Some (term p a))) f ≡ accepted o
     unfolding read_one and_then skipping too_many
     one_takes h e =
         by_cases (λ r. and_then r f ≡ accepted o) _ (accepted (taken s (term p a)))
@@ -184,18 +184,18 @@ module _ (s : Reading) (p a q : ℕ) (n : p ≢ q) where
 -- TWO TERMS IN EITHER ORDER
 module _ {B : Type 0} (s : Reading) (p a q b : ℕ) (f : Reading → Outcome B) (o : B) where
   abbrev both_read : ℕ → ℕ → ℕ → ℕ → Outcome B
-  both_read p a q b = and_then (read_one s (some (term p a))) (λ s'. and_then (read_one s' (some (term q b))) f)
+  both_read p a q b = and_then (read_one s (Some (term p a))) (λ s'. and_then (read_one s' (Some (term q b))) f)
 
   pub swap_terms : 1 ≤ a → a < 65536 → both_read p a q b ≡ accepted o → both_read q b p a ≡ accepted o
   unfolding latest
   swap_terms low high e =
       let x = taken s (term p a) in
       let y = taken s (term q b) in
-      let one = one_taken s p a (λ s'. and_then (read_one s' (some (term q b))) f) o e in
+      let one = one_taken s p a (λ s'. and_then (read_one s' (Some (term q b))) f) o e in
       let two = one_taken x q b f o one.1 in
       elim (ℕ_discrete p q) [
         | no n ↦
-            one_takes s q b (λ s'. and_then (read_one s' (some (term p a))) f) o (comes_before s p a q n one.0 two.0)
+            one_takes s q b (λ s'. and_then (read_one s' (Some (term p a))) f) o (comes_before s p a q n one.0 two.0)
             (one_takes y p a f o (comes_after s q b p (λ e. n (sym e)) one.0) (ap f (sym (taken_comm s p q a b n)) ∙ two.1))
         | yes i ↦
             let still : Reading = record { table = s.table; kind = 4 } in
@@ -205,25 +205,25 @@ module _ {B : Type 0} (s : Reading) (p a q b : ℕ) (f : Reading → Outcome B) 
             let same : x ≡ y = first ∙ sym other in
             let all : taken y (term p a) ≡ taken x (term q b) =
             ap (λ r. taken r (term p a)) other ∙ no_sum_taken still p a no-sum ∙ sym (no_sum_taken still q b no-sum) ∙ ap (λ r. taken r (term q b)) (sym first) in
-            one_takes s q b (λ s'. and_then (read_one s' (some (term p a))) f) o (subst (Comes s) i one.0)
+            one_takes s q b (λ s'. and_then (read_one s' (Some (term p a))) f) o (subst (Comes s) i one.0)
             (one_takes y p a f o (subst (λ r. Comes r p) same (subst (Comes x) (sym i) two.0)) (ap f all ∙ two.1))
       ]
 
 -- a record of kind 4 is a term with the position in byte 1, or none
 
 abbrev pub OnlyTerm : ℕ → Option Record → Type 0
-OnlyTerm q none = Unit {0}
-OnlyTerm q (some (rule k a)) = ⊥
-OnlyTerm q (some (range p r)) = ⊥
-OnlyTerm q (some (output c)) = ⊥
-OnlyTerm q (some (term p a)) = p ≡ q
-OnlyTerm q (some (default k)) = ⊥
-OnlyTerm q (some (hexadecimal p shift)) = ⊥
+OnlyTerm q None = Unit {0}
+OnlyTerm q (Some (rule k a)) = ⊥
+OnlyTerm q (Some (range p r)) = ⊥
+OnlyTerm q (Some (output c)) = ⊥
+OnlyTerm q (Some (term p a)) = p ≡ q
+OnlyTerm q (Some (default k)) = ⊥
+OnlyTerm q (Some (hexadecimal p shift)) = ⊥
 
 pub only_term : (x : List ℕ) → IsTerm x → OnlyTerm (get_or x 1 0) (decode x)
 unfolding decode
 only_term x e =
-    by_cases (OnlyTerm (get_or x 1 0)) _ none (
+    by_cases (OnlyTerm (get_or x 1 0)) _ None (
       λ t. other 1 (holds _ t).0 tt,
       λ _. (
         λ t. other 2 (holds _ t).0 tt,
@@ -234,7 +234,7 @@ only_term x e =
     other : (k : ℕ) → T (eqb (get_or x 0 0) k) → T (not (eqb 4 k)) → ⊥
     other k t n = T_not (eqb 4 k) n (subst (λ i. T (eqb i k)) e t)
 
-pub that_term : (q : ℕ) (x : Record) → OnlyTerm q (some x) → (a : ℕ) × (x ≡ term q a)
+pub that_term : (q : ℕ) (x : Record) → OnlyTerm q (Some x) → (a : ℕ) × (x ≡ term q a)
 that_term q (rule k a) h = absurd h
 that_term q (range p r) h = absurd h
 that_term q (output c) h = absurd h
@@ -246,17 +246,17 @@ module _ {B : Type 0} (s : Reading) (f : Reading → Outcome B) (o : B) where
   abbrev in_turn : Option Record → Option Record → Outcome B
   in_turn x y = and_then (read_one s x) (λ s'. and_then (read_one s' y) f)
 
-  pub swap_records : (p q : ℕ) (x y : Option Record) → OnlyTerm p x → OnlyTerm q y → ((r : Record) → x ≡ some r → FittingRecord r) →
+  pub swap_records : (p q : ℕ) (x y : Option Record) → OnlyTerm p x → OnlyTerm q y → ((r : Record) → x ≡ Some r → FittingRecord r) →
       in_turn x y ≡ accepted o → in_turn y x ≡ accepted o
   unfolding read_one and_then
-  swap_records p q none y h k fit e = absurd (refused_not 2 o e)
-  swap_records p q (some x) none h k fit e =
+  swap_records p q None y h k fit e = absurd (refused_not 2 o e)
+  swap_records p q (Some x) None h k fit e =
       let t = that_term p x h in
-      absurd (refused_not 2 o (one_taken s p t.0 (λ s'. refused 2) o (subst (λ x. in_turn (some x) none ≡ accepted o) t.1 e)).1)
-  swap_records p q (some x) (some y) h k fit e =
+      absurd (refused_not 2 o (one_taken s p t.0 (λ s'. refused 2) o (subst (λ x. in_turn (Some x) None ≡ accepted o) t.1 e)).1)
+  swap_records p q (Some x) (Some y) h k fit e =
       let t = that_term p x h in
       let u = that_term q y k in
       let g = subst FittingRecord t.1 (fit x refl) in
-      subst (λ y. in_turn (some y) (some x) ≡ accepted o) (sym u.1) (subst (λ x. in_turn (some (term q u.0)) (some x) ≡ accepted o) (sym t.1)
+      subst (λ y. in_turn (Some y) (Some x) ≡ accepted o) (sym u.1) (subst (λ x. in_turn (Some (term q u.0)) (Some x) ≡ accepted o) (sym t.1)
       (swap_terms s p t.0 q u.0 f o g.1 g.2
-      (subst (λ x. in_turn (some x) (some (term q u.0)) ≡ accepted o) t.1 (subst (λ y. in_turn (some x) (some y) ≡ accepted o) u.1 e))))
+      (subst (λ x. in_turn (Some x) (Some (term q u.0)) ≡ accepted o) t.1 (subst (λ y. in_turn (Some x) (Some y) ≡ accepted o) u.1 e))))

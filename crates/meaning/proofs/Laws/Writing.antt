@@ -3,10 +3,10 @@
 use mathlib.Core.Bool.{Bool, true, false, cond}
 use mathlib.Core.List.{List, [], ◌∷◌, ◌++◌, append_assoc, append-nil}
 use mathlib.Core.Logic.{◌≢◌}
-use mathlib.Core.Option.{Option, none, some}
+use Rattle.std.specs.Prelude.{Option, None, Some}
 use mathlib.Core.Path.{◌≡◌, refl, sym, ap, ap₂, subst, ◌∙◌}
-use Prim.Native.Nat.{ℕ, zero, suc, pred, ◌+◌, ◌-◌, ◌*◌, ◌%◌, ◌^◌, ◌≤◌, ◌<◌}
-use native.Mathlib.Nat.{lt_of_le_of_lt, le_of_lt, mul-le-mul_left, add-zero, zero-add, add_assoc}
+use Prim.Native.Nat.{ℕ, zero, suc, pred, ◌+◌, ◌-◌, ◌*◌, ◌%◌, ◌≤◌, ◌<◌}
+use native.Mathlib.Nat.{add-zero, zero-add, add_assoc}
 use native.Mathlib.Numerals.{add-one}
 use native.Mathlib.Omega.{arith}
 use borrow.Author.Tests.{eq-eqb, ne_eqb}
@@ -28,10 +28,6 @@ use Rattle.meaning.proofs.Laws.Prefix.{fits_word_length}
 use Rattle.meaning.proofs.Laws.Direct.{over_whole}
 use Rattle.meaning.proofs.Laws.Choosing.{rule_at_lem, mode_at_lem}
 use Rattle.meaning.proofs.Laws.Choice.{Fits, Chosen, best_chosen, pair_there}
-
--- the product of two numbers of 16 bits has 32
-pub product_fits : {a c : ℕ} → a < 65536 → c < 65536 → a * c < 2 ^ 32
-product_fits {a} h k = lt_of_le_of_lt {m = a * 65536} (mul-le-mul_left a (le_of_lt k)) (omega arith)
 
 -- what a sum comes to from v on, i coefficients after its first, which stands at `from`
 abbrev pub sum_left : List ℕ → ℕ → List ℕ → ℕ → ℕ → ℕ
@@ -127,7 +123,7 @@ convert_skip t (suc k) [] = refl
 convert_skip t (suc k) (c ∷ rest) = convert_skip t k rest
 
 -- one choice, of a group that has characters
-pub convert_step : (t : Table) (rest : List ℕ) (n : ℕ) → 1 ≤ length rest → 1 ≤ (group t n).size → choose t rest ≡ some n →
+pub convert_step : (t : Table) (rest : List ℕ) (n : ℕ) → 1 ≤ length rest → 1 ≤ (group t n).size → choose t rest ≡ Some n →
     convert_from t 0 rest ≡ chosen (record { group = n; word = take (group t n).size rest }) (convert_from t 0 (drop (group t n).size rest))
 unfolding convert_from
 convert_step t [] n h k p = absurd (omega arith)
@@ -137,7 +133,7 @@ convert_step t (c ∷ rest) n h k p = ap (λ o. convert_by t o (c ∷ rest) (λ 
     onward zero k = absurd (omega arith)
     onward (suc size) k = convert_skip t size rest
 
-pub convert_stop : (t : Table) (rest : List ℕ) → 1 ≤ length rest → choose t rest ≡ none → convert_from t 0 rest ≡ record { log = []; closed = false }
+pub convert_stop : (t : Table) (rest : List ℕ) → 1 ≤ length rest → choose t rest ≡ None → convert_from t 0 rest ≡ record { log = []; closed = false }
 unfolding convert_from
 convert_stop t [] h p = absurd (omega arith)
 convert_stop t (c ∷ rest) h p = ap (λ o. convert_by t o (c ∷ rest) (λ skip. convert_from t skip rest)) p
@@ -163,7 +159,7 @@ written_count loaded g w e = go (eqb g pair_number) e
 
 -- group g was chosen at the place, and its characters are there
 pub record Taken (t : Table) (loaded input : List ℕ) (place g : ℕ) : Type 0 where
-  pub choice : choose t (drop place input) ≡ some g
+  pub choice : choose t (drop place input) ≡ Some g
   pub below : g < 34
   pub size : (group t g).size ≡ size_at loaded g
   pub positive : 1 ≤ size_at loaded g
@@ -195,7 +191,7 @@ module _ (loaded : List ℕ) (rules : ℕ) (rest : List ℕ) where
   abbrev Falls : Mode → ℕ → Type 0
   Falls d g = (g < 34) × ((group (table_at loaded rules d) g).size ≡ size_at loaded g) × (1 ≤ size_at loaded g) × (size_at loaded g ≤ length rest)
 
-  default_taken : (d : Mode) (g : ℕ) → (present d ≡ true → at loaded (32 * block_size) ≡ 1) → 1 ≤ length rest → or_default d rest none ≡ some g → Falls d g
+  default_taken : (d : Mode) (g : ℕ) → (present d ≡ true → at loaded (32 * block_size) ≡ 1) → 1 ≤ length rest → or_default d rest None ≡ Some g → Falls d g
   unfolding group table_at group_at
   default_taken Absent g one h p = let z : ◌≡◌ {A = ℕ} 0 1 = cc in absurd (omega arith)
   default_taken Single g one h p =
@@ -204,7 +200,7 @@ module _ (loaded : List ℕ) (rules : ℕ) (rest : List ℕ) where
       subst (Falls Single) e (omega arith, refl, omega arith, omega arith)
   default_taken Paired g one h p = by (starts_pair rest) refl p
     where
-      by : (b : Bool) → starts_pair rest ≡ b → some (cond b pair_number default_number) ≡ some g → Falls Paired g
+      by : (b : Bool) → starts_pair rest ≡ b → Some (cond b pair_number default_number) ≡ Some g → Falls Paired g
       by true e q = let i : 33 ≡ g = cc in subst (Falls Paired) i (omega arith, refl, omega arith, pair_there rest (rw e tt))
       by false e q =
           let i : 32 ≡ g = cc in
@@ -214,7 +210,7 @@ module _ (loaded : List ℕ) (rules : ℕ) (rest : List ℕ) where
 -- the choice is a rule that fits, or the default, or a pair
 choose_taken : (loaded : List ℕ) (rules : ℕ) (d : Mode) (input : List ℕ) (place g : ℕ) → rules ≤ 32 →
     ((r : ℕ) → r < rules → 1 ≤ at loaded (block_size * r)) → (present d ≡ true → at loaded (32 * block_size) ≡ 1) → place < length input →
-    choose (table_at loaded rules d) (drop place input) ≡ some g → Taken (table_at loaded rules d) loaded input place g
+    choose (table_at loaded rules d) (drop place input) ≡ Some g → Taken (table_at loaded rules d) loaded input place g
 unfolding choose table_at
 choose_taken loaded rules d input place g few positive one h p =
     let t = table_at loaded rules d in
@@ -222,13 +218,13 @@ choose_taken loaded rules d input place g few positive one h p =
     from (best t n (drop place input)) (best_chosen t n (drop place input)) p
   where
     from : (b : Option ℕ) → Chosen (table_at loaded rules d) (length (table_at loaded rules d).rules) (drop place input) b →
-        or_default (mode (table_at loaded rules d)) (drop place input) b ≡ some g → Taken (table_at loaded rules d) loaded input place g
-    from none c q =
+        or_default (mode (table_at loaded rules d)) (drop place input) b ≡ Some g → Taken (table_at loaded rules d) loaded input place g
+    from None c q =
         let s : Falls loaded rules (drop place input) d g =
         default_taken loaded rules (drop place input) d g one (omega (arith, length-drop place input))
-        (ap (λ m. or_default m (drop place input) none) (sym (mode_at_lem loaded rules d)) ∙ q) in
+        (ap (λ m. or_default m (drop place input) None) (sym (mode_at_lem loaded rules d)) ∙ q) in
         record { choice = p; below = s.0; size = s.1; positive = s.2; room = omega (arith, s.3, length-drop place input) }
-    from (some r) c q =
+    from (Some r) c q =
         let e : r ≡ g = cc in
         let l : r < length (tab_from 0 rules (group_at loaded)) = c.0 in
         let b : r < rules = omega (arith, length_tab (group_at loaded) 0 rules) in
@@ -237,11 +233,11 @@ choose_taken loaded rules d input place g few positive one h p =
         let z : size_at loaded r ≡ at loaded (block_size * r) = plain_size loaded r (omega arith) in
         let o : 1 ≤ at loaded (block_size * r) = positive r b in
         subst (Taken (table_at loaded rules d) loaded input place) e
-        (record { choice = p ∙ ap some (sym e); below = omega arith; size = s.0 ∙ sym z; positive = omega arith; room = omega (arith, s.1, length-drop place input) })
+        (record { choice = p ∙ ap Some (sym e); below = omega arith; size = s.0 ∙ sym z; positive = omega arith; room = omega (arith, s.1, length-drop place input) })
 
 pub choice_taken : {o : Option ℕ} (loaded : List ℕ) (rules : ℕ) (d : Mode) (input : List ℕ) (place g : ℕ) → rules ≤ 32 →
     ((r : ℕ) → r < rules → 1 ≤ at loaded (block_size * r)) → (present d ≡ true → at loaded (32 * block_size) ≡ 1) → place < length input →
-    o ≡ choose (table_at loaded rules d) (drop place input) → o ≡ some g → Taken (table_at loaded rules d) loaded input place g
+    o ≡ choose (table_at loaded rules d) (drop place input) → o ≡ Some g → Taken (table_at loaded rules d) loaded input place g
 choice_taken loaded rules d input place g few positive one h p q = choose_taken loaded rules d input place g few positive one h (sym p ∙ q)
 
 -- the text in front of a buffer, longer by what was put after it
@@ -285,7 +281,7 @@ module _ {t : Table} {loaded input buffer output : List ℕ} {place count : ℕ}
   pub reached_close : length input ≤ place → Finished t loaded input buffer output place count true
   reached_close h = reached_end true (convert_end t (drop place input) (omega (arith, length-drop place input)))
 
-  pub reached_stop : {o : Option ℕ} → place < length input → o ≡ choose t (drop place input) → o ≡ none → Finished t loaded input buffer output place count false
+  pub reached_stop : {o : Option ℕ} → place < length input → o ≡ choose t (drop place input) → o ≡ None → Finished t loaded input buffer output place count false
   reached_stop h p q = reached_end false (convert_stop t (drop place input) (omega (arith, length-drop place input)) (sym p ∙ q))
 
   -- one more group

@@ -1,6 +1,6 @@
 -- A table as one flat array, and what is read back of it.
 use Rattle.std.specs.Prelude.{Bool, ◌&&◌, cond, List, [], ◌∷◌, ◌++◌, map, ◌≡◌, ℕ, zero, suc, max, ◌+◌, ◌-◌, ◌*◌, ◌%◌, ◌/◌, ◌^◌, ◌≤◌, ◌<◌, eqb, ltb, ℤ, pos, negsuc, length, take, drop}
-use Rattle.std.proofs.Math.Option.{Option, none, some}
+use Rattle.std.specs.Prelude.{Option, None, Some}
 use Rattle.lists.specs.Lists.{flat_map, tab_from, pad, optional}
 use Rattle.lists.specs.Decide.{for_below, implies, select}
 use Rattle.meaning.specs.Table.{Range, Output, sum, digit, Group, Mark, unmarked, marked, Mode, Absent, Single, Paired, Table, present, least, default_number, pair_number}
@@ -82,9 +82,9 @@ group_at loaded g =
 
 -- a mode's default, and its mark
 abbrev pub default_by : Mode → Group → Option Group
-default_by Absent g = none
-default_by Single g = some g
-default_by Paired g = some g
+default_by Absent g = None
+default_by Single g = Some g
+default_by Paired g = Some g
 
 abbrev pub mark_by : Mode → Mark
 mark_by Absent = unmarked

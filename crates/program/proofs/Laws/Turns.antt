@@ -1,7 +1,6 @@
 -- The list of turns: a turn that leaves its session waiting has received more, within what refusal 14 allows, and a piece adds its turn to the list.
 -- An accepted feed that waits has received its piece, and a finish leaves no session waiting.
 use mathlib.Core.Bool.{Bool, true, false, ◌&&◌, not, cond, false≢true}
-use mathlib.Core.Logic.{inl, inr}
 use mathlib.Core.List.{List, [], ◌∷◌, ◌++◌}
 use mathlib.Core.Path.{◌≡◌, refl, sym, ap, subst, ◌∙◌}
 use Prim.Native.Nat.{ℕ, ◌+◌, ◌-◌, ◌*◌, ◌≤◌, ◌<◌}
@@ -20,10 +19,9 @@ use Rattle.reckoning.proofs.Laws.Kept.{call_tells}
 use Rattle.reckoning.proofs.Laws.Answers.{Admits, admission}
 use Rattle.session.specs.Keeping.{session_of}
 use Rattle.session.specs.declared.kept.Session as Code
-use Rattle.program.specs.declared.feeding.Piece.{Piece}
 use Rattle.program.specs.declared.feeding.Ending.{Ending}
-use Rattle.program.specs.Turns.{call_on, waits, Turns, no_turn, a_turn, Converted, EndsBy, Ran}
-use Rattle.program.specs.bridge.Piece.{Unread, Taken, Pieced}
+use Rattle.program.specs.Turns.{call_on, waits, Turns, no_turn, a_turn, EndsBy, Ran}
+use Rattle.program.specs.bridge.Piece.{Taken}
 
 received_open : (t : Status) (all gone : ℕ) → is_open t ≡ true → received_by t all gone ≡ all
 received_open Open all gone e = refl
@@ -73,83 +71,60 @@ turns_received {w} (a_turn {input} {printed} {s} {bytes} ts t) e =
     (omega arith, omega arith)
 
 -- how far the pieces have come
-pub record Come (w : List ℕ) (s : Code.Session) (going : Bool) (read handed : ℕ) : Type 0 where
+pub record Come (w : List ℕ) (e : Ending) : Type 0 where
   pub input : List ℕ
-  pub reads : read ≡ length input
+  pub reads : e.read ≡ length input
   pub printed : List ℕ
-  pub hands : handed ≡ length printed
-  pub turns : Turns w input printed (session_of s) going
-  pub few : going ≡ true → handed ≤ 655744 * read
+  pub hands : e.handed ≡ length printed
+  pub turns : Turns w input printed (session_of e.session) e.going
+  pub few : e.going ≡ true → e.handed ≤ 655744 * e.read
 
-pub come_first : (w : List ℕ) (s : Code.Session) → session_of s ≡ fresh → Come w s true 0 0
+pub come_first : (w : List ℕ) (s : Code.Session) → session_of s ≡ fresh →
+    Come w (record { session = s; going = true; failed = false; read = 0; handed = 0 })
 come_first w s e =
     record { input = []; reads = refl; printed = []; hands = refl; turns = rw e no_turn; few = λ _. omega arith }
 
 -- what refusal 14 lets be read yet, and nothing where no other piece is read
-abbrev pub left : Bool → Bool → ℕ → ℕ
-left going failed read = cond (going && not failed) (limit + 1 - read) 0
+abbrev pub left : Ending → ℕ
+left e = cond (e.going && not e.failed) (limit + 1 - e.read) 0
 
-less : (going failed : Bool) (m n : ℕ) → 0 < n → (going ≡ true → failed ≡ false → m < n) → cond (going && not failed) m 0 < n
+less : (going failed : Bool) (m n : ℕ) → 0 < n → (going ≡ true → m < n) → cond (going && not failed) m 0 < n
 less true true m n z h = z
-less true false m n z h = h refl refl
+less true false m n z h = h refl
 less false failed m n z h = z
 
-pub unfailed : (failed : Bool) → not failed ≡ true → failed ≡ false
-unfailed true e = absurd (false≢true e)
-unfailed false e = refl
-
-module _ (w : List ℕ) (s : Code.Session) (going : Bool) (read handed : ℕ) (k : Come w s going read handed) (g : going ≡ true) where
-  pub come_bounded : (read ≤ limit) × (handed ≤ 655744 * read)
+-- where another piece is read
+module _ (w : List ℕ) (e : Ending) (k : Come w e) (g : e.going ≡ true) where
+  pub come_bounded : (e.read ≤ limit) × (e.handed ≤ 655744 * e.read)
   come_bounded = let most = (turns_received k.turns g).1 in (omega (arith, k.reads), k.few g)
 
-  module _ (p : Piece) where
-    longer : Taken w s p → p.going ≡ true → read < read + p.read
-    longer t e =
-        let got = waiting_received w (session_of s) t.bytes t.turn.buffer (sym t.turn.turned.waiting ∙ e) in
+  module _ (p : Ending) (t : Taken w e.session p) where
+    longer : p.going ≡ true → e.read < e.read + p.read
+    longer waits =
+        let got = waiting_received w (session_of e.session) t.bytes t.turn.buffer (sym t.turn.turned.waiting ∙ waits) in
         omega (arith, t.reads)
 
-    come_unread : Unread s p → Come w p.session p.going (read + p.read) (handed + p.handed)
-    come_unread e = rw e (record {
-      input = k.input;
-      reads = omega (arith, k.reads);
-      printed = k.printed;
-      hands = omega (arith, k.hands);
-      turns = rw g at k.turns;
-      few = λ _. omega (arith, k.few g);
-    })
+    -- the pieces with this one
+    abbrev pub added : Ending
+    added = record { session = p.session; going = p.going; failed = p.failed; read = e.read + p.read; handed = e.handed + p.handed }
 
-    come_taken : Taken w s p → p.handed ≤ 655744 → Come w p.session p.going (read + p.read) (handed + p.handed)
-    come_taken t h =
+    -- a piece's turn is added to the list
+    pub come_next : Come w added
+    come_next =
         record {
           input = k.input ++ t.bytes;
           reads = omega (arith, k.reads, t.reads, length-append k.input t.bytes);
           printed = k.printed ++ t.text;
           hands = omega (arith, k.hands, t.hands, length-append k.printed t.text);
           turns = a_turn (rw g at k.turns) t.turn;
-          few = λ e. let more = longer t e in omega (arith, k.few g);
+          few = λ waits. let more = longer waits in omega (arith, k.few g, t.few);
         }
 
-    -- a piece's turn is added to the list
-    pub come_next : Pieced w s p → p.handed ≤ 655744 → Come w p.session p.going (read + p.read) (handed + p.handed)
-    come_next (inl e) h = come_unread e
-    come_next (inr t) h = come_taken t h
-
-    -- where the session waits and nothing failed, more was read
-    more_read : Pieced w s p → p.going ≡ true → p.failed ≡ false → read < read + p.read
-    more_read (inl e) goes fine = absurd (false≢true (sym fine ∙ ap (λ (x : Piece). x.failed) e))
-    more_read (inr t) goes fine = longer t goes
-
-    -- so that less is left
-    pub come_less : (failed : Bool) → failed ≡ false → Pieced w s p → left p.going p.failed (read + p.read) < left going failed read
-    come_less failed fine t =
-        let room : 0 < limit + 1 - read = omega (arith, come_bounded.0) in
-        rw (g, fine) (less p.going p.failed _ _ room (λ goes ok. let more = more_read t goes ok in omega (arith, come_bounded.0)))
-
--- where the pieces end, that is the conversion
-pub converted_by : (w : List ℕ) (s : Code.Session) (going failed : Bool) (read handed : ℕ) → Come w s going read handed →
-    (failed ≡ false → going ≡ false) → Converted w (record { session = s; going = going; failed = failed; read = read; handed = handed })
-converted_by w s going failed read handed k ended =
-    record { input = k.input; reads = k.reads; printed = k.printed; hands = k.hands; turns = k.turns; ended = ended }
+    -- where the session waits, more was read, so that less is left
+    pub come_less : not e.failed ≡ true → left added < left e
+    come_less fine =
+        let room : 0 < limit + 1 - e.read = omega (arith, come_bounded.0) in
+        rw (g, fine) (less p.going p.failed _ _ room (λ waits. let more = longer waits in omega (arith, come_bounded.0)))
 
 -- what the program comes to, by what compiling came to
 pub ran_by : (table found w : List ℕ) (o : Outcome (Unit {0})) (e : Ending) → length found ≡ word_count → o ≡ (compile table found).answer →

@@ -1,9 +1,9 @@
 -- What a call of the session leaves for the program to print.
-use Rattle.std.specs.Prelude.{ℕ, ◌≤◌}
-use Rattle.session.specs.declared.call.Answer.{Answer}
-use Rattle.session.specs.declared.call.Answer.TheVariants.{Accepted, Refused}
+use Rattle.std.specs.Prelude.{Result, Ok, Err, ℕ, ◌≤◌}
+use Rattle.rules.specs.declared.refusal.Refusal.{Refusal}
+use Rattle.session.specs.declared.call.Written.{Written}
 
 -- the characters that the call wrote lie within a buffer of so much room
-abbrev pub Counted : Answer → ℕ → Type 0
-Counted (Accepted count status) room = count ≤ room
-Counted (Refused n) room = Unit {0}
+abbrev pub Counted : Result Written Refusal → ℕ → Type 0
+Counted (Ok x) room = x.count ≤ room
+Counted (Err r) room = Unit {0}

@@ -2,7 +2,7 @@
 -- The reckoning and Definition 7 are computed from the tables' bytes; what was served follows by the demand.
 use mathlib.Core.Bool.{true, false}
 use mathlib.Core.List.{List, []}
-use mathlib.Core.Option.{none}
+use Rattle.std.specs.Prelude.{None}
 use mathlib.Core.Path.{◌≡◌, refl, sym, ap, subst, ◌∙◌}
 use Prim.Native.Nat.{ℕ, ◌≤◌}
 use native.Mathlib.Omega.{arith}
@@ -38,7 +38,7 @@ use Rattle.reckoning.proofs.Laws.Demand3.{outcomes_agree}
 use Rattle.reckoning.proofs.Laws.Needs.{nothing_held}
 
 abbrev table_in : Outcome Table → Table
-table_in (refused n) = record { rules = []; default = none; mark = unmarked }
+table_in (refused n) = record { rules = []; default = None; mark = unmarked }
 table_in (accepted t) = t
 
 -- the session that a run over n characters leaves

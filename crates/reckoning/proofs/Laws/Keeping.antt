@@ -3,7 +3,7 @@
 use mathlib.Core.Bool.{Bool, true, false, ◌&&◌, not, cond}
 use mathlib.Core.List.{List, [], ◌∷◌, ◌++◌}
 use mathlib.Core.Logic.{◌≢◌}
-use mathlib.Core.Option.{Option, none, some, some-injective, none-ne-some}
+use Rattle.std.specs.Prelude.{Option, None, Some}
 use mathlib.Core.Path.{◌≡◌, refl, sym, ap, subst, ◌∙◌}
 use Prim.Native.Nat.{ℕ, suc, ◌+◌, ◌*◌, ◌≤◌, ◌<◌}
 use native.Mathlib.Nat.{mul-le-mul}
@@ -12,6 +12,7 @@ use borrow.Author.Tests.{eq-eqb, ne_eqb}
 use lib.Dec.{T, eqb, leb, leb→le}
 use lib.ListN.{length, get_or, take, drop}
 use lib.Seq.{length-take-le, drop-length, drop-cons, get_or-take}
+use Rattle.lists.proofs.Laws.Options.{some_same, none_not}
 use Rattle.lists.specs.Lists.{all}
 use Rattle.lists.specs.Decide.{all_of}
 use Rattle.lists.proofs.Laws.Tests.{to_T, and_assoc, holds}
@@ -62,46 +63,46 @@ pub held_done : (held : List ℕ) (count : ℕ) → count ≤ length held → dr
 held_done held count l = ap (λ n. drop n (take count held)) (sym (length-take-le count held l)) ∙ drop-length (take count held)
 
 -- by whether a character leads on: what follows it counts or not
-stops : (b : Bool) (n : ℕ) (x : Option ℕ) → path_if b (some n) ≡ none → path_if b x ≡ none
-stops true n x e = absurd (none-ne-some n (sym e))
+stops : (b : Bool) (n : ℕ) (x : Option ℕ) → path_if b (Some n) ≡ None → path_if b x ≡ None
+stops true n x e = absurd (none_not n (sym e))
 stops false n x e = refl
 
-goes : (b : Bool) (n r : ℕ) (f : ℕ → Option ℕ) → path_if b (some n) ≡ some r → path_if b (f n) ≡ f r
-goes true n r f e = ap f (some-injective n r e)
-goes false n r f e = absurd (none-ne-some r e)
+goes : (b : Bool) (n r : ℕ) (f : ℕ → Option ℕ) → path_if b (Some n) ≡ Some r → path_if b (f n) ≡ f r
+goes true n r f e = ap f (some_same n r e)
+goes false n r f e = absurd (none_not r e)
 
-inside : (b : Bool) (n r k : ℕ) → n < k → path_if b (some n) ≡ some r → r < k
-inside true n r k h e = subst (λ x. x < k) (some-injective n r e) h
-inside false n r k h e = absurd (none-ne-some r e)
+inside : (b : Bool) (n r k : ℕ) → n < k → path_if b (Some n) ≡ Some r → r < k
+inside true n r k h e = subst (λ x. x < k) (some_same n r e) h
+inside false n r k h e = absurd (none_not r e)
 
 module _ (m : Automaton) (q c : ℕ) where
   -- the character leads on
   abbrev leads_on_lem : Bool
   leads_on_lem = used (m.target q c) && not (settled m (m.target q c))
 
-  pub path_unused : m.target q c ≡ 0 → path m q (c ∷ []) ≡ none
+  pub path_unused : m.target q c ≡ 0 → path m q (c ∷ []) ≡ None
   unfolding path
   path_unused e = rw (eq-eqb _ _ e) refl
 
-  pub path_settled : settled m (m.target q c) ≡ true → path m q (c ∷ []) ≡ none
+  pub path_settled : settled m (m.target q c) ≡ true → path m q (c ∷ []) ≡ None
   unfolding path
   path_settled e = rw (e, and_none (used (m.target q c))) refl
 
-  pub path_one : m.target q c ≢ 0 → settled m (m.target q c) ≡ false → path m q (c ∷ []) ≡ some (m.target q c)
+  pub path_one : m.target q c ≢ 0 → settled m (m.target q c) ≡ false → path m q (c ∷ []) ≡ Some (m.target q c)
   unfolding path
   path_one n e = rw (e, ne_eqb _ _ n) refl
 
   -- more characters after one
-  pub path_stops : (cs : List ℕ) → path m q (c ∷ []) ≡ none → path m q (c ∷ cs) ≡ none
+  pub path_stops : (cs : List ℕ) → path m q (c ∷ []) ≡ None → path m q (c ∷ cs) ≡ None
   unfolding path
   path_stops cs e = stops leads_on_lem (m.target q c) (path m (m.target q c) cs) e
 
-  pub path_goes : (r : ℕ) (cs : List ℕ) → path m q (c ∷ []) ≡ some r → path m q (c ∷ cs) ≡ path m r cs
+  pub path_goes : (r : ℕ) (cs : List ℕ) → path m q (c ∷ []) ≡ Some r → path m q (c ∷ cs) ≡ path m r cs
   unfolding path
   path_goes r cs e = goes leads_on_lem (m.target q c) r (λ s. path m s cs) e
 
 -- a character leads from a state to a state
-pub path_inside : (w : List ℕ) → T (sound w) → (q c r : ℕ) → q < state_count w → path (from_words w) q (c ∷ []) ≡ some r → r < state_count w
+pub path_inside : (w : List ℕ) → T (sound w) → (q c r : ℕ) → q < state_count w → path (from_words w) q (c ∷ []) ≡ Some r → r < state_count w
 unfolding path
 path_inside w sure q c r b e =
     inside (leads_on_lem (from_words w) q c) ((from_words w).target q c) r (state_count w) ((sound_good w sure).inside q c b) e

@@ -2,7 +2,7 @@
 -- A walk goes on while each rule that fits is longer than what was read; where it halts, the state tells the least that fits, or that none does.
 use mathlib.Core.Bool.{Bool, true, false, ◌&&◌, cond}
 use mathlib.Core.List.{List, [], ◌∷◌, ◌++◌, append_assoc}
-use mathlib.Core.Option.{none, some}
+use Rattle.std.specs.Prelude.{None, Some}
 use mathlib.Core.Path.{◌≡◌, refl, sym, ap, subst, ◌∙◌}
 use Prim.Native.Nat.{ℕ, zero, suc, pred}
 use native.Mathlib.Omega.{arith}
@@ -24,29 +24,29 @@ use Rattle.reckoning.proofs.Laws.Rounds.{round_falls}
 abbrev Picks : Table → List ℕ → Round → Type 0
 Picks t z waits = ⊥
 Picks t z closes = z ≡ []
-Picks t z (stops d) = Chosen t (length t.rules) z none
-Picks t z (defaults d g k) = Chosen t (length t.rules) z none
-Picks t z (accepts r d) = Chosen t (length t.rules) z (some r) × ((rule_at t r).size ≡ d)
+Picks t z (stops d) = Chosen t (length t.rules) z None
+Picks t z (defaults d g k) = Chosen t (length t.rules) z None
+Picks t z (accepts r d) = Chosen t (length t.rules) z (Some r) × ((rule_at t r).size ≡ d)
 
-picks_back : (t : Table) (z : List ℕ) (b : Fall) (d : ℕ) → Sure b → Chosen t (length t.rules) z none → Picks t z (back b d)
+picks_back : (t : Table) (z : List ℕ) (b : Fall) (d : ℕ) → Sure b → Chosen t (length t.rules) z None → Picks t z (back b d)
 picks_back t z nowhere d s c = c
 picks_back t z (taking g k) d s c = c
 picks_back t z keeping d s c = absurd s
 
 -- the fall of an ended input is what Definition 7 chooses where no rule fits
 abbrev Agreed : Table → List ℕ → Fall → Type 0
-Agreed t z nowhere = or_default (mode t) z none ≡ none
-Agreed t z (taking g k) = (or_default (mode t) z none ≡ some g) × ((group t g).size ≡ k)
+Agreed t z nowhere = or_default (mode t) z None ≡ None
+Agreed t z (taking g k) = (or_default (mode t) z None ≡ Some g) × ((group t g).size ≡ k)
 Agreed t z keeping = ⊥
 
 module _ (t : Table) (s : Shaped t) where
   by_mode : (m : Mode) → mode t ≡ m → (x : ℕ) (u : List ℕ) → Agreed t (x ∷ u) (fall m true (x ∷ u))
-  by_mode Absent p x u = ap (λ m. or_default m (x ∷ u) none) p
-  by_mode Single p x u = (ap (λ m. or_default m (x ∷ u) none) p, default_size t s (ap present p))
-  by_mode Paired p x [] = (ap (λ m. or_default m (x ∷ []) none) p, default_size t s (ap present p))
-  by_mode Paired p x (y ∷ u) = two (is_first x && is_second y) (ap (λ m. or_default m (x ∷ y ∷ u) none) p)
+  by_mode Absent p x u = ap (λ m. or_default m (x ∷ u) None) p
+  by_mode Single p x u = (ap (λ m. or_default m (x ∷ u) None) p, default_size t s (ap present p))
+  by_mode Paired p x [] = (ap (λ m. or_default m (x ∷ []) None) p, default_size t s (ap present p))
+  by_mode Paired p x (y ∷ u) = two (is_first x && is_second y) (ap (λ m. or_default m (x ∷ y ∷ u) None) p)
     where
-      two : (b : Bool) → or_default (mode t) (x ∷ y ∷ u) none ≡ some (cond b pair_number default_number) → Agreed t (x ∷ y ∷ u) (fall_two b)
+      two : (b : Bool) → or_default (mode t) (x ∷ y ∷ u) None ≡ Some (cond b pair_number default_number) → Agreed t (x ∷ y ∷ u) (fall_two b)
       two true q = (q, ap (λ g. g.size) (group_pair t))
       two false q = (q, default_size t s (ap present p))
 
@@ -86,7 +86,7 @@ module _ (A : Automaton) (t : Table) (s : Shaped t) (R : Reads A t) (b : Fall) (
 
 -- over x and u the conversion does what the round picks
 module _ (t : Table) (s : Shaped t) (x : ℕ) (u : List ℕ) (f : ℕ → Trace) (g : ℕ → Conversion) (h : (k : ℕ) → Tells (f k) (g k)) where
-  chosen_tells : (n k : ℕ) (o : Trace) → choose t (x ∷ u) ≡ some n → (group t n).size ≡ k →
+  chosen_tells : (n k : ℕ) (o : Trace) → choose t (x ∷ u) ≡ Some n → (group t n).size ≡ k →
       log_of o ≡ record { group = n; word = take k (x ∷ u) } ∷ log_of (f (pred k)) → status_of o ≡ status_of (f (pred k)) →
       Tells o (convert_by t (choose t (x ∷ u)) (x ∷ u) g)
   chosen_tells n k o p q a b =
@@ -98,12 +98,12 @@ module _ (t : Table) (s : Shaped t) (x : ℕ) (u : List ℕ) (f : ℕ → Trace)
   round_tells b waits a l p = absurd p
   round_tells b closes a l p = absurd (let z : length (x ∷ u) ≡ 0 = ap length p in omega arith)
   round_tells b (stops d) a l p =
-      let i : or_default (mode t) (x ∷ u) none ≡ none = subst (Agreed t (x ∷ u)) l a in rw (choose_is t (x ∷ u) none p ∙ i) (refl, refl)
+      let i : or_default (mode t) (x ∷ u) None ≡ None = subst (Agreed t (x ∷ u)) l a in rw (choose_is t (x ∷ u) None p ∙ i) (refl, refl)
   round_tells b (defaults d n k) a l p =
-      let i : (or_default (mode t) (x ∷ u) none ≡ some n) × ((group t n).size ≡ k) = subst (Agreed t (x ∷ u)) l a in
-      chosen_tells n k (defaulting d n (take k (x ∷ u)) (f (pred k))) (choose_is t (x ∷ u) none p ∙ i.0) i.1 refl refl
+      let i : (or_default (mode t) (x ∷ u) None ≡ Some n) × ((group t n).size ≡ k) = subst (Agreed t (x ∷ u)) l a in
+      chosen_tells n k (defaulting d n (take k (x ∷ u)) (f (pred k))) (choose_is t (x ∷ u) None p ∙ i.0) i.1 refl refl
   round_tells b (accepts r d) a l p =
-      chosen_tells r d (accepting r (take d (x ∷ u)) (f (pred d))) (choose_is t (x ∷ u) (some r) p.0)
+      chosen_tells r d (accepting r (take d (x ∷ u)) (f (pred d))) (choose_is t (x ∷ u) (Some r) p.0)
       (ap (λ a. a.size) (group_rule t r s p.0.0) ∙ p.1) refl refl
 
 pub meaning_law : (A : Automaton) (t : Table) → Shaped t → Reads A t → A.default ≡ mode t → (k : ℕ) (u : List ℕ) → Characters u →

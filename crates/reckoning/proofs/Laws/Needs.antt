@@ -2,7 +2,7 @@
 -- before them every choice is decided. The conversion of a longer input goes on from what is held, and the state that waits has two ways on.
 use mathlib.Core.Bool.{Bool, true, false, ◌&&◌, cond}
 use mathlib.Core.List.{List, [], ◌∷◌, ◌++◌, append-nil}
-use mathlib.Core.Option.{none, some}
+use Rattle.std.specs.Prelude.{None, Some}
 use mathlib.Core.Path.{◌≡◌, refl, sym, ap, subst, ◌∙◌}
 use Prim.Native.Nat.{ℕ, suc, ◌≤◌, ◌<◌}
 use native.Mathlib.Nat.{add-zero}
@@ -59,7 +59,7 @@ module _ (t : Table) (W : WellFormed t) where
   go_not_end q n r pg pe = subst T (sym (settled_hit A q (suc r) pg) ∙ n) (rw pe (eqb_refl (suc r)))
 
   -- where state 0 has no target for a character, no rule fits there
-  none_fits : (y : ℕ) → A.target 0 y ≡ 0 → (u : List ℕ) → Characters (y ∷ u) → Chosen t (length t.rules) (y ∷ u) none
+  none_fits : (y : ℕ) → A.target 0 y ≡ 0 → (u : List ℕ) → Characters (y ∷ u) → Chosen t (length t.rules) (y ∷ u) None
   unfolding walk
   none_fits y n u c = rw (good.accept_0, n) at (round_picks A t S (table_reads t S) (taking 0 0) tt (y ∷ u) c)
 
@@ -77,12 +77,12 @@ module _ (t : Table) (W : WellFormed t) where
     one_choice = the_default;
     other_choice = the_pair;
     one_chosen =
-        at_first t S (y ∷ []) none (omega arith) (none_fits y none_there [] (b, tt))
-        ∙ ap (λ m. some (fallen m (y ∷ []))) m;
+        at_first t S (y ∷ []) None (omega arith) (none_fits y none_there [] (b, tt))
+        ∙ ap (λ m. Some (fallen m (y ∷ []))) m;
     other_chosen =
-        at_first t S (y ∷ 56320 ∷ []) none (omega arith) (none_fits y none_there (56320 ∷ []) (b, (omega arith, tt)))
-        ∙ ap (λ m. some (fallen m (y ∷ 56320 ∷ []))) m
-        ∙ ap (λ z. some (cond z the_pair the_default)) (of_T (is_first y && is_second 56320) (both (is_first y) (is_second 56320) i tt));
+        at_first t S (y ∷ 56320 ∷ []) None (omega arith) (none_fits y none_there (56320 ∷ []) (b, (omega arith, tt)))
+        ∙ ap (λ m. Some (fallen m (y ∷ 56320 ∷ []))) m
+        ∙ ap (λ z. Some (cond z the_pair the_default)) (of_T (is_first y && is_second 56320) (both (is_first y) (is_second 56320) i tt));
     differ = λ e. let z : ◌≡◌ {A = ℕ} 0 1 = cc in omega arith;
   }
 

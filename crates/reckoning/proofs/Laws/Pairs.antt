@@ -2,7 +2,7 @@
 -- The steps after a back are computed from the mark and the units.
 use mathlib.Core.Bool.{Bool, true, false, ◌&&◌, not}
 use mathlib.Core.List.{List, [], ◌∷◌, ◌++◌}
-use mathlib.Core.Option.{Option, some}
+use Rattle.std.specs.Prelude.{Option, Some}
 use mathlib.Core.Path.{◌≡◌, refl, ap, ◌∙◌}
 use Prim.Native.Nat.{ℕ, zero, suc, ◌+◌}
 use native.Mathlib.Omega.{arith}
@@ -91,11 +91,11 @@ no_path : (A : Automaton) (q x : ℕ) (held : List ℕ) → T (is_at 0 (path A q
 unfolding path
 no_path A q x [] t = go (A.target q x) t
   where
-    by : (b : Bool) (r : ℕ) → T (is_at 0 (path_if b (some (suc r)))) → ⊥
+    by : (b : Bool) (r : ℕ) → T (is_at 0 (path_if b (Some (suc r)))) → ⊥
     by true r t = omega (arith, eqb→eq 0 (suc r) t)
     by false r t = t
 
-    go : (r : ℕ) → T (is_at 0 (path_if (used r && not (settled A r)) (some r))) → ⊥
+    go : (r : ℕ) → T (is_at 0 (path_if (used r && not (settled A r)) (Some r))) → ⊥
     go zero t = t
     go (suc r) t = by (used (suc r) && not (settled A (suc r))) r t
 no_path A q x (y ∷ held) t =

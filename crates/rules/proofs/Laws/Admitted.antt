@@ -2,7 +2,7 @@
 -- The tests are those of the definition; what each kind of record changes is shown in `TakenGroup`, `TakenRange`, `TakenOutput`,
 -- `TakenDigit` and `TakenTerm`.
 use Rattle.std.proofs.Common.{◌≡◌, ℕ, suc, ◌+◌, ◌≤◌, Bool, true, false, not, ◌&&◌, ◌||◌, T, eqb, ltb, leb, List, [], ◌∷◌, length, pos, refl, ap, ◌∙◌, ap₂, arith, eqb→eq}
-use mathlib.Core.Option.{some}
+use Rattle.std.specs.Prelude.{Some}
 use Rattle.lists.specs.Lists.{Each, last_d}
 use Rattle.lists.specs.Decide.{select}
 use Rattle.meaning.specs.Refusal.{Outcome, refused, accepted}
@@ -45,7 +45,7 @@ decided s x a b c false false false p q r f =
 
 -- where the tests are the same
 alike : (s : Reading) (x : Record) → (T (not (misplaced s x)) → T (not (skipping s x)) → T (not (too_many s x)) → Taken s x) →
-    Alike s x (select ((misplaced s x, refused 3) ∷ (skipping s x, refused 4) ∷ (too_many s x, refused 6) ∷ []) (accepted (next (summary s) x))) (read_one s (some x))
+    Alike s x (select ((misplaced s x, refused 3) ∷ (skipping s x, refused 4) ∷ (too_many s x, refused 6) ∷ []) (accepted (next (summary s) x))) (read_one s (Some x))
 unfolding read_one
 alike s x f = decided s x (misplaced s x) (skipping s x) (too_many s x) (misplaced s x) (skipping s x) (too_many s x) refl refl refl f
 
@@ -85,7 +85,7 @@ term_misplaced_lem s p a =
     let g = latest_of s.table in
     ap (λ b. not (eqb s.kind 3 || eqb s.kind 4) || leb g.size p || b) (output_named (last_d (sum (pos 0) []) g.outputs) p)
 
-pub admit_right : (s : Reading) (x : Record) → Read s → FittingRecord x → Right s x (read_one s (some x))
+pub admit_right : (s : Reading) (x : Record) → Read s → FittingRecord x → Right s x (read_one s (Some x))
 unfolding read_one admit misplaced skipping too_many unfilled latest repeated select
 admit_right s (rule k a) h f =
     decided s (rule k a) _ (skipping s (rule k a)) (too_many s (rule k a)) (misplaced s (rule k a)) (skipping s (rule k a)) (too_many s (rule k a)) (summary_defaulted s) refl refl

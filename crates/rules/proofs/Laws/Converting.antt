@@ -1,10 +1,11 @@
 -- Direct conversion by the array of an accepted table is direct conversion by the table.
 -- Each group chosen is a rule that fits or the default, so its values are characters, and its block writes them exactly; or it is a pair, which is
 -- written unchanged.
-use Rattle.std.proofs.Common.{◌≡◌, ℕ, zero, suc, pred, ◌+◌, ◌*◌, ◌<◌, ◌≤◌, max, Bool, true, false, cond, T, ltb, List, [], ◌∷◌, ◌++◌, length, get_or, take, drop, sym, refl, ap, ◌∙◌, subst, ap₂, true≢false, add-zero, mul-le-mul_right, arith, lit<, length-take-le, get_or-drop, le-ltb, lt-ltb, ne_eqb}
-use mathlib.Core.Bool.{or-false, false≢true}
-use mathlib.Core.Option.{Option, none, some, some-injective, none-ne-some}
+use Rattle.std.proofs.Common.{◌≡◌, ℕ, zero, suc, pred, ◌+◌, ◌*◌, ◌<◌, ◌≤◌, max, Bool, true, false, cond, T, ltb, List, [], ◌∷◌, ◌++◌, length, get_or, take, drop, sym, refl, ap, ◌∙◌, subst, ap₂, add-zero, mul-le-mul_right, arith, lit<, length-take-le, get_or-drop, le-ltb, lt-ltb, ne_eqb}
+use mathlib.Core.Bool.{or-false}
+use Rattle.std.specs.Prelude.{Option, None, Some}
 use native.Mathlib.Decide.{ℕ_discrete}
+use Rattle.lists.proofs.Laws.Options.{some_same, none_not}
 use Rattle.lists.specs.Lists.{Each, greatest, optional}
 use Rattle.lists.specs.Decide.{select}
 use Rattle.lists.proofs.Laws.Tests.{and-true, to_between}
@@ -22,6 +23,7 @@ use Rattle.rules.specs.bridge.Modes.{the_mode}
 use Rattle.rules.specs.bridge.Readings.{LoadedBy}
 use Rattle.rules.specs.declared.mode.Mode.{Mode as Kept}
 use Rattle.rules.specs.declared.load.Load.{Load}
+use Rattle.meaning.proofs.Laws.Refusal.{accepted_same, accepted_not, refused_same}
 use Rattle.meaning.proofs.Laws.Shape.{Within, ShapedDefault, Shaped}
 use Rattle.meaning.proofs.Laws.Narrow.{Narrow}
 use Rattle.meaning.proofs.Laws.Groups.{rule_shaped, default_each, group_rule, group_default, some_default, written_pair, SafeGroup, safe_group}
@@ -93,23 +95,23 @@ module _ (loaded : List ℕ) (n : ℕ) (d : Mode) (input buffer : List ℕ) wher
     expansion_fits h = let a : expansion_at loaded n d * length input ≤ 8 * length input = mul-le-mul_right (length input) h in omega (arith, short)
 
 -- a group that is chosen: a rule that fits, the default, or a pair
-pub choose_cases : {X : Type 0} (t : Table) (u : List ℕ) (n : ℕ) → choose t u ≡ some n →
+pub choose_cases : {X : Type 0} (t : Table) (u : List ℕ) (n : ℕ) → choose t u ≡ Some n →
     (n < length t.rules → Fits t n u → X) → (n ≡ default_number → present (mode t) ≡ true → X) → (n ≡ pair_number → T (starts_pair u) → X) → X
 unfolding choose
 choose_cases {X} t u n e f d p = go (best t (length t.rules) u) (best_chosen t (length t.rules) u) e
   where
-    by_pair : (b : Bool) → starts_pair u ≡ b → present (mode t) ≡ true → some (cond b pair_number default_number) ≡ some n → X
-    by_pair true i h q = p (sym (some-injective pair_number n q)) (rw i tt)
-    by_pair false i h q = d (sym (some-injective default_number n q)) h
+    by_pair : (b : Bool) → starts_pair u ≡ b → present (mode t) ≡ true → Some (cond b pair_number default_number) ≡ Some n → X
+    by_pair true i h q = p (sym (some_same pair_number n q)) (rw i tt)
+    by_pair false i h q = d (sym (some_same default_number n q)) h
 
-    none_left : (m : Mode) → mode t ≡ m → or_default m u none ≡ some n → X
-    none_left Absent h q = absurd (none-ne-some n q)
-    none_left Single h q = d (sym (some-injective default_number n q)) (ap present h)
+    none_left : (m : Mode) → mode t ≡ m → or_default m u None ≡ Some n → X
+    none_left Absent h q = absurd (none_not n q)
+    none_left Single h q = d (sym (some_same default_number n q)) (ap present h)
     none_left Paired h q = by_pair (starts_pair u) refl (ap present h) q
 
-    go : (o : Option ℕ) → Chosen t (length t.rules) u o → or_default (mode t) u o ≡ some n → X
-    go none c q = none_left (mode t) refl q
-    go (some r) c q = let z = some-injective r n q in f (subst (λ m. m < length t.rules) z c.0) (subst (λ m. Fits t m u) z c.1)
+    go : (o : Option ℕ) → Chosen t (length t.rules) u o → or_default (mode t) u o ≡ Some n → X
+    go None c q = none_left (mode t) refl q
+    go (Some r) c q = let z = some_same r n q in f (subst (λ m. m < length t.rules) z c.0) (subst (λ m. Fits t m u) z c.1)
 
 pub every_fits : (g : Group) (x : ℕ) → ShapedDefault g → x < 65536 → T (fits_word g.ranges (x ∷ []))
 unfolding fits_word
@@ -126,7 +128,7 @@ module _ (t : Table) (s : Shaped t) where
       ∙ rows_at block_size block t r j (omega arith) i
       ∙ ap (λ l. at l j) (rows_of_rule block t.rules t.default r (every_character []) few h)
 
-  loaded_default : (g : Group) → t.default ≡ some g → (j : ℕ) → j < block_size → at (loaded_words t) (block_size * 32 + j) ≡ at (block g) j
+  loaded_default : (g : Group) → t.default ≡ Some g → (j : ℕ) → j < block_size → at (loaded_words t) (block_size * 32 + j) ≡ at (block g) j
   unfolding block_words
   loaded_default g e j i =
       loaded_block t (block_size * 32 + j) (omega arith)
@@ -166,21 +168,21 @@ module _ (t : Table) (s : Shaped t) where
       count_rule : (k : ℕ) → k < length t.rules → at (loaded_words t) (block_size * k + 2) ≡ length (rule_at t k).outputs
       count_rule k h = loaded_rule k h 2 (lit< tt) ∙ block_count (rule_at t k)
 
-      count_default : (g : Group) → t.default ≡ some g → at (loaded_words t) (32 * block_size + 2) ≡ length g.outputs
+      count_default : (g : Group) → t.default ≡ Some g → at (loaded_words t) (32 * block_size + 2) ≡ length g.outputs
       count_default g e = loaded_default g e 2 (lit< tt) ∙ block_count g
 
       first_below_lem : (E : ℕ) (o : Option Group) (k : Mark) → t.default ≡ o → least (mode_of o k) ≤ E → Each (λ g. length g.outputs ≤ E) (optional o) →
           max (least (mode_of o k)) (cond (present (mode_of o k)) (at (loaded_words t) (32 * block_size + 2)) 0) ≤ E
-      first_below_lem E none k e h a = omega arith
-      first_below_lem E (some g) unmarked e h a = let i = a.0 in let c = count_default g e in omega arith
-      first_below_lem E (some g) marked e h a = let i = a.0 in let c = count_default g e in omega arith
+      first_below_lem E None k e h a = omega arith
+      first_below_lem E (Some g) unmarked e h a = let i = a.0 in let c = count_default g e in omega arith
+      first_below_lem E (Some g) marked e h a = let i = a.0 in let c = count_default g e in omega arith
 
       first_above : (F : ℕ) (o : Option Group) (k : Mark) → t.default ≡ o → cond (present (mode_of o k)) (at (loaded_words t) (32 * block_size + 2)) 0 ≤ F →
           Each (λ g. length g.outputs ≤ F) (optional o)
-      first_above F none k e a = tt
-      first_above F (some g) k e a = (let c = count_default g e in omega (arith, there k a), tt)
+      first_above F None k e a = tt
+      first_above F (Some g) k e a = (let c = count_default g e in omega (arith, there k a), tt)
         where
-          there : (k : Mark) → cond (present (mode_of (some g) k)) (at (loaded_words t) (32 * block_size + 2)) 0 ≤ F → at (loaded_words t) (32 * block_size + 2) ≤ F
+          there : (k : Mark) → cond (present (mode_of (Some g) k)) (at (loaded_words t) (32 * block_size + 2)) 0 ≤ F → at (loaded_words t) (32 * block_size + 2) ≤ F
           there unmarked a = a
           there marked a = a
 
@@ -199,7 +201,7 @@ module _ (t : Table) (s : Shaped t) where
     pair_writes c [] p = absurd p
     pair_writes c (y ∷ rest) p = sym (written_pair c y)
 
-    chosen_writes : (n : ℕ) (c : ℕ) (rest : List ℕ) → c < 65536 → choose t (c ∷ rest) ≡ some n →
+    chosen_writes : (n : ℕ) (c : ℕ) (rest : List ℕ) → c < 65536 → choose t (c ∷ rest) ≡ Some n →
         let w = take (group t n).size (c ∷ rest) in flat_write (loaded_words t) n w ≡ writes t n w
     unfolding SafeTable
     chosen_writes n c rest small e =
@@ -236,8 +238,8 @@ module _ (t : Table) (s : Shaped t) where
             ((skip : ℕ) → flat_text (loaded_words t) (convert_from t skip rest).log ≡ text_of (writes t) (convert_from t skip rest).log) →
             flat_text (loaded_words t) (convert_by t o (c ∷ rest) (λ skip. convert_from t skip rest)).log
             ≡ text_of (writes t) (convert_by t o (c ∷ rest) (λ skip. convert_from t skip rest)).log
-        go none p h = refl
-        go (some n) p h = ap₂ ◌++◌ (chosen_writes n c rest e.0 p) (h (pred (group t n).size))
+        go None p h = refl
+        go (Some n) p h = ap₂ ◌++◌ (chosen_writes n c rest e.0 p) (h (pred (group t n).size))
 
     module _ (narrow : Narrow t) (u : List ℕ) (characters : Characters u) where
       abbrev conversion : Conversion
@@ -265,29 +267,18 @@ module _ (t : Table) (s : Shaped t) where
 
 -- a table that was loaded, or refused
 
-abbrev is_loaded : Load → Bool
-is_loaded (Load.Accepted n d) = true
-is_loaded (Load.Refused k) = false
-
--- the number of rules, or of the refusal
-abbrev number_of : Load → ℕ
-number_of (Load.Accepted n d) = n
-number_of (Load.Refused k) = k
-
-abbrev mode_in : Load → Kept
-mode_in (Load.Accepted n d) = d
-mode_in (Load.Refused k) = Kept.Absent
-
-loaded_refused : (o : Outcome Table) (n : ℕ) (loaded : List ℕ) → LoadedBy o (Load.Refused n) loaded → o ≡ refused n
-loaded_refused (refused k) n loaded e = ap refused (sym (ap number_of e))
-loaded_refused (accepted t) n loaded e = absurd (false≢true (ap is_loaded e.0))
+loaded_refused : (o : Outcome Table) (n : ℕ) (loaded : List ℕ) → LoadedBy o (refused n) loaded → o ≡ refused n
+loaded_refused (refused k) n loaded e = ap refused (refused_same k n (sym e))
+loaded_refused (accepted t) n loaded e = absurd (accepted_not _ n (sym e.0))
 
 -- what holds of the array of the table that is read
 of_loaded : (P : List ℕ → ℕ → Mode → Type 0) (o : Outcome Table) (n : ℕ) (d : Kept) (loaded : List ℕ) →
-    LoadedBy o (Load.Accepted n d) loaded →
+    LoadedBy o (accepted (record { rules = n; mode = d })) loaded →
     ((t : Table) → o ≡ accepted t → P (loaded_words t) (length t.rules) (mode t)) → P loaded n (the_mode d)
-of_loaded P (refused k) n d loaded e f = absurd (true≢false (ap is_loaded e))
-of_loaded P (accepted t) n d loaded e f = rw (e.1, ap number_of e.0, ap mode_in e.0, kept_mode_lem (mode t)) (f t refl)
+of_loaded P (refused k) n d loaded e f = absurd (accepted_not _ k e)
+of_loaded P (accepted t) n d loaded e f =
+    let same = accepted_same _ _ e.0 in
+    rw (e.1, ap (λ (l : Load). l.rules) same, ap (λ (l : Load). l.mode) same, kept_mode_lem (mode t)) (f t refl)
 
 -- what the conversion by the array needs
 pub record Ready (loaded : List ℕ) (n : ℕ) (d : Mode) (input : List ℕ) : Type 0 where
@@ -324,8 +315,8 @@ module _ (b : List ℕ) where
     unfolding direct admitted and_then
     read_direct input buffer c = rw e (direct_flat t is_shaped is_safe is_narrow input c buffer)
 
-  module _ (r : Load) (loaded : List ℕ) (l : LoadedBy (read_table b) r loaded) where
-    module _ (n : ℕ) (d : Kept) (e : r ≡ Load.Accepted n d) where
+  module _ (r : Outcome Load) (loaded : List ℕ) (l : LoadedBy (read_table b) r loaded) where
+    module _ (n : ℕ) (d : Kept) (e : r ≡ accepted (record { rules = n; mode = d })) where
       pub of_read : (P : List ℕ → ℕ → Mode → Type 0) →
           ((t : Table) → read_table b ≡ accepted t → P (loaded_words t) (length t.rules) (mode t)) → P loaded n (the_mode d)
       of_read P f = of_loaded P (read_table b) n d loaded (subst (λ x. LoadedBy (read_table b) x loaded) e l) f
@@ -343,7 +334,7 @@ module _ (b : List ℕ) where
       unfolding and_then
       loaded_checked = of_read (λ l n d. accepted tt ≡ checked b) (λ t e. rw e refl)
 
-    module _ (n : ℕ) (e : r ≡ Load.Refused n) where
+    module _ (n : ℕ) (e : r ≡ refused n) where
       pub is_refused : read_table b ≡ refused n
       is_refused = loaded_refused (read_table b) n loaded (subst (λ x. LoadedBy (read_table b) x loaded) e l)
 

@@ -1,7 +1,7 @@
 -- The table check as it is run gives the definition's answer, and leaves the array of the table that is read.
 -- Record by record, by `admit_right`; what holds of every reading on the way holds of the table.
 use Rattle.std.proofs.Common.{◌≡◌, ℕ, zero, suc, ◌+◌, ◌*◌, ◌/◌, ◌<◌, ◌≤◌, eqb, List, [], ◌∷◌, ◌++◌, map, length, get_or, take, drop, replicate, sym, refl, ap, ◌∙◌, subst, ap₂, add-zero, arith, take-append-drop}
-use mathlib.Core.Option.{Option, none, some}
+use Rattle.std.specs.Prelude.{Option, None, Some}
 use Rattle.lists.specs.Lists.{pad, Each, optional}
 use Rattle.lists.specs.Decide.{select}
 use Rattle.lists.proofs.Laws.Tests.{by_cases}
@@ -43,9 +43,9 @@ first_right : (s : Reading) (b : List ℕ) (f : Reader → List ℕ → Taken) (
     ((s' : Reading) → Read s' → TakenRight (f (summary s') (loaded_words s'.table)) (g s')) →
     (o : Option Record) → decode b ≡ o → TakenRight (take_on (admitted (summary s) o) (if_taken (summary s) o (loaded_words s.table)) f) (and_then (read_one s o) g)
 unfolding read_one and_then
-first_right s b f g e h rest none p = refl
-first_right s b f g e h rest (some x) p =
-    onward s x (loaded_words s.table) f g rest (admit (summary s) x) (read_one s (some x)) (admit_right s x h (decode_fits b e x p))
+first_right s b f g e h rest None p = refl
+first_right s b f g e h rest (Some x) p =
+    onward s x (loaded_words s.table) f g rest (admit (summary s) x) (read_one s (Some x)) (admit_right s x h (decode_fits b e x p))
 
 pub records_right : (n : ℕ) (b : List ℕ) (s : Reading) → Each (λ x. x < 256) b → Read s →
     TakenRight (take_records n b (summary s) (loaded_words s.table)) (read_records n b s)

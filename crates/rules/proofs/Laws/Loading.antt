@@ -1,7 +1,8 @@
 -- Loading a table: how far its records have been taken, what the refusals of its end leave, and that the check's answer is the definition's.
 -- Each record that is taken leaves the same work before and after; at the end the array is that of the table that is read.
 use Rattle.std.proofs.Common.{◌≡◌, ℕ, zero, suc, ◌+◌, ◌*◌, ◌/◌, ◌%◌, ◌<◌, ◌≤◌, Bool, true, false, not, eqb, List, [], ◌∷◌, length, get_or, take, drop, sym, refl, ap, ◌∙◌, subst, arith, take-append-drop, drop-drop, eq-eqb, ne_eqb}
-use mathlib.Core.Option.{Option, none, some}
+use Rattle.std.specs.Prelude.{Option, None, Some}
+use Rattle.std.specs.Simd.{first_chunks}
 use Rattle.lists.specs.Lists.{Each, pad}
 use Rattle.lists.specs.Decide.{select}
 use Rattle.lists.proofs.Laws.Each.{each_front, each_back}
@@ -24,6 +25,14 @@ use Rattle.rules.proofs.Laws.Flattened.{TakenRight, take_right, end_right, flat_
 use Rattle.meaning.proofs.Laws.SafeFlat.{each_numbers, safe_flat}
 use Rattle.meaning.proofs.Laws.Decoding.{FittingRecord, decode_fits}
 use Rattle.rules.proofs.Laws.Stepping.{SmallRecord, admit_fitting, if_taken_length}
+
+-- chunk number i of eight bytes each
+pub chunk_at : (k i : ℕ) (b : List ℕ) → i < k → get_or (first_chunks 8 k b) i [] ≡ take 8 (drop (8 * i) b)
+chunk_at zero i b h = absurd (omega arith)
+chunk_at (suc k) zero b h = refl
+chunk_at (suc k) (suc i) b h =
+    let e : 8 + 8 * i ≡ 8 * suc i = omega arith in
+    chunk_at k i (drop 8 b) (omega arith) ∙ ap (take 8) (drop-drop (8 * i) 8 b ∙ ap (λ n. drop n b) e)
 
 -- what is known of a slice's elements by number
 pub each_known : (most : ℕ) (b : List ℕ) → ((i : ℕ) → get_or b i 0 < most) → Each (λ x. x < most) b
@@ -49,8 +58,8 @@ small (default k) f = tt
 small (hexadecimal p shift) f = tt
 
 pub fitting_on : (r r' : Reader) (b : List ℕ) (x : Option Record) → Each (λ c. c < 256) b → decode b ≡ x → Fitting r → admitted r x ≡ accepted r' → Fitting r'
-fitting_on r r' b none e d f p = absurd (accepted_not r' 2 (sym p))
-fitting_on r r' b (some x) e d f p = admit_fitting r r' x f (small x (decode_fits b e x d)) p
+fitting_on r r' b None e d f p = absurd (accepted_not r' 2 (sym p))
+fitting_on r r' b (Some x) e d f p = admit_fitting r r' x f (small x (decode_fits b e x d)) p
 
 each_part : (n m : ℕ) (P : ℕ → Type 0) (b : List ℕ) → Each P b → Each P (take n (drop m b))
 each_part n m P b e =
@@ -70,8 +79,8 @@ module _ {first : Reader} {table : List ℕ} {before now : List ℕ} {reader : R
       let all = take_records (length table / 8) table first before in (accepted reader ≡ all.answer) × (now ≡ all.loaded)
   unfolding take_records
   passed_end h =
-      let none : p.left ≡ 0 = omega (arith, p.whole) in
-      let whole = p.same ∙ ap (λ k. take_records k (drop place table) reader now) none in
+      let over : p.left ≡ 0 = omega (arith, p.whole) in
+      let whole = p.same ∙ ap (λ k. take_records k (drop place table) reader now) over in
       (sym (ap (λ t. t.answer) whole), sym (ap (λ t. t.loaded) whole))
 
   module _ (inside : place < length table) (x : Option Record) (read : x ≡ decode (take 8 (drop place table))) where
@@ -111,10 +120,10 @@ module _ {first : Reader} {table : List ℕ} {before now : List ℕ} {reader : R
 
 -- the table check: what it answers where the records are refused, and where they are taken
 
-refused_loaded : (b : List ℕ) (n : ℕ) (loaded : List ℕ) → read_table b ≡ refused n → LoadedBy (read_table b) (Load.Refused n) loaded
-refused_loaded b n loaded e = subst (λ o. LoadedBy o (Load.Refused n) loaded) (sym e) refl
+refused_loaded : (b : List ℕ) (n : ℕ) (loaded : List ℕ) → read_table b ≡ refused n → LoadedBy (read_table b) (refused n) loaded
+refused_loaded b n loaded e = subst (λ o. LoadedBy o (refused n) loaded) (sym e) refl
 
-pub ragged_loaded : (b loaded : List ℕ) → (length b % 8 ≡ 0 → ⊥) → LoadedBy (read_table b) (Load.Refused 1) loaded
+pub ragged_loaded : (b loaded : List ℕ) → (length b % 8 ≡ 0 → ⊥) → LoadedBy (read_table b) (refused 1) loaded
 unfolding read_table read_rules select and_then
 ragged_loaded b loaded h = refused_loaded b 1 loaded (rw (ne_eqb (length b % 8) 0 h) refl)
 
@@ -139,7 +148,7 @@ module _ (b : List ℕ) (bytes : Each (λ x. x < 256) b) {first : List ℕ} (zer
         go (refused k) p r = rw (rules_read (refused k) p) (ap refused (sym (refused_same n k (e ∙ r))))
         go (accepted s) p r = absurd (accepted_not (summary s) n (sym (e ∙ r.0)))
 
-    pub records_loaded : (n : ℕ) (loaded : List ℕ) → refused n ≡ taken_all.answer → LoadedBy (read_table b) (Load.Refused n) loaded
+    pub records_loaded : (n : ℕ) (loaded : List ℕ) → refused n ≡ taken_all.answer → LoadedBy (read_table b) (refused n) loaded
     records_loaded n loaded e = refused_loaded b n loaded (records_refused n e)
 
     -- what the tests at the table's end need
@@ -166,7 +175,7 @@ module _ (b : List ℕ) (bytes : Each (λ x. x < 256) b) {first : List ℕ} (zer
 
       answers : (g z f : Bool) → (g ≡ false → z ≡ false → f ≡ safe end) →
           LoadedBy (and_then (select ((g, refused 4) ∷ (z, refused 5) ∷ []) (accepted end)) (λ t. select ((not (safe t), refused 7) ∷ []) (accepted t)))
-          (select ((g, Load.Refused 4) ∷ (z, Load.Refused 5) ∷ (not f, Load.Refused 7) ∷ []) (Load.Accepted (length end.rules) (kept_mode (mode end))))
+          (select ((g, refused 4) ∷ (z, refused 5) ∷ (not f, refused 7) ∷ []) (accepted (record { rules = length end.rules; mode = kept_mode (mode end) })))
           (loaded_words end)
       unfolding select and_then
       answers true z f h = refl
@@ -174,7 +183,7 @@ module _ (b : List ℕ) (bytes : Each (λ x. x < 256) b) {first : List ℕ} (zer
       answers false false f h = rw (h refl refl) (last (safe end))
         where
           last : (f : Bool) → LoadedBy (select ((not f, refused 7) ∷ []) (accepted end))
-              (select ((not f, Load.Refused 7) ∷ []) (Load.Accepted (length end.rules) (kept_mode (mode end)))) (loaded_words end)
+              (select ((not f, refused 7) ∷ []) (accepted (record { rules = length end.rules; mode = kept_mode (mode end) }))) (loaded_words end)
           last true = (refl, refl)
           last false = refl
 
@@ -196,6 +205,6 @@ module _ (b : List ℕ) (bytes : Each (λ x. x < 256) b) {first : List ℕ} (zer
       pub end_needs : EndNeeds reader m
       end_needs = of_reading EndNeeds needs_read
 
-      pub end_loaded : (r : Load) → r ≡ end_of reader (safe_at m reader.rules (the_mode reader.mode)) →
+      pub end_loaded : (r : Outcome Load) → r ≡ end_of reader (safe_at m reader.rules (the_mode reader.mode)) →
           LoadedBy (read_table b) r m
       end_loaded r e = subst (λ x. LoadedBy (read_table b) x m) (sym e) (of_reading EndLoads loads_read)

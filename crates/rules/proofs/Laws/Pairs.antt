@@ -1,10 +1,8 @@
--- Pairs in an input: whether one is next, and both units put into an output.
+-- Pairs in an input: both units put into an output.
 -- By the two units next, one by one.
-use Rattle.std.proofs.Common.{◌≡◌, ℕ, suc, ◌+◌, ◌<◌, ◌≤◌, false, ◌&&◌, List, [], ◌∷◌, ◌++◌, length, take, drop, set, refl, ap, ◌∙◌, add-one, arith, drop-cons}
+use Rattle.std.proofs.Common.{◌≡◌, ℕ, suc, ◌+◌, ◌≤◌, List, [], ◌∷◌, ◌++◌, length, take, drop, set, refl, ap, ◌∙◌, add-one, arith, drop-cons}
 use lib.Seq.{sets-eq}
-use Rattle.meaning.specs.Table.{is_first, is_second}
 use Rattle.meaning.specs.Block.{at}
-use Rattle.meaning.specs.Meaning.{starts_pair}
 
 -- the two units at a place
 two_next : (u : List ℕ) (a : ℕ) → a + 2 ≤ length u → drop a u ≡ at u a ∷ at u (a + 1) ∷ drop (a + 2) u
@@ -18,15 +16,6 @@ two_next u a h =
 
     two : suc (suc a) ≡ a + 2
     two = omega arith
-
-pub pair_at : (u : List ℕ) (a : ℕ) → a + 2 ≤ length u → starts_pair (drop a u) ≡ is_first (at u a) && is_second (at u (a + 1))
-pair_at u a h = ap starts_pair (two_next u a h)
-
--- fewer than two are no pair
-pub no_pair : (u : List ℕ) → length u < 2 → starts_pair u ≡ false
-no_pair [] h = refl
-no_pair (x ∷ []) h = refl
-no_pair (x ∷ (y ∷ u)) h = absurd (omega arith)
 
 -- both put into an output
 pub pair_put : (u o : List ℕ) (a n : ℕ) → a + 2 ≤ length u → n + 2 ≤ length o →

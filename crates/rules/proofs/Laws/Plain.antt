@@ -1,7 +1,7 @@
 -- Where a plain character is next, Definition 7 chooses the default, a pair or nothing.
 -- Each rule has a position, and the first takes another character, so no rule fits.
-use Rattle.std.proofs.Common.{◌≡◌, ℕ, zero, suc, ◌+◌, ◌*◌, ◌<◌, ◌≤◌, Bool, true, false, List, ◌∷◌, length, get_or, take, drop, set, replicate, sym, refl, ap, ◌∙◌, true≢false, add-zero, add-one, arith, drop-cons, get_or-set_other, get_or-set_same, le-ltb}
-use mathlib.Core.Option.{none}
+use Rattle.std.proofs.Common.{◌≡◌, ℕ, zero, suc, ◌+◌, ◌*◌, ◌<◌, ◌≤◌, Bool, true, false, List, [], ◌∷◌, length, get_or, take, set, replicate, sym, refl, ◌∙◌, true≢false, add-zero, add-one, arith, get_or-set_other, get_or-set_same}
+use Rattle.std.specs.Prelude.{None}
 use native.Mathlib.Decide.{ℕ_discrete}
 use Rattle.lists.specs.Lists.{tab_from}
 use Rattle.lists.specs.Decide.{for_below}
@@ -32,22 +32,21 @@ module _ (loaded : List ℕ) (n : ℕ) (d : Mode) (positive : (g : ℕ) → g < 
       (of_not (in_ranges (ranges_at loaded (8 * r)) c) (below n (passes_by loaded c) (to_T (for_below n (passes_by loaded c)) plain) r h))
 
   -- no rule is kept
-  none_kept : (rest : List ℕ) (r : ℕ) → r ≤ n → KeptOf loaded n d (c ∷ rest) r n 9
+  none_kept : (rest : List ℕ) (r : ℕ) → r ≤ n → KeptOf loaded n d (c ∷ rest) r None 9
   none_kept rest zero h = kept_none loaded n d (c ∷ rest)
   none_kept rest (suc r) h =
       let i : r < n = omega arith in
-      rw add-one at (kept_skip loaded n d (c ∷ rest) r n 9 i false (sym (rule_fails rest r i)) refl (none_kept rest r (omega arith)))
+      rw add-one at (kept_skip loaded n d (c ∷ rest) r None 9 i (none_kept rest r (omega arith)) false (sym (rule_fails rest r i)) refl)
 
-  plain_chosen : (rest : List ℕ) → choose (table_at loaded n d) (c ∷ rest) ≡ or_default d (c ∷ rest) none
-  plain_chosen rest = kept_choose loaded n d (c ∷ rest) n 9 (none_kept rest n (omega arith)) ∙ rw (le-ltb n n (omega arith)) refl
+  plain_chosen : (rest : List ℕ) → choose (table_at loaded n d) (c ∷ rest) ≡ or_default d (c ∷ rest) None
+  plain_chosen rest = kept_choose loaded n d (c ∷ rest) None 9 (none_kept rest n (omega arith))
 
--- the choice at place a of an input whose character there is marked
-pub marked_chosen : (loaded : List ℕ) (n : ℕ) (d : Mode) (u : List ℕ) (a : ℕ) (marks : List Bool) →
-    ((g : ℕ) → g < n → 1 ≤ at loaded (block_size * g)) → Marked loaded n marks → a < length u → get_or marks (at u a) false ≡ true →
-    choose (table_at loaded n d) (drop a u) ≡ or_default d (drop a u) none
-marked_chosen loaded n d u a marks positive right h e =
-    ap (choose (table_at loaded n d)) (drop-cons u a 0 h) ∙ plain_chosen loaded n d positive (at u a) (right (at u a) e) (drop (suc a) u)
-    ∙ ap (λ x. or_default d x none) (sym (drop-cons u a 0 h))
+-- the choice for the rest of an input whose next character is marked
+pub marked_chosen : (loaded : List ℕ) (n : ℕ) (d : Mode) (rest : List ℕ) (marks : List Bool) →
+    ((g : ℕ) → g < n → 1 ≤ at loaded (block_size * g)) → Marked loaded n marks → 0 < length rest → get_or marks (at rest 0) false ≡ true →
+    choose (table_at loaded n d) rest ≡ or_default d rest None
+marked_chosen loaded n d [] marks positive right h e = absurd (omega arith)
+marked_chosen loaded n d (c ∷ rest) marks positive right h e = plain_chosen loaded n d positive c (right c e) rest
 
 -- the marks at first, none, and after one more character's test
 

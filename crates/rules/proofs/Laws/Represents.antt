@@ -1,7 +1,7 @@
 -- A reading as the table check keeps it: a summary of its last group, and its table in one flat array.
 -- What holds of every reading on the way makes the two agree: `Admitted` shows that each record keeps it.
 use Rattle.std.proofs.Common.{◌≡◌, ℕ, pred, ◌≤◌, false, cond, not, ◌||◌, T, eqb, List, [], ◌∷◌, ◌++◌, length, pos, sym, refl, ap, ◌∙◌, subst, ap₂, true≢false, arith, eqb→eq}
-use mathlib.Core.Option.{Option, none, some}
+use Rattle.std.specs.Prelude.{Option, None, Some}
 use Rattle.lists.specs.Lists.{Each, at_last, last_d, is_some, optional}
 use Rattle.lists.proofs.Laws.Tests.{of_T, of_not, or_cases}
 use Rattle.lists.proofs.Laws.Each.{each_append, each_front, each_back, each_weaken}
@@ -75,8 +75,8 @@ each_last P d [] p a = p
 each_last P d (x ∷ xs) p a = each_last P x xs a.0 a.1
 
 each_top : (P : Group → Type 0) (rs : List Group) (d : Option Group) → P (every_character []) → Each P (rs ++ optional d) → P (top rs d)
-each_top P rs none p a = each_last P (every_character []) rs p (each_front P rs [] a)
-each_top P rs (some g) p a = (each_back P rs (g ∷ []) a).0
+each_top P rs None p a = each_last P (every_character []) rs p (each_front P rs [] a)
+each_top P rs (Some g) p a = (each_back P rs (g ∷ []) a).0
 
 pub every_narrow : NarrowGroup (every_character [])
 every_narrow = record { few = (omega arith, tt); narrow = tt }
@@ -104,28 +104,28 @@ kind_there k m n t a b =
 module _ (F : Group → Group) where
   pub latest_changed : (rs : List Group) (d : Option Group) (m : Mark) → Grouped rs d → latest_of (change_latest F (record { rules = rs; default = d; mark = m })) ≡ F (top rs d)
   unfolding change_latest
-  latest_changed rs none m h = last_at_last F (every_character []) rs h
-  latest_changed rs (some g) m h = refl
+  latest_changed rs None m h = last_at_last F (every_character []) rs h
+  latest_changed rs (Some g) m h = refl
 
   pub grouped_changed : (rs : List Group) (d : Option Group) (m : Mark) → Grouped rs d →
       Grouped (change_latest F (record { rules = rs; default = d; mark = m })).rules (change_latest F (record { rules = rs; default = d; mark = m })).default
   unfolding change_latest
-  grouped_changed rs none m h = rw at_last_length h
-  grouped_changed rs (some g) m h = tt
+  grouped_changed rs None m h = rw at_last_length h
+  grouped_changed rs (Some g) m h = tt
 
   -- the summary with the last group changed
   pub summary_changed : (k : ℕ) (rs : List Group) (d : Option Group) (m : Mark) → Grouped rs d →
       summary (record { table = change_latest F (record { rules = rs; default = d; mark = m }); kind = k }) ≡ summary_of k (length rs) (kept_mode (mode_of d m)) (F (top rs d))
   unfolding change_latest
-  summary_changed k rs none m h = ap₂ (λ n g. summary_of k n Mode.Absent g) (at_last_length F rs) (last_at_last F (every_character []) rs h)
-  summary_changed k rs (some g) unmarked h = refl
-  summary_changed k rs (some g) marked h = refl
+  summary_changed k rs None m h = ap₂ (λ n g. summary_of k n Mode.Absent g) (at_last_length F rs) (last_at_last F (every_character []) rs h)
+  summary_changed k rs (Some g) unmarked h = refl
+  summary_changed k rs (Some g) marked h = refl
 
   pub narrow_changed : (rs : List Group) (d : Option Group) (m : Mark) → (NarrowGroup (top rs d) → NarrowGroup (F (top rs d))) →
       Narrow (record { rules = rs; default = d; mark = m }) → Narrow (change_latest F (record { rules = rs; default = d; mark = m }))
   unfolding change_latest
-  narrow_changed rs none m f a = each_append NarrowGroup (at_last F rs) [] (last_each NarrowGroup F (every_character []) rs f (each_front NarrowGroup rs [] a)) tt
-  narrow_changed rs (some g) m f a = each_append NarrowGroup rs (F g ∷ []) (each_front NarrowGroup rs (g ∷ []) a) (f (each_back NarrowGroup rs (g ∷ []) a).0, tt)
+  narrow_changed rs None m f a = each_append NarrowGroup (at_last F rs) [] (last_each NarrowGroup F (every_character []) rs f (each_front NarrowGroup rs [] a)) tt
+  narrow_changed rs (Some g) m f a = each_append NarrowGroup rs (F g ∷ []) (each_front NarrowGroup rs (g ∷ []) a) (f (each_back NarrowGroup rs (g ∷ []) a).0, tt)
 
 -- the summary's numbers are within their limits
 
@@ -151,8 +151,8 @@ read_fitting s h =
     }
   where
     there : (rs : List Group) (d : Option Group) → Grouped rs d → is_some d ≡ false → 1 ≤ length rs
-    there rs none k e = k
-    there rs (some x) k e = absurd (true≢false e)
+    there rs None k e = k
+    there rs (Some x) k e = absurd (true≢false e)
 
     without : (s : Reading) → Read s → T (ranging s) → is_some s.table.default ≡ false
     without s h t = of_not (is_some s.table.default) (subst (λ b. Ended b s.table) (of_T (ranging s) t) h.kept.ended).1

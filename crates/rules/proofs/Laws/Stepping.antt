@@ -1,7 +1,7 @@
 -- Taking in one record: the summary's numbers stay within their limits, the array keeps its length, and what is written has its place.
 -- By the tests that the record has passed.
 use Rattle.std.proofs.Common.{◌≡◌, ℕ, pred, ◌+◌, ◌<◌, ◌≤◌, Bool, true, false, not, ◌&&◌, ◌||◌, T, eqb, ltb, leb, ◌≢◌, List, length, sym, refl, ap, ◌∙◌, subst, true≢false, arith, eqb→eq, nltb→le, T_not, length-set, eq-eqb}
-use mathlib.Core.Option.{Option, none, some}
+use Rattle.std.specs.Prelude.{Option, None, Some}
 use borrow.Author.Tests.{eqb-false}
 use lib.Dec.{nleb→lt}
 use Rattle.lists.proofs.Laws.Tests.{of_not, not_not, or_none, or_cases, of_cond, by_cases, neqb→ne}
@@ -35,8 +35,8 @@ loaded_by_length r (hexadecimal p shift) l = simp length-set
 loaded_by_length r (default k) l = simp length-set
 
 pub if_taken_length : (r : Reader) (x : Option Record) (l : List ℕ) → length (if_taken r x l) ≡ length l
-if_taken_length r none l = refl
-if_taken_length r (some x) l = go (admit r x)
+if_taken_length r None l = refl
+if_taken_length r (Some x) l = go (admit r x)
   where
     go : (o : Outcome Reader) → length (afterwards o (loaded_by r x l) l) ≡ length l
     go (refused n) = refl

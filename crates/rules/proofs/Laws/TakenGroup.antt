@@ -1,7 +1,7 @@
 -- A rule or the default, taken in by the check as it is run: a new group begins.
 -- Its rows are new ones, and the summary is that of the new group.
 use Rattle.std.proofs.Common.{◌≡◌, ℕ, ◌+◌, ◌*◌, ◌<◌, ◌≤◌, Bool, not, T, ◌≢◌, List, [], ◌∷◌, ◌++◌, length, set, sym, refl, ap, ◌∙◌, ap₂, add-zero, arith, length-append}
-use mathlib.Core.Option.{Option, none, some}
+use Rattle.std.specs.Prelude.{Option, None, Some}
 use Rattle.lists.specs.Lists.{pad, is_some, optional}
 use Rattle.lists.proofs.Laws.Tests.{neqb→ne}
 use Rattle.lists.proofs.Laws.Each.{each_append, each_front}
@@ -25,21 +25,21 @@ use Rattle.rules.proofs.Laws.Taken.{Taken}
 
 rule_loaded : (s : Reading) (k : ℕ) (a : Bool) (rs : List Group) (d : Option Group) (m : Mark) → T (not (is_some d)) → length rs < 32 →
     loaded_by (summary_of s.kind (length rs) (kept_mode (mode_of d m)) (top rs d)) (rule k a) (loaded_words (record { rules = rs; default = d; mark = m }))
-    ≡ loaded_words (record { rules = rs ++ (record { size = k; anchored = a; ranges = []; outputs = [] } ∷ []); default = none; mark = unmarked })
+    ≡ loaded_words (record { rules = rs ++ (record { size = k; anchored = a; ranges = []; outputs = [] } ∷ []); default = None; mark = unmarked })
 unfolding loaded_words slot_words range_words block_words high_words block pad
-rule_loaded s k a rs none m t h =
+rule_loaded s k a rs None m t h =
     let g : Group = record { size = k; anchored = a; ranges = []; outputs = [] } in
-    let old : Table = record { rules = rs; default = none; mark = m } in
+    let old : Table = record { rules = rs; default = None; mark = m } in
     let n = block_size * length rs in
     ap (λ l. set l (n + 1) (bit a)) (set_block (table_sized old) n k (omega arith))
     ∙ set_block (sized_block (table_sized old) n k) (n + 1) (bit a) (omega arith)
     ∙ joined_same
     (ap (λ i. set (set (block_words old) i k) (n + 1) (bit a)) (sym (add-zero n))
-    ∙ sym (rows_more block_size block ((0, k) ∷ (1, bit a) ∷ []) (omega arith, (omega arith, tt)) rs none m unmarked g h refl))
-    (sym (rows_more 8 slot_row [] tt rs none m unmarked g h refl))
-    (sym (rows_more 64 range_row [] tt rs none m unmarked g h refl))
-    (sym (rows_more 8 high_row [] tt rs none m unmarked g h refl))
-rule_loaded s k a rs (some x) m t h = absurd t
+    ∙ sym (rows_more block_size block ((0, k) ∷ (1, bit a) ∷ []) (omega arith, (omega arith, tt)) rs None m unmarked g h refl))
+    (sym (rows_more 8 slot_row [] tt rs None m unmarked g h refl))
+    (sym (rows_more 64 range_row [] tt rs None m unmarked g h refl))
+    (sym (rows_more 8 high_row [] tt rs None m unmarked g h refl))
+rule_loaded s k a rs (Some x) m t h = absurd t
 
 pub rule_taken : (s : Reading) (k : ℕ) (a : Bool) → Read s → FittingRecord (rule k a) → T (not (misplaced s (rule k a))) → T (not (skipping s (rule k a))) → T (not (too_many s (rule k a))) → Taken s (rule k a)
 unfolding taken misplaced skipping too_many
@@ -62,7 +62,7 @@ rule_taken s k a h f m n o =
 
 default_loaded : (s : Reading) (k : Mark) (rs : List Group) (d : Option Group) (m : Mark) → T (not (is_some d)) →
     loaded_by (summary_of s.kind (length rs) (kept_mode (mode_of d m)) (top rs d)) (default k) (loaded_words (record { rules = rs; default = d; mark = m }))
-    ≡ loaded_words (record { rules = rs; default = some (every_character []); mark = k })
+    ≡ loaded_words (record { rules = rs; default = Some (every_character []); mark = k })
 unfolding loaded_words slot_words range_words block_words high_words block pad
 default_loaded s k rs d m t =
     let g = every_character [] in
@@ -90,6 +90,6 @@ default_taken s k h m n o =
       },
     )
   where
-    same : (k : Mark) → marked_mode k ≡ kept_mode (mode_of (some (every_character [])) k)
+    same : (k : Mark) → marked_mode k ≡ kept_mode (mode_of (Some (every_character [])) k)
     same unmarked = refl
     same marked = refl

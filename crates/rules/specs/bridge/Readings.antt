@@ -1,6 +1,6 @@
 -- What the answers of the table check's parts mean: a record, a step, a choice, a loaded table.
 use Rattle.std.specs.Prelude.{◌≡◌, ℕ, Bool, not, List, [], ◌∷◌, length, ◌==◌}
-use Rattle.std.proofs.Math.Option.{Option, none, some}
+use Rattle.std.specs.Prelude.{Option, None, Some}
 use Rattle.lists.specs.Decide.{select}
 use Rattle.meaning.specs.Refusal.{Outcome, refused, accepted}
 use Rattle.meaning.specs.Record as Spec
@@ -9,37 +9,29 @@ use Rattle.meaning.specs.bridge.Flat.{loaded_words}
 use Rattle.rules.specs.bridge.Modes.{kept_mode}
 use Rattle.rules.specs.bridge.Summary.{gap}
 use Rattle.rules.specs.declared.record.Record.{Record}
-use Rattle.rules.specs.declared.record.Record.TheVariants.{Rule, Range, Output, Term, Default, Hexadecimal, Bad}
+use Rattle.rules.specs.declared.record.Record.TheVariants.{Rule, Range, Output, Term, Default, Hexadecimal}
 use Rattle.rules.specs.declared.reader.Reader.{Reader}
-use Rattle.rules.specs.declared.reader.Step.{Step}
-use Rattle.rules.specs.declared.reader.Step.TheVariants.{Next, Refused}
 use Rattle.rules.specs.declared.load.Load.{Load}
-use Rattle.rules.specs.declared.pattern.Choice.{Choice}
 
-abbrev pub record_of : Record → Option Spec.Record
-record_of (Rule size anchored) = some (Spec.rule size anchored)
-record_of (Range position lowest highest) = some (Spec.range position (record { lowest = lowest; highest = highest }))
-record_of (Output constant) = some (Spec.output constant)
-record_of (Term position coefficient) = some (Spec.term position coefficient)
-record_of (Default marked) = some (Spec.default (Spec.mark_of marked))
-record_of (Hexadecimal position shift) = some (Spec.hexadecimal position shift)
-record_of Bad = none
+abbrev pub meant : Record → Spec.Record
+meant (Rule size anchored) = Spec.rule size anchored
+meant (Range position lowest highest) = Spec.range position (record { lowest = lowest; highest = highest })
+meant (Output constant) = Spec.output constant
+meant (Term position coefficient) = Spec.term position coefficient
+meant (Default marked) = Spec.default (Spec.mark_of marked)
+meant (Hexadecimal position shift) = Spec.hexadecimal position shift
 
-abbrev pub step_of : Step → Outcome Reader
-step_of (Next r) = accepted r
-step_of (Refused n) = refused n
-
--- the group's number; none for no choice
-abbrev pub choice_of : Choice → Option ℕ
-choice_of (Choice.Group n) = some n
-choice_of Choice.Nothing = none
+-- none where refusal 2 is due
+abbrev pub record_of : Option Record → Option Spec.Record
+record_of None = None
+record_of (Some code) = Some (meant code)
 
 -- the refusals of a table's end, of a table that passes refusal 7's test or not
-abbrev pub end_of : Reader → Bool → Load
+abbrev pub end_of : Reader → Bool → Outcome Load
 end_of r safe =
-    select ((gap r, Load.Refused 4) ∷ ((r.rules == 0), Load.Refused 5) ∷ (not safe, Load.Refused 7) ∷ []) (Load.Accepted r.rules r.mode)
+    select ((gap r, refused 4) ∷ ((r.rules == 0), refused 5) ∷ (not safe, refused 7) ∷ []) (accepted (record { rules = r.rules; mode = r.mode }))
 
 -- the check's answer, and where the table is accepted its array: a function of the table
-abbrev pub LoadedBy : Outcome Table → Load → List ℕ → Type 0
-LoadedBy (refused n) r loaded = r ≡ Load.Refused n
-LoadedBy (accepted t) r loaded = (r ≡ Load.Accepted (length t.rules) (kept_mode (mode t))) × (loaded ≡ loaded_words t)
+abbrev pub LoadedBy : Outcome Table → Outcome Load → List ℕ → Type 0
+LoadedBy (refused n) r loaded = r ≡ refused n
+LoadedBy (accepted t) r loaded = (r ≡ accepted (record { rules = length t.rules; mode = kept_mode (mode t) })) × (loaded ≡ loaded_words t)

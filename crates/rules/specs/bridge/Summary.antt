@@ -1,6 +1,6 @@
 -- The table check as it is run: a summary of the groups read so far instead of the groups, and the groups in one flat array.
 use Rattle.std.specs.Prelude.{◌≡◌, ℕ, zero, suc, pred, ◌+◌, ◌*◌, ◌/◌, ◌%◌, ◌^◌, ◌<◌, ◌≤◌, Bool, false, cond, not, ◌&&◌, ◌||◌, T, List, [], ◌∷◌, take, drop, ◌==◌, nat_le, nat_lt, slice_set}
-use Rattle.std.proofs.Math.Option.{Option, none, some}
+use Rattle.std.specs.Prelude.{Option, None, Some}
 use Rattle.lists.specs.Decide.{select}
 use Rattle.meaning.specs.Refusal.{Outcome, refused, accepted}
 use Rattle.meaning.specs.Table.{present, default_number}
@@ -93,8 +93,8 @@ admit r (default k) = select ((defaulted r, refused 3) ∷ (gap r, refused 4) �
 
 -- "each by 2, 3, 4, 6"
 abbrev pub admitted : Reader → Option Record → Outcome Reader
-admitted r none = refused 2
-admitted r (some x) = admit r x
+admitted r None = refused 2
+admitted r (Some x) = admit r x
 
 -- the last group's number
 abbrev pub group_number : Reader → ℕ
@@ -130,8 +130,8 @@ if_admitted r x l = afterwards (admit r x) (loaded_by r x l) l
 
 -- the same for a record that may be refused by 2
 abbrev pub if_taken : Reader → Option Record → List ℕ → List ℕ
-if_taken r none l = l
-if_taken r (some x) l = if_admitted r x l
+if_taken r None l = l
+if_taken r (Some x) l = if_admitted r x l
 
 -- the records in turn: the summary or the refusal, and the array
 pub record Taken : Type 0 where

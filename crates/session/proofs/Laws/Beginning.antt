@@ -19,7 +19,7 @@ use Rattle.reckoning.proofs.Laws.Run.{run_again}
 use Rattle.session.specs.bridge.Counting.{Counted}
 use Rattle.session.specs.bridge.Running.{standing, Lent, EndsAs, less_steps}
 use Rattle.session.specs.declared.run.Ran.{Ran}
-use Rattle.session.proofs.Laws.Running.{Stage, begins}
+use Rattle.session.proofs.Laws.Running.{Underway, begins}
 
 -- what is run, by whether the state is 0
 abbrev pub origin : Bool → List ℕ → List ℕ → ℕ → Configuration
@@ -52,12 +52,12 @@ module _ (w given piece : List ℕ) (ended : Bool) (W : T (sound w)) (q : ℕ) (
   module _ (has : Lent) (short : length given + length piece ≤ 1099511627784)
       (enough : 1 ≤ length has.output → expansion_word w * (length given + length piece) ≤ length has.output) (counted : Counted has.uses 0) where
     pub begins_at : (now : Ran) → now.state.0 ≡ q → now.from ≡ 0 → now.at ≡ cond (eqb q 0) 0 (length given) → now.count ≡ 0 → now.steps ≡ 0 →
-        Stage w u ended (length has.output) (first w given piece ended q) has.uses false now has
+        Underway w u ended (length has.output) (first w given piece ended q) has.uses now has
     unfolding path
     begins_at now e₁ e₂ e₃ e₄ e₅ = by (eqb q 0) refl e₃
       where
         by : (b : Bool) → eqb q 0 ≡ b → now.at ≡ cond b 0 (length given) →
-            Stage w u ended (length has.output) (run (from_words w) ended (origin b given piece q)) has.uses false now has
+            Underway w u ended (length has.output) (run (from_words w) ended (origin b given piece q)) has.uses now has
         by true e a =
             let z : q ≡ 0 = eqb→eq q 0 (to_T (eqb q 0) e) in
             let n : 0 + length u ≡ length given + length piece = omega (arith, length-append given piece) in

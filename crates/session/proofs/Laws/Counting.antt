@@ -2,17 +2,19 @@
 -- By the laws of a list with one element made anew, and since no sound count is more than what was consumed.
 use mathlib.Core.Bool.{Bool, cond}
 use mathlib.Core.List.{List}
-use mathlib.Core.Option.{Option, none, some, some-injective, none-ne-some}
+use Rattle.std.specs.Prelude.{Option, None, Some}
+use Rattle.std.specs.Option.{option_eq}
 use mathlib.Core.Path.{◌≡◌, sym, ap, ◌∙◌}
 use Prim.Native.Nat.{ℕ, ◌+◌, ◌-◌, ◌≤◌, ◌<◌}
 use native.Mathlib.Decide.{ℕ_discrete}
 use native.Mathlib.Nat.{add-zero}
 use native.Mathlib.Omega.{arith}
-use borrow.Author.Tests.{le-leb, lt-leb}
-use lib.Dec.{T, ltb, leb, ltb→lt, nltb→le, leb→le, nleb→lt}
+use borrow.Author.Tests.{ne_eqb, le-leb, lt-leb}
+use lib.Dec.{T, eqb, ltb, leb, ltb→lt, nltb→le, leb→le, nleb→lt, eqb→eq}
 use lib.ListN.{length, get_or, set, length-set}
 use lib.Seq.{set_out, get_or-set_same, get_or-set_other, set-get_or, set-set}
-use Rattle.lists.proofs.Laws.Tests.{split}
+use Rattle.lists.proofs.Laws.Options.{some_same, none_not}
+use Rattle.lists.proofs.Laws.Tests.{split, test_eq, eq→eqb}
 use Rattle.meaning.specs.Direct.{limit}
 use Rattle.automaton.specs.Sound.{sound}
 use Rattle.reckoning.specs.Uses.{use_counts, sound_uses}
@@ -60,23 +62,47 @@ counted_sound w uses consumed W t h e = record { whole = e; few = λ g. omega (a
 
 module _ (m n : ℕ) where
   abbrev rest : Bool → Option ℕ
-  rest b = cond b (some (m - n)) none
+  rest b = cond b (Some (m - n)) None
 
-  pub less_enough : n ≤ m → less m n ≡ some (m - n)
+  pub less_enough : n ≤ m → less m n ≡ Some (m - n)
   less_enough h = ap rest (le-leb n m h)
 
-  pub less_lacking : m < n → less m n ≡ none
+  pub less_lacking : m < n → less m n ≡ None
   less_lacking h = ap rest (lt-leb n m h)
 
-  pub enough_less : (k : ℕ) → less m n ≡ some k → n + k ≡ m
+  pub enough_less : (k : ℕ) → less m n ≡ Some k → n + k ≡ m
   enough_less k e =
       split (leb n m)
       (λ t.
       let h : n ≤ m = leb→le n m t in
-      let p : m - n ≡ k = some-injective (m - n) k (sym (less_enough h) ∙ e) in
+      let p : m - n ≡ k = some_same (m - n) k (sym (less_enough h) ∙ e) in
       omega arith)
-      (λ t. absurd (none-ne-some k (sym (less_lacking (nleb→lt n m t)) ∙ e)))
+      (λ t. absurd (none_not k (sym (less_lacking (nleb→lt n m t)) ∙ e)))
 
-  pub lacking_less : less m n ≡ none → m < n
+  pub lacking_less : less m n ≡ None → m < n
   lacking_less e =
-      split (leb n m) (λ t. absurd (none-ne-some (m - n) (sym e ∙ less_enough (leb→le n m t)))) (λ t. nleb→lt n m t)
+      split (leb n m) (λ t. absurd (none_not (m - n) (sym e ∙ less_enough (leb→le n m t)))) (λ t. nleb→lt n m t)
+
+-- past a part that was taken, what is left without the rest
+pub less_past : (a b m n : ℕ) → a + b ≡ m → less b n ≡ less m (a + n)
+less_past a b m n e =
+    split (leb n b)
+    (λ t.
+    let h : n ≤ b = leb→le n b t in
+    let same : b - n ≡ m - (a + n) = omega arith in
+    less_enough b n h ∙ ap Some same ∙ sym (less_enough m (a + n) (omega arith)))
+    (λ t. let h : b < n = nleb→lt n b t in less_lacking b n h ∙ sym (less_lacking m (a + n) (omega arith)))
+
+-- what is left is a number just where that and what was taken are the whole
+pub less_is : (m n k : ℕ) → option_eq eqb (less m n) (Some k) ≡ eqb (n + k) m
+less_is m n k =
+    split (leb n m)
+    (λ t.
+    let h : n ≤ m = leb→le n m t in
+    ap (λ o. option_eq eqb o (Some k)) (less_enough m n h)
+    ∙ test_eq (eqb (m - n) k) (eqb (n + k) m)
+    (λ u. let e = eqb→eq (m - n) k u in eq→eqb (n + k) m (omega arith))
+    (λ u. let e = eqb→eq (n + k) m u in eq→eqb (m - n) k (omega arith)))
+    (λ t.
+    let h : m < n = nleb→lt n m t in
+    ap (λ o. option_eq eqb o (Some k)) (less_lacking m n h) ∙ sym (ne_eqb (n + k) m (λ e. absurd (omega arith))))

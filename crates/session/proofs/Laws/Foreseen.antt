@@ -1,6 +1,5 @@
 -- Request [5] of the code: a feed with enough output answers what the preview answered, and leaves the session that it answered.
 -- Each contract is an equation with what is seen of its outcome, and those are the same; where both are refused, each session is the one found.
-use mathlib.Core.Bool.{false}
 use mathlib.Core.Path.{◌≡◌, refl, sym, ap, ◌∙◌}
 use Prim.Native.Nat.{ℕ}
 use Rattle.meaning.specs.Refusal.{Outcome, refused, accepted}
@@ -14,10 +13,12 @@ use Rattle.reckoning.specs.Preview.{Seen, seen_by, LooksAhead}
 use Rattle.reckoning.proofs.Laws.Answers.{calls_answer}
 use Rattle.reckoning.proofs.Laws.Preview.{looks_ahead}
 use Rattle.session.specs.Keeping.{session_of}
-use Rattle.session.specs.Promised.{answer_of, is_accepted}
+use Rattle.session.specs.Promised.{answer_of, written_of, left_of}
 use Rattle.session.specs.Preview.{PreviewTells}
-use Rattle.session.specs.declared.call.Answer.{Answer}
-use Rattle.session.specs.declared.call.Answer.TheVariants.{Accepted, Refused}
+use Rattle.session.specs.declared.kept.Session.{Session}
+use Rattle.session.specs.declared.call.Went.{Went}
+use Rattle.rules.specs.declared.refusal.Refusal.{Refusal}
+use Rattle.std.specs.Prelude.{Result, Ok, Err}
 
 -- what is seen fixes the answer, and the session too where a refusal leaves the one found
 same_seen : (o o' : Outcome Call.Answer) (s s' found : Spec.Session) → seen_by o s ≡ seen_by o' s' →
@@ -29,18 +30,18 @@ same_seen (accepted a) (accepted b) s s' found e h h' =
     let same = accepted_same _ _ e in
     (ap (λ (x : Seen). accepted (record { count = x.count; status = x.status })) same, ap (λ (x : Seen). x.session) same)
 
--- a code answer that stands for a refusal is no acceptance
-not_accepted : (a : Answer) (n : ℕ) → answer_of a ≡ refused n → is_accepted a ≡ false
-not_accepted (Accepted count status) n e = absurd (accepted_not _ n e)
-not_accepted (Refused m) n e = refl
+-- a call that is refused leaves what it found
+left_found : (r : Result (Went Session) Refusal) (found : Session) (n : ℕ) → answer_of (written_of r) ≡ refused n → left_of found r ≡ found
+left_found (Ok x) found n e = absurd (accepted_not _ n e)
+left_found (Err k) found n e = refl
 
 -- REQUEST [5], of the code
 pub preview_tells : PreviewTells
 unfolding PreviewTells LooksAhead CallsAnswer
-preview_tells w s piece seen told p buffer a later output f enough =
-    same_seen (answer_of seen.answer) (answer_of a) (session_of seen.session) (session_of later) (session_of s)
+preview_tells w s piece seen p buffer a later output f enough =
+    same_seen (answer_of (written_of seen)) (answer_of a) (session_of (left_of s seen)) (session_of later) (session_of s)
     (p ∙ (looks_ahead w (session_of s) piece).feeds buffer enough ∙ ap (λ (o : CallOutcome). seen_by o.answer o.session) (sym f))
-    (λ n e. ap session_of (told.unchanged (told.accepted ∙ not_accepted seen.answer n e)))
+    (λ n e. ap session_of (left_found seen s n e))
     (λ n e.
     ap (λ (o : CallOutcome). o.session) f
     ∙ ((calls_answer w (session_of s) (of_feed piece buffer)).unchanged n (sym (ap (λ (o : CallOutcome). o.answer) f) ∙ e)).0)

@@ -213,7 +213,7 @@ first_accept w W = (sound_good w W).accept_0
 
 -- the run between two words, in the state where it is
 abbrev between_at : Ran → ℕ → ℕ → ℕ → Ran
-between_at now place written made = record { done = false; status = Code.Open; state = now.state; from = place; at = place; count = written; steps = made }
+between_at now place written made = record { status = Code.Open; state = now.state; from = place; at = place; count = written; steps = made }
 
 -- a run with an empty store at place n, with a count and steps, writes defaults up to another place, and uses the default for each character
 abbrev pub Defaulted : List ℕ → List ℕ → ℕ → ℕ → ℕ → List ℕ → ℕ → ℕ → ℕ → List ℕ → Type 0
@@ -271,7 +271,7 @@ module _ (w u : List ℕ) (n count made : ℕ) (before : List ℕ) where
       λ uses e ended. advances_one w u ended W old (lent between (bumped uses default_number (m - n))) placed new (decides_character w u ended q m m Back x some refl back) some
       (lent after (bumped uses default_number (m' - n)))
       (record {
-        between = record { going = refl; state = z; from = p₁; at = p₁; count = p₂ ∙ ap (λ k. written + k) long; steps = p₃ };
+        between = record { state = z; from = p₁; at = p₁; count = p₂ ∙ ap (λ k. written + k) long; steps = p₃ };
         wrote = wrote ∙ ap (put between written) text;
         counted = counted uses e;
       }) (ap (λ d. fall d ended (drop m u)) (sym (mode_words w)) ∙ falls ended) there in

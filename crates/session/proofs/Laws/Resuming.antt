@@ -1,6 +1,6 @@
 -- A call as the code makes it: what the run of an admitted one asks, that the sums of its numbers are small, and what it leaves; and that a refused one changes nothing.
 -- The session that the definition leaves is sound, which bounds every sum; field by field the finished run is the definition's.
-use mathlib.Core.Bool.{Bool, true, false, true≢false}
+use mathlib.Core.Bool.{Bool, false}
 use mathlib.Core.List.{List, [], ◌∷◌, ◌++◌}
 use mathlib.Core.Path.{◌≡◌, refl, sym, ap, subst, ◌∙◌}
 use Prim.Native.Nat.{ℕ, zero, suc, ◌+◌, ◌*◌, ◌-◌, ◌≤◌}
@@ -10,29 +10,25 @@ use lib.Dec.{T}
 use lib.ListN.{length, drop, length-append, length-drop}
 use lib.Seq.{length-take-le}
 use Rattle.lists.specs.Lists.{pad}
-use Rattle.meaning.specs.Refusal.{Outcome, refused, accepted}
+use Rattle.meaning.specs.Refusal.{Outcome, accepted}
 use Rattle.meaning.specs.Meaning.{text_of}
 use Rattle.meaning.specs.Direct.{limit, over}
-use Rattle.meaning.proofs.Laws.Refusal.{accepted_not}
 use Rattle.automaton.specs.Sound.{sound, longest_word, expansion_word}
-use Rattle.automaton.specs.Automaton.{Automaton, from_words}
+use Rattle.automaton.specs.Automaton.{from_words}
 use Rattle.automaton.proofs.Laws.Words.{sound_header_lem}
 use Rattle.reckoning.specs.Machine.{Status, Open, Closed, Stopped, Ended}
 use Rattle.reckoning.specs.Uses.{use_counts}
 use Rattle.reckoning.specs.Session.{Session, consumed, store, stands_at}
 use Rattle.reckoning.specs.Preview.{Seen, seen_by, preview}
-use Rattle.reckoning.specs.Calls as Spec
-use Rattle.reckoning.specs.Calls.{CallOutcome, admits, received_by, resumed, later, call_by}
+use Rattle.reckoning.specs.Calls.{admits, received_by, resumed, later, call_by}
 use Rattle.session.specs.Keeping.{together, session_of}
 use Rattle.session.specs.bridge.Counting.{Counted}
 use Rattle.session.specs.bridge.Running.{put, store_of, Lent, EndsAs}
-use Rattle.session.specs.Promised.{answer_of, outcome_of, is_accepted, Previews, Said, Told}
-use Rattle.session.specs.bridge.Later.{later_of, Leaves, Small, went_on, refusing, joined}
+use Rattle.session.specs.Promised.{outcome_of}
+use Rattle.session.specs.bridge.Later.{later_of, Leaves, Small, went_on}
 use Rattle.session.specs.declared.kept.Kept.{Kept}
 use Rattle.session.specs.declared.run.Ran.{Ran}
-use Rattle.session.specs.declared.call.Answer.{Answer}
-use Rattle.session.specs.declared.call.Answer.TheVariants.{Accepted, Refused}
-use Rattle.session.specs.declared.call.Went.{Went}
+use Rattle.std.specs.Prelude.{Ok}
 use Rattle.reckoning.proofs.Laws.Uses.{facts_uses}
 use Rattle.reckoning.proofs.Laws.Kept.{Stands, SoundFacts, sound_facts, kept_sound}
 use Rattle.reckoning.proofs.Laws.Answers.{Admitted, Admits, admission, text_most}
@@ -120,9 +116,8 @@ module _ (w : List ℕ) (found : Kept) (uses piece : List ℕ) (ended : Bool) (r
         sym (length-take-le (ran.at - ran.from) (drop ran.from (store s ++ piece)) n) ∙ ap length f.store
 
     -- the store's place in the text, and its size
-    pub gather_asks : (ran.from ≤ ran.at) × (ran.at ≤ length (store s) + length piece) × (ran.at - ran.from ≤ 8)
-    gather_asks =
-        (f.order, omega (arith, f.inside, length-append (store s) piece), omega (arith, held_count, left_facts.places))
+    pub gather_asks : (ran.from ≤ ran.at) × (ran.at ≤ length (store s ++ piece)) × (ran.at - ran.from ≤ 8)
+    gather_asks = (f.order, f.inside, omega (arith, held_count, left_facts.places))
 
     pub small : Small found (length piece) ran
     small = record {
@@ -130,7 +125,7 @@ module _ (w : List ℕ) (found : Kept) (uses piece : List ℕ) (ended : Bool) (r
       received = a.passed.1;
       order = f.order;
       store = omega (arith, gather_asks.2, f.order);
-      inside = omega (arith, gather_asks.1, stored);
+      inside = omega (arith, f.inside, length-append (store s) piece, stored);
       produced = omega (arith, produced_most w a.sound_words left left_facts, f.count);
       steps = omega (arith, steps_most w a.sound_words left left_facts left.status left_facts.stands, f.steps);
     }
@@ -152,7 +147,7 @@ module _ (w : List ℕ) (found : Kept) (uses piece : List ℕ) (ended : Bool) (r
     -- what the code leaves is what the definition leaves
     pub same_outcome : (buffer held : List ℕ) (after : Kept) → has.output ≡ put buffer 0 text → held ≡ over (store_of (store s ++ piece) ran) (pad 8 []) →
         Leaves found (length piece) ran held after →
-        outcome_of (Accepted ran.count ran.status) (together after has.uses) has.output ≡ went_on (from_words w) s piece ended buffer
+        outcome_of (Ok (record { count = ran.count; status = ran.status })) (together after has.uses) has.output ≡ went_on (from_words w) s piece ended buffer
     same_outcome buffer held after e₁ e₂ e₃ =
         let q : session_of (together after has.uses) ≡ left = e₃ uses has.uses ∙ same_session held e₂ in
         λ i. record { answer = accepted (record { count = f.count i; status = f.status i }); session = q i; output = e₁ i }
@@ -162,7 +157,7 @@ module _ (w : List ℕ) (found : Kept) (uses piece : List ℕ) (ended : Bool) (r
 put_over : (text buffer : List ℕ) → length text ≤ length buffer → put buffer 0 text ≡ over text buffer
 put_over [] [] h = refl
 put_over (x ∷ text) [] h = absurd (omega arith)
-put_over text (y ∷ buffer) h = let None-more : 0 + length text ≡ length text = omega arith in ap (λ k. text ++ drop k (y ∷ buffer)) None-more
+put_over text (y ∷ buffer) h = let no_more : 0 + length text ≡ length text = omega arith in ap (λ k. text ++ drop k (y ∷ buffer)) no_more
 
 pub went_whole : (w : List ℕ) (s : Session) (piece : List ℕ) (ended : Bool) (buffer : List ℕ) → admits w s (length piece) (length buffer) ≡ accepted tt →
     went_on (from_words w) s piece ended buffer ≡ call_by (accepted tt) (from_words w) s piece ended buffer
@@ -173,59 +168,10 @@ went_whole w s piece ended buffer e =
     let fits = put_over (text_of (from_words w).write (resumed (from_words w) s piece ended).final.log) buffer (le_trans most a.passed.2) in
     λ i. record { answer = o.answer; session = o.session; output = fits i }
 
--- What a call comes to by the answer of its tests.
-
-accepted_is : (a : Answer) (x : Spec.Answer) → answer_of a ≡ accepted x → is_accepted a ≡ true
-accepted_is (Accepted count status) x e = refl
-accepted_is (Refused n) x e = absurd (accepted_not x n (sym e))
-
-said_accepted : (r : Went) (found : Kept) (before after : List ℕ) (x : Spec.Answer) → r.accepted ≡ true → answer_of r.answer ≡ accepted x → Said r found before after
-said_accepted r found before after x e o =
-    record { accepted = e ∙ sym (accepted_is r.answer x o); unchanged = λ z. absurd (true≢false (sym e ∙ z)) }
-
-module _ (m : Automaton) (found : Kept) (uses piece : List ℕ) (ended : Bool) (buffer : List ℕ) (tests : Outcome (Unit {0})) where
-  abbrev outcome : Outcome (Unit {0}) → CallOutcome
-  outcome o = call_by o m (session_of (together found uses)) piece ended buffer
-
-  -- what the contracts of a feed and a finish say of it, where the counts and the buffer are left so
-  abbrev Comes : Went → List ℕ → List ℕ → Type 0
-  Comes r after output = Said r found uses after × (outcome_of r.answer (together r.kept after) output ≡ outcome tests)
-
-  pub refused_comes : (n : ℕ) (r : Went) → r ≡ refusing n found → tests ≡ refused n → Comes r uses buffer
-  refused_comes n r e k =
-      subst (λ x. Comes x uses buffer) (sym e) (record { accepted = refl; unchanged = λ _. (refl, refl) }, sym (ap outcome k))
-
-  pub accepted_comes : (r : Went) (after output : List ℕ) → r.accepted ≡ true → outcome_of r.answer (together r.kept after) output ≡ outcome (accepted tt) →
-      tests ≡ accepted tt → Comes r after output
-  accepted_comes r after output e o k = (said_accepted r found uses after _ e (ap (λ (x : CallOutcome). x.answer) o), o ∙ sym (ap outcome k))
-
--- The same of a preview, which is tested as if there were room for whatever a call may write, and finds other counts where its own go.
-module _ (w : List ℕ) (found : Kept) (uses piece before : List ℕ) (room : ℕ) (most : 8 * limit ≤ room) where
-  abbrev session : Session
-  session = session_of (together found uses)
-
+-- A preview is tested as if there were room for whatever a call may write: what is seen of the call by its tests.
+module _ (w : List ℕ) (s : Session) (piece : List ℕ) (room : ℕ) (most : 8 * limit ≤ room) where
   abbrev seen : Outcome (Unit {0}) → Outcome Seen
-  seen o = let c = call_by o (from_words w) session piece false [] in seen_by c.answer c.session
+  seen o = let c = call_by o (from_words w) s piece false [] in seen_by c.answer c.session
 
-  -- what the contract of a preview says of it, where the counts are left so
-  abbrev Shows : Went → List ℕ → Type 0
-  Shows r after = Said r found before after × Previews w (together found uses) piece r.answer (together r.kept after)
-
-  by_tests : (o : Outcome (Unit {0})) → admits w session (length piece) room ≡ o → seen o ≡ preview w session piece
-  by_tests o k = sym (preview_call w session piece [] room most ∙ ap seen k)
-
-  pub refused_shows : (n : ℕ) (r : Went) → r ≡ refusing n found → admits w session (length piece) room ≡ refused n → Shows r before
-  refused_shows n r e k = subst (λ x. Shows x before) (sym e) (record { accepted = refl; unchanged = λ _. (refl, refl) }, by_tests (refused n) k)
-
-  pub accepted_shows : (r : Went) (after output buffer : List ℕ) → r.accepted ≡ true →
-      outcome_of r.answer (together r.kept after) output ≡ went_on (from_words w) session piece false buffer →
-      admits w session (length piece) room ≡ accepted tt → Shows r after
-  accepted_shows r after output buffer e o k = (
-    said_accepted r found before after _ e (ap (λ (x : CallOutcome). x.answer) o),
-    ap (λ (x : CallOutcome). seen_by x.answer x.session) o ∙ by_tests (accepted tt) k,
-  )
-
--- a call that is lent the counts of uses, as a call by value
-pub told_joined : (r : Went) (found : Kept) (before after : List ℕ) → Said r found before after → Told (joined r after) (together found before)
-told_joined r found before after k =
-    record { accepted = k.accepted; unchanged = λ z. let u = k.unchanged z in λ i. together (u.0 i) (u.1 i) }
+  pub seen_call : (o : Outcome (Unit {0})) → admits w s (length piece) room ≡ o → seen o ≡ preview w s piece
+  seen_call o k = sym (preview_call w s piece [] room most ∙ ap seen k)

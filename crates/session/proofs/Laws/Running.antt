@@ -29,7 +29,7 @@ use Rattle.reckoning.specs.Uses.{use_counts, uses_after}
 use Rattle.reckoning.specs.Session.{path, is_at}
 use Rattle.session.specs.Keeping.{meant_status}
 use Rattle.session.specs.bridge.Counting.{bumped, Counted}
-use Rattle.session.specs.bridge.Running.{put, first_of, standing, step_by, Fits, Decides, store_of, Placed, Lent, Going, EndsAs, left, Proceeds, Advances, Beyond, Takes, LeavesUnit, Move, Emit, Read, Back, Wait, Close}
+use Rattle.session.specs.bridge.Running.{left, Turn, Continue, Break, put, first_of, standing, step_by, Fits, Decides, store_of, Placed, Lent, Going, EndsAs, Proceeds, Advances, Beyond, Takes, LeavesUnit, Move, Emit, Read, Back, Wait, Close}
 use Rattle.session.specs.declared.run.Ran.{Ran}
 use Rattle.reckoning.proofs.Laws.Run.{step_accept, step_read, step_back, due_step, steps_onward, steps_halt, fuel_enough}
 use Rattle.reckoning.proofs.Laws.Uses.{uses_none, uses_emitted}
@@ -507,7 +507,7 @@ module _ (w u : List ℕ) (ended : Bool) (W : T (sound w)) (old : Ran) (before :
         taken after pair_number 2 T (omega arith) (omega arith) room (omega (arith, shallow)) (omega (arith, shallow)) (omega (arith, size)) (two_leads pair_number f room)
 
     pub advances_stop : Falls nowhere → meant_status new.status ≡ Stopped → new.state.0 ≡ 0 → new.from ≡ old.from → new.at ≡ old.from →
-        new.count ≡ old.count → new.steps ≡ old.steps + 2 → Advances w u ended (length before.output) old before true new before
+        new.count ≡ old.count → new.steps ≡ old.steps + 2 → Advances w u ended (length before.output) old before (Break new) before
     advances_stop d e₀ e₁ e₂ e₃ e₄ e₅ r found G =
         let s : ℕ = old.steps in
         let c₁ : Configuration = due [] (y ∷ v) G.log (s + 1) in
@@ -518,7 +518,7 @@ module _ (w u : List ℕ) (ended : Bool) (W : T (sound w)) (old : Ran) (before :
         ended_as r found G Stopped f e e₀ e₁ (none_of u new.at new.from (e₃ ∙ sym e₂)) e₂ e₄ (omega arith) refl (omega arith) (omega (arith, P.order, P.inside))
 
     -- a first unit is left
-    pub advances_leave : Falls keeping → LeavesUnit old new → Advances w u ended (length before.output) old before true new before
+    pub advances_leave : Falls keeping → LeavesUnit old new → Advances w u ended (length before.output) old before (Break new) before
     advances_leave d U r found G =
         let s : ℕ = old.steps in
         let c₁ : Configuration = due [] (y ∷ v) G.log (s + 1) in
@@ -534,7 +534,7 @@ module _ (w u : List ℕ) (ended : Bool) (W : T (sound w)) (old : Ran) (before :
   -- the run waits, or closes
   pub advances_wait : ((log : List Emission) (n : ℕ) → step A ended (stood log n) ≡ step_by Wait (stood log n)) → meant_status new.status ≡ Open →
       new.state.0 ≡ old.state.0 → new.from ≡ old.from → new.at ≡ old.at → new.count ≡ old.count → new.steps ≡ old.steps →
-      Advances w u ended (length before.output) old before true new before
+      Advances w u ended (length before.output) old before (Break new) before
   advances_wait st e₀ e₁ e₂ e₃ e₄ e₅ r found G =
       let f : Configuration = stood G.log old.steps in
       let s : store_of u new ≡ store_of u old = λ i. take (e₃ i - e₂ i) (drop (e₂ i) u) in
@@ -542,27 +542,31 @@ module _ (w u : List ℕ) (ended : Bool) (W : T (sound w)) (old : Ran) (before :
 
   pub advances_close : ((log : List Emission) (n : ℕ) → step A ended (stood log n) ≡ step_by Close (stood log n)) → meant_status new.status ≡ Closed →
       new.state.0 ≡ 0 → new.from ≡ old.from → new.at ≡ old.from → new.count ≡ old.count → new.steps ≡ old.steps + 1 →
-      Advances w u ended (length before.output) old before true new before
+      Advances w u ended (length before.output) old before (Break new) before
   advances_close st e₀ e₁ e₂ e₃ e₄ e₅ r found G =
       let f : Configuration = standing [] [] 0 G.log (old.steps + 1) in
       ended_as r found G Closed f (runs_halt A ended most r (stood G.log old.steps) f Closed (st G.log old.steps) G.runs) e₀ e₁
       (none_of u new.at new.from (e₃ ∙ sym e₂)) e₂ e₄ e₅ refl (omega arith) (omega (arith, P.order, P.inside))
 
--- A whole run: done, or placed and going on.
+-- A whole run on the way: placed, and going on.
 
-abbrev pub Stage : List ℕ → List ℕ → Bool → ℕ → Ended → List ℕ → Bool → Ran → Lent → Type 0
-Stage w u ended room r found true now has = EndsAs w u r found now has
-Stage w u ended room r found false now has = Placed w u room now × Counted has.uses now.from × Going w u ended r found now has
+abbrev pub Underway : List ℕ → List ℕ → Bool → ℕ → Ended → List ℕ → Ran → Lent → Type 0
+Underway w u ended room r found now has = Placed w u room now × Counted has.uses now.from × Going w u ended r found now has
+
+-- ended, or on the way
+abbrev pub Stage : List ℕ → List ℕ → Bool → ℕ → Ended → List ℕ → Turn → Lent → Type 0
+Stage w u ended room r found (Break now) has = EndsAs w u r found now has
+Stage w u ended room r found (Continue now) has = Underway w u ended room r found now has
 
 -- turns that are left at most
-abbrev pub to_go : List ℕ → Bool → Ran → ℕ
-to_go u true now = 0
-to_go u false now = suc (left u now)
+abbrev pub to_go : List ℕ → Turn → ℕ
+to_go u (Break now) = 0
+to_go u (Continue now) = suc (left u now)
 
-pub stage_on : (w u : List ℕ) (ended : Bool) (room : ℕ) (r : Ended) (found : List ℕ) (old new : Ran) (before after : Lent) (b : Bool) →
-    Advances w u ended room old before b new after → Going w u ended r found old before → Stage w u ended room r found b new after × (to_go u b new < suc (left u old))
-stage_on w u ended room r found old new before after true f G = (f r found G, omega arith)
-stage_on w u ended room r found old new before after false f G = ((f.0.0, f.1, f.0.2 r found G), omega (arith, f.0.1))
+pub stage_on : (w u : List ℕ) (ended : Bool) (room : ℕ) (r : Ended) (found : List ℕ) (old : Ran) (before after : Lent) (turn : Turn) →
+    Advances w u ended room old before turn after → Going w u ended r found old before → Stage w u ended room r found turn after × (to_go u turn < suc (left u old))
+stage_on w u ended room r found old before after (Break new) f G = (f r found G, omega arith)
+stage_on w u ended room r found old before after (Continue new) f G = ((f.0.0, f.1, f.0.2 r found G), omega (arith, f.0.1))
 
 -- what a finished run has written
 pub ends_put : (w u : List ℕ) (r : Ended) (found : List ℕ) (now : Ran) (has : Lent) (buffer : List ℕ) → EndsAs w u r found now has →
@@ -647,5 +651,5 @@ module _ (w given piece : List ℕ) (ended : Bool) (W : T (sound w)) (q : ℕ) (
         uses = sym (uses_none has.uses counted.whole);
       }
 
-  pub begins : Stage w u ended (length has.output) (run (from_words w) ended (start given piece q)) has.uses false now has
+  pub begins : Underway w u ended (length has.output) (run (from_words w) ended (start given piece q)) has.uses now has
   begins = (begin_placed, subst (Counted has.uses) (sym e₂) counted, begin_going)

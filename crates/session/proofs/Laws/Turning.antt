@@ -20,7 +20,7 @@ use Rattle.automaton.proofs.Laws.Words.{sound_state_lem, length_block_output}
 use Rattle.reckoning.specs.Machine.{Stopped, Closed, Fall, nowhere, taking, keeping, fall, step}
 use Rattle.reckoning.specs.Session.{settled}
 use Rattle.session.specs.bridge.Counting.{bumped, Counted}
-use Rattle.session.specs.bridge.Running.{Move, Emit, Back, Wait, Close, standing, step_by, Fits, Decides, put, store_of, Placed, Lent, Advances, Beyond, Between, Halted, Waits, read_to, Passes, Stands, ReadsOn, MovesAt, Moves, Takes, LeavesUnit, accept_now}
+use Rattle.session.specs.bridge.Running.{Turn, Continue, Break, Move, Emit, Back, Wait, Close, standing, step_by, Fits, Decides, put, store_of, Placed, Lent, Advances, Beyond, Between, Halted, Waits, read_to, Passes, Stands, ReadsOn, MovesAt, Moves, Takes, LeavesUnit, accept_now}
 use Rattle.session.specs.declared.run.Ran.{Ran}
 use Rattle.session.specs.declared.run.Ahead.{Ahead}
 use Rattle.reckoning.proofs.Laws.Walk.{settled_both}
@@ -104,11 +104,6 @@ module _ (w u : List ℕ) (W : T (sound w)) (q : ℕ) (b : q < state_count w) (b
 -- What is done, where the machine's step is known.
 module _ (w u : List ℕ) (W : T (sound w)) (old : Ran) (before : Lent) (P : Placed w u (length before.output) old)
     (C : Counted before.uses old.from) (new : Ran) where
-  -- a run that goes on, or is done
-  on_as : (ended : Bool) (after : Lent) (b : Bool) → new.done ≡ b → Advances w u ended (length before.output) old before b new after →
-      Advances w u ended (length before.output) old before new.done new after
-  on_as ended after b e f = subst (λ d. Advances w u ended (length before.output) old before d new after) (sym e) f
-
   -- one more use is counted
   counted_on : (g : ℕ) (after : Lent) → after.uses ≡ bumped before.uses g 1 → old.from + 1 ≤ new.from → Counted after.uses new.from
   counted_on g after e h = subst (λ l. Counted l new.from) (sym e) (counted_bumped before.uses g 1 old.from new.from C h)
@@ -116,9 +111,9 @@ module _ (w u : List ℕ) (W : T (sound w)) (old : Ran) (before : Lent) (P : Pla
   pub emit_moves : (g : RuleNo) (after : Lent) → Fits w old.state.0 (Emit g) → Between old.at (old.count + at (block_at w g.0) 2) (old.steps + 1) new →
       after.output ≡ put before.output old.count (block_output (block_at w g.0) (store_of u old)) →
       after.uses ≡ bumped before.uses g.0 1 →
-      Moves w u (length before.output) old before (Emit g) new after × Beyond old before.output new after.output
+      Moves w u (length before.output) old before (Emit g) (Continue new) after × Beyond old before.output new after.output
   emit_moves g after f B e c = (
-    λ ended d. on_as ended after false B.going (
+    λ ended d. (
       advances_emit w u ended W old before P new g after d f B.state B.from B.at B.count B.steps e c,
       counted_on g.0 after c (omega (arith, f.2, P.depth, B.from)),
     ),
@@ -131,43 +126,41 @@ module _ (w u : List ℕ) (W : T (sound w)) (old : Ran) (before : Lent) (P : Pla
     abbrev Falls : Fall → Type 0
     Falls f = fall (from_words w).default ended (drop old.from u) ≡ f
 
-    abbrev Rolls : Lent → Type 0
-    Rolls after = MovesAt w u ended (length before.output) old before Back new after × Beyond old before.output new after.output
+    abbrev Rolls : Turn → Lent → Type 0
+    Rolls turn after = MovesAt w u ended (length before.output) old before Back turn after × Beyond old before.output new after.output
 
-    pub one_moves : (after : Lent) → Takes w u old before default_number 1 new after → Falls (taking default_number 1) → at w 5 ≢ 0 → Rolls after
+    pub one_moves : (after : Lent) → Takes w u old before default_number 1 new after → Falls (taking default_number 1) → at w 5 ≢ 0 → Rolls (Continue new) after
     one_moves after t f e = (
-      λ st. on_as ended after false t.between.going
-          ((advances_one w u ended W old before P new st some after t f e).0, counted_on default_number after t.counted (omega (arith, t.between.from))),
+      λ st. ((advances_one w u ended W old before P new st some after t f e).0, counted_on default_number after t.counted (omega (arith, t.between.from))),
       beyond_put w u old before.output P new _ after.output _ refl t.between.count t.wrote,
     )
 
-    pub pair_moves : (after : Lent) → Takes w u old before pair_number 2 new after → Falls (taking pair_number 2) → old.from + 2 ≤ length u → 1 ≤ expansion_word w → Rolls after
+    pub pair_moves : (after : Lent) → Takes w u old before pair_number 2 new after → Falls (taking pair_number 2) → old.from + 2 ≤ length u → 1 ≤ expansion_word w → Rolls (Continue new) after
     pair_moves after t f room e = (
-      λ st. on_as ended after false t.between.going
-          ((advances_pair w u ended W old before P new st some after t f room e).0, counted_on pair_number after t.counted (omega (arith, t.between.from))),
+      λ st. ((advances_pair w u ended W old before P new st some after t f room e).0, counted_on pair_number after t.counted (omega (arith, t.between.from))),
       beyond_put w u old before.output P new _ after.output _ refl t.between.count t.wrote,
     )
 
-    pub stop_moves : Falls nowhere → Halted Stopped (old.steps + 2) old new → Rolls before
+    pub stop_moves : Falls nowhere → Halted Stopped (old.steps + 2) old new → Rolls (Break new) before
     stop_moves f H = (
-      λ st. on_as ended before true H.done (advances_stop w u ended W old before P new st some f H.status H.state H.from H.at H.count H.steps),
+      λ st. advances_stop w u ended W old before P new st some f H.status H.state H.from H.at H.count H.steps,
       (omega (arith, H.count), refl),
     )
 
-    pub leave_moves : Falls keeping → LeavesUnit old new → Rolls before
-    leave_moves f U = (λ st. on_as ended before true U.done (advances_leave w u ended W old before P new st some f U), (omega (arith, U.count), refl))
+    pub leave_moves : Falls keeping → LeavesUnit old new → Rolls (Break new) before
+    leave_moves f U = (λ st. advances_leave w u ended W old before P new st some f U, (omega (arith, U.count), refl))
 
   pub wait_moves : (ended : Bool) → Decides w u ended old.state.0 old.from old.at Wait → Waits old new →
-      Advances w u ended (length before.output) old before new.done new before × Beyond old before.output new before.output
+      Advances w u ended (length before.output) old before (Break new) before × Beyond old before.output new before.output
   wait_moves ended st H = (
-    on_as ended before true H.done (advances_wait w u ended W old before P new st H.status H.state H.from H.at H.count H.steps),
+    advances_wait w u ended W old before P new st H.status H.state H.from H.at H.count H.steps,
     (omega (arith, H.count), refl),
   )
 
   pub close_moves : (ended : Bool) → Decides w u ended old.state.0 old.from old.at Close → Halted Closed (old.steps + 1) old new →
-      Advances w u ended (length before.output) old before new.done new before × Beyond old before.output new before.output
+      Advances w u ended (length before.output) old before (Break new) before × Beyond old before.output new before.output
   close_moves ended st H = (
-    on_as ended before true H.done (advances_close w u ended W old before P new st H.status H.state H.from H.at H.count H.steps),
+    advances_close w u ended W old before P new st H.status H.state H.from H.at H.count H.steps,
     (omega (arith, H.count), refl),
   )
 
@@ -180,17 +173,17 @@ stands w u now a R false e f h = let k = f refl in omega arith
 
 -- something was read, and the text is not at its end
 pub read_more : (w u : List ℕ) (ended : Bool) (now : Ran) (has : Lent) (a : Ahead) → ReadsOn w u now a → Placed w u (length has.output) now →
-    Counted has.uses now.from → a.stuck ≡ false → a.at < length u → Advances w u ended (length has.output) now has false (read_to now a) has
+    Counted has.uses now.from → a.stuck ≡ false → a.at < length u → Advances w u ended (length has.output) now has (Continue (read_to now a)) has
 read_more w u ended now has a R P C e h =
     let p = R.passes has P in
     let k = R.free e h in
     ((p.0, omega (arith, P.order, h), p.2 ended), C)
 
 -- what leads on after a passage leads on from before it
-pub advances_after : (w u : List ℕ) (ended : Bool) (room : ℕ) (old mid new : Ran) (before between after : Lent) (b : Bool) →
-    Passes w u room old before mid between → Advances w u ended room mid between b new after → Advances w u ended room old before b new after
-advances_after w u ended room old mid new before between after true p f = λ r found G. f r found (p.2 ended r found G)
-advances_after w u ended room old mid new before between after false p f =
+pub advances_after : (w u : List ℕ) (ended : Bool) (room : ℕ) (old mid : Ran) (turn : Turn) (before between after : Lent) →
+    Passes w u room old before mid between → Advances w u ended room mid between turn after → Advances w u ended room old before turn after
+advances_after w u ended room old mid (Break new) before between after p f = λ r found G. f r found (p.2 ended r found G)
+advances_after w u ended room old mid (Continue new) before between after p f =
     ((f.0.0, omega (arith, p.1, f.0.1), λ r found G. f.0.2 r found (p.2 ended r found G)), f.1)
 
 pub beyond_join : (old mid new : Ran) (before between after : List ℕ) → Beyond old before mid between → Beyond mid between new after → Beyond old before new after

@@ -1,15 +1,10 @@
 -- The counts of a session and of a run, as the code adds them up and takes them away.
 use Rattle.std.specs.Prelude.{cond, List, ◌≡◌, ℕ, ◌+◌, ◌-◌, ◌≤◌, ◌<◌, leb, length, get_or, set}
-use Rattle.std.proofs.Math.Option.{Option, none as nothing, some}
+use Rattle.std.specs.Prelude.{Option, None, Some}
 use Rattle.meaning.specs.Direct.{limit}
 use Rattle.reckoning.specs.Uses.{use_counts}
 use Rattle.session.specs.declared.run.Ran.{Ran}
 use Rattle.session.specs.declared.tally.Tally.{Tally}
-use Rattle.session.specs.declared.uses.Rest.{Rest}
-use Rattle.session.specs.declared.uses.Rest.TheVariants.{Left, TooMany}
-
-abbrev pub none : Tally
-none = record { produced = 0; steps = 0 }
 
 abbrev pub plus : Tally → Tally → Tally
 plus a b = record { produced = a.produced + b.produced; steps = a.steps + b.steps }
@@ -33,8 +28,4 @@ pub record Counted (uses : List ℕ) (covered : ℕ) : Type 0 where
 
 -- m less n, where that is a number
 abbrev pub less : ℕ → ℕ → Option ℕ
-less m n = cond (leb n m) (some (m - n)) nothing
-
-abbrev pub rest_of : Rest → Option ℕ
-rest_of (Left n) = some n
-rest_of TooMany = nothing
+less m n = cond (leb n m) (Some (m - n)) None

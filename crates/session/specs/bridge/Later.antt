@@ -1,6 +1,6 @@
 -- Where held characters lead, and the session that a run leaves, as the code works them out.
-use Rattle.std.specs.Prelude.{Bool, false, List, ◌≡◌, ℕ, ◌+◌, ◌*◌, ◌-◌, ◌≤◌}
-use Rattle.std.proofs.Math.Option.{Option, none, some}
+use Rattle.std.specs.Prelude.{Bool, List, ◌≡◌, ℕ, ◌+◌, ◌*◌, ◌-◌, ◌≤◌}
+use Rattle.std.specs.Prelude.{Option, option_map}
 use Rattle.meaning.specs.Direct.{limit}
 use Rattle.meaning.specs.Refusal.{accepted}
 use Rattle.meaning.specs.Meaning.{text_of}
@@ -8,17 +8,15 @@ use Rattle.automaton.specs.Automaton.{Automaton}
 use Rattle.reckoning.specs.Calls.{CallOutcome, admits, received_by, resumed, call_by}
 use Rattle.session.specs.Keeping.{meant_status, together, session_of}
 use Rattle.session.specs.bridge.Running.{put}
-use Rattle.session.specs.declared.kept.Path.{Path}
-use Rattle.session.specs.declared.kept.Path.TheVariants.{To, Nowhere}
+use Rattle.words.specs.declared.numbers.StateNo.{StateNo}
 use Rattle.session.specs.declared.run.Ran.{Ran}
 use Rattle.session.specs.declared.kept.Kept.{Kept}
-use Rattle.session.specs.declared.call.Answer.TheVariants.{Refused}
-use Rattle.session.specs.declared.call.Called.{Called}
+use Rattle.session.specs.declared.kept.Session.{Session}
 use Rattle.session.specs.declared.call.Went.{Went}
 
-abbrev pub path_of : Path → Option ℕ
-path_of (To q) = some q.0
-path_of Nowhere = none
+-- the number of the state that was reached, if any was
+abbrev pub path_of : Option StateNo → Option ℕ
+path_of r = option_map (λ q. q.0) r
 
 -- the session s after a run over n more characters, with the characters that it holds and the counts of uses
 abbrev pub later_of : Rattle.reckoning.specs.Session.Session → ℕ → Ran → List ℕ → List ℕ → Rattle.reckoning.specs.Session.Session
@@ -58,10 +56,6 @@ went_on m s piece ended output =
     let o = call_by (accepted tt) m s piece ended output in
     record { answer = o.answer; session = o.session; output = put output 0 (text_of m.write (resumed m s piece ended).final.log) }
 
--- a refused call
-abbrev pub refusing : ℕ → Kept → Went
-refusing n found = record { answer = Refused n; accepted = false; kept = found }
-
 -- what a call that is lent the counts of uses comes to, with the counts
-abbrev pub joined : Went → List ℕ → Called
-joined went uses = record { answer = went.answer; accepted = went.accepted; session = together went.kept uses }
+abbrev pub joined : Went Kept → List ℕ → Went Session
+joined went uses = record { written = went.written; left = together went.left uses }

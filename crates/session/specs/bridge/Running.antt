@@ -17,6 +17,9 @@ use Rattle.session.specs.declared.kept.Status.TheVariants as Code
 use Rattle.session.specs.declared.run.Fall.{Fall as Falls}
 use Rattle.session.specs.declared.run.Ran.{Ran}
 use Rattle.session.specs.declared.run.Ahead.{Ahead}
+use Rattle.std.specs.declared.ops.ControlFlow.{ControlFlow}
+pub use Rattle.std.specs.declared.ops.ControlFlow.TheVariants.{Continue, Break}
+use Rattle.session.specs.declared.text.Text.{Text}
 use Rattle.automaton.specs.Layout.{classes_from}
 
 -- what the machine does next: it writes a rule, reads into a state, rolls back, waits or closes
@@ -29,6 +32,14 @@ pub data Move : Type 0 where
 abbrev pub first_of : List ℕ → List ℕ → List ℕ
 first_of [] piece = piece
 first_of (x ∷ given) piece = x ∷ given
+
+-- the text as one list
+abbrev pub whole : Text → List ℕ
+whole t = t.given.now ++ t.piece.now
+
+-- its part from place n on as far as it lies in one of the two
+abbrev pub unread : Text → ℕ → List ℕ
+unread t n = first_of (drop n t.given.now) (drop (n - length t.given.now) t.piece.now)
 
 -- a configuration where no default is due
 abbrev pub standing : List ℕ → List ℕ → ℕ → List Emission → ℕ → Configuration
@@ -118,10 +129,19 @@ Proceeds w u ended room old before new after =
     × (left u new < left u old)
     × ((r : Ended) (found : List ℕ) → Going w u ended r found old before → Going w u ended r found new after)
 
--- a turn led on or, where it is done, ended the run
-abbrev pub Advances : List ℕ → List ℕ → Bool → ℕ → Ran → Lent → Bool → Ran → Lent → Type 0
-Advances w u ended room old before true new after = (r : Ended) (found : List ℕ) → Going w u ended r found old before → EndsAs w u r found new after
-Advances w u ended room old before false new after = Proceeds w u ended room old before new after × Counted after.uses new.from
+-- what a turn leads to: the run goes on, or it has ended
+abbrev pub Turn : Type 0
+Turn = ControlFlow Ran Ran
+
+-- the run that a turn leaves
+abbrev pub left_by : Turn → Ran
+left_by (Continue now) = now
+left_by (Break now) = now
+
+-- a turn led on, or ended the run
+abbrev pub Advances : List ℕ → List ℕ → Bool → ℕ → Ran → Lent → Turn → Lent → Type 0
+Advances w u ended room old before (Continue new) after = Proceeds w u ended room old before new after × Counted after.uses new.from
+Advances w u ended room old before (Break new) after = (r : Ended) (found : List ℕ) → Going w u ended r found old before → EndsAs w u r found new after
 
 -- what stands beyond the characters written is as found
 abbrev pub Beyond : Ran → List ℕ → Ran → List ℕ → Type 0
@@ -148,7 +168,6 @@ SomewherePlaced w u now = (room : ℕ) × Placed w u room now
 
 -- the run stands between two words: in state 0, with an empty store at the place
 pub record Between (place written made : ℕ) (now : Ran) : Type 0 where
-  pub going : now.done ≡ false
   pub state : now.state.0 ≡ 0
   pub from : now.from ≡ place
   pub at : now.at ≡ place
@@ -157,7 +176,6 @@ pub record Between (place written made : ℕ) (now : Ran) : Type 0 where
 
 -- the run ended with an empty store after so many steps
 pub record Halted (how : Status) (made : ℕ) (old new : Ran) : Type 0 where
-  pub done : new.done ≡ true
   pub status : meant_status new.status ≡ how
   pub state : new.state.0 ≡ 0
   pub from : new.from ≡ old.from
@@ -167,7 +185,6 @@ pub record Halted (how : Status) (made : ℕ) (old new : Ran) : Type 0 where
 
 -- the run waits as it stands
 pub record Waits (old new : Ran) : Type 0 where
-  pub done : new.done ≡ true
   pub status : meant_status new.status ≡ Open
   pub state : new.state.0 ≡ old.state.0
   pub from : new.from ≡ old.from
@@ -179,7 +196,6 @@ pub record Waits (old new : Ran) : Type 0 where
 abbrev pub read_to : Ran → Ahead → Ran
 read_to now a =
     record {
-      done = false;
       status = Code.Open;
       state = a.state;
       from = now.from;
@@ -192,7 +208,6 @@ read_to now a =
 abbrev pub begun_at : StateNo → ℕ → ℕ → ℕ → Ran
 begun_at q place written made =
     record {
-      done = false;
       status = Code.Open;
       state = q;
       from = place;
@@ -228,13 +243,12 @@ pub record ReadsOn (w u : List ℕ) (now : Ran) (a : Ahead) : Type 0 where
   pub free : a.stuck ≡ false → a.at < length u → now.at < a.at
 
 -- what is done where the machine's next step is this move
-abbrev pub MovesAt : List ℕ → List ℕ → Bool → ℕ → Ran → Lent → Move → Ran → Lent → Type 0
-MovesAt w u ended room old before v new after =
-    Decides w u ended old.state.0 old.from old.at v → Advances w u ended room old before new.done new after
+abbrev pub MovesAt : List ℕ → List ℕ → Bool → ℕ → Ran → Lent → Move → Turn → Lent → Type 0
+MovesAt w u ended room old before v turn after = Decides w u ended old.state.0 old.from old.at v → Advances w u ended room old before turn after
 
 -- the same, whether or not the input has ended
-abbrev pub Moves : List ℕ → List ℕ → ℕ → Ran → Lent → Move → Ran → Lent → Type 0
-Moves w u room old before v new after = (ended : Bool) → MovesAt w u ended room old before v new after
+abbrev pub Moves : List ℕ → List ℕ → ℕ → Ran → Lent → Move → Turn → Lent → Type 0
+Moves w u room old before v turn after = (ended : Bool) → MovesAt w u ended room old before v turn after
 
 -- what a roll-back leads to
 abbrev pub fall_of : Falls → Fall
@@ -251,7 +265,6 @@ pub record Takes (w u : List ℕ) (old : Ran) (before : Lent) (g k : ℕ) (new :
 
 -- a first unit is left at state 0, after the back
 pub record LeavesUnit (old new : Ran) : Type 0 where
-  pub done : new.done ≡ true
   pub status : meant_status new.status ≡ Open
   pub state : new.state.0 ≡ 0
   pub from : new.from ≡ old.from
@@ -263,7 +276,6 @@ pub record LeavesUnit (old new : Ran) : Type 0 where
 abbrev pub less_steps : Ran → ℕ → Ran
 less_steps now made =
     record {
-      done = now.done;
       status = now.status;
       state = now.state;
       from = now.from;
@@ -280,14 +292,14 @@ accept_now w q false false = cond (used (accept_word w q) && eqb (accept_word w 
 
 -- what a run over a piece asks: sound words, few given characters, held at state q, no room or room for all that may be written, and
 -- counted uses
-abbrev pub Runnable : List ℕ → List ℕ → List ℕ → ℕ → Lent → Type 0
-Runnable w given piece q has =
-    (T (sound w) × T (stands_at (from_words w) q given))
-    × (((length given ≤ 8) × (length given + length piece ≤ 1099511627784))
-    × ((1 ≤ length has.output → expansion_word w * (length given + length piece) ≤ length has.output) × Counted has.uses 0))
+abbrev pub Runnable : List ℕ → Text → ℕ → Lent → Type 0
+Runnable w t q has =
+    (T (sound w) × T (stands_at (from_words w) q t.given.now))
+    × (((length t.given.now ≤ 8) × (length t.given.now + length t.piece.now ≤ 1099511627784))
+    × ((1 ≤ length has.output → expansion_word w * (length t.given.now + length t.piece.now) ≤ length has.output) × Counted has.uses 0))
 
 -- the run is the machine's, and an output with places has its text, with what stands beyond as found
-abbrev pub RunsTo : List ℕ → List ℕ → List ℕ → ℕ → Bool → Lent → Ran → Lent → Type 0
-RunsTo w given piece q ended found now has =
-    let r = run (from_words w) ended (start given piece q) in
-    EndsAs w (given ++ piece) r found.uses now has × (has.output ≡ put found.output 0 (text_of (from_words w).write r.final.log))
+abbrev pub RunsTo : List ℕ → Text → ℕ → Bool → Lent → Ran → Lent → Type 0
+RunsTo w t q ended found now has =
+    let r = run (from_words w) ended (start t.given.now t.piece.now q) in
+    EndsAs w (whole t) r found.uses now has × (has.output ≡ put found.output 0 (text_of (from_words w).write r.final.log))

@@ -2,11 +2,9 @@
 -- The count that a call answers is the length of its text, which stands at the start of what it leaves.
 use mathlib.Core.Bool.{Bool}
 use mathlib.Core.List.{List, [], ◌++◌, append-nil}
-use mathlib.Core.Logic.{◌≢◌}
 use mathlib.Core.Path.{◌≡◌, refl, sym, ap, ◌∙◌}
 use Prim.Native.Nat.{ℕ, ◌+◌, ◌-◌, ◌≤◌}
 use native.Mathlib.Omega.{arith}
-use borrow.Author.Tests.{ne_eqb}
 use borrow.Rule.Slice.PartMut.{same_len_mid}
 use lib.ListN.{length, take, drop, length-append, length-drop, take-append-drop, drop_of_length-le}
 use Rattle.meaning.specs.Refusal.{Outcome, refused, accepted}
@@ -51,25 +49,15 @@ module _ (k : ℕ) (xs : List ℕ) where
   module _ (w : List ℕ) (s : Session) (call : List ℕ → Call) (o : CallOutcome)
       (came : o ≡ called w s (call (take (length xs - k) (drop k xs))))
       (inside : k ≤ length xs) (long : length o.output ≡ length (take (length xs - k) (drop k xs))) where
-    pub fits : k + count_of o.answer ≤ length xs
-    fits = omega (arith, counted w s (call (take (length xs - k) (drop k xs))) o came, rest_long o.output inside long)
+    pub fits : k + count_of o.answer ≤ length (back o.output)
+    fits = omega (arith, counted w s (call (take (length xs - k) (drop k xs))) o came, rest_long o.output inside long, back_long o.output long)
 
-    pub turned : (r : Turn) → r ≡ turn_by k o.answer o.session → (r, back o.output) ≡ turn k xs (called w s (call (drop k xs)))
-    turned r e =
-        let placed : back o.output ≡ take k xs ++ o.output =
-        ap (λ z. take k xs ++ z) (ap (λ z. o.output ++ z) none_after ∙ append-nil o.output) in
-        let here : (r, back o.output) ≡ turn k xs o = λ i. (e i, placed i) in
+    pub turned : (r : Turn) (left : List ℕ) → r ≡ turn_by k o.answer o.session → left ≡ back o.output → (r, left) ≡ turn k xs (called w s (call (drop k xs)))
+    turned r left e same =
+        let placed : left ≡ take k xs ++ o.output =
+        same ∙ ap (λ z. take k xs ++ z) (ap (λ z. o.output ++ z) none_after ∙ append-nil o.output) in
+        let here : (r, left) ≡ turn k xs o = λ i. (e i, placed i) in
         here ∙ ap (turn k xs) (came ∙ ap (λ b. called w s (call b)) rest_whole)
-
-    pub within : (r : Turn) → r ≡ turn_by k o.answer o.session → r.written ≤ length (back o.output)
-    within r e = omega (arith, fits, ap (λ (t : Turn). t.written) e, back_long o.output long)
-
--- 13 is passed over, and another refusal kept
-pub passed_over : (k n : ℕ) (s : Session) → n ≡ 13 → record { answer = accepted tt; session = s; written = k } ≡ turn_by k (refused n) s
-passed_over k n s e = let same : k ≡ k + 0 = omega arith in rw e (λ i. record { answer = accepted tt; session = s; written = same i })
-
-pub kept_refused : (k n : ℕ) (s : Session) → n ≢ 13 → record { answer = refused n; session = s; written = k } ≡ turn_by k (refused n) s
-kept_refused k n s e = let same : k ≡ k + 0 = omega arith in rw (ne_eqb n 13 e) (λ i. record { answer = refused n; session = s; written = same i })
 
 -- a refusal ends the conversion, and what was not refused goes on
 pub ends_here : (u v : Turn × List ℕ) (f : Session → ℕ → List ℕ → Turn × List ℕ) (n : ℕ) → u ≡ v → u.0.answer ≡ refused n → u ≡ next v f

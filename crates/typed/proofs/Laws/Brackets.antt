@@ -3,19 +3,18 @@
 use mathlib.Core.Bool.{Bool, true, false, cond}
 use mathlib.Core.List.{List, [], ◌∷◌}
 use mathlib.Core.Path.{◌≡◌, refl, sym, ap, ◌∙◌}
-use Prim.Native.Nat.{ℕ, ◌+◌, ◌≤◌}
+use Prim.Native.Nat.{ℕ, ◌+◌}
 use native.Mathlib.Omega.{arith}
 use borrow.Author.Tests.{eqb-true}
-use lib.ListN.{length, drop}
+use lib.ListN.{drop}
 use Rattle.meaning.specs.Table.{Range}
 use Rattle.expression.specs.bridge.Text.{Read, refused, got, map_read, first, behind}
 use Rattle.expression.proofs.Laws.Places.{there, behind_at}
-use Rattle.typed.specs.declared.sink.Streamed.{Streamed}
 use Rattle.typed.specs.bridge.Reader.{then_read, any_number, plain, element, ends_bracket, elements}
-use Rattle.typed.specs.bridge.Stream.{State, Ready, feed_range, feed_ranges}
-use Rattle.typed.specs.bridge.Answers.{state_of, read_state, past_one, Reads}
+use Rattle.typed.specs.bridge.Stream.{State, feed_range, feed_ranges}
 use Rattle.typed.proofs.Laws.Patterns.{element_strict}
-use Rattle.typed.proofs.Laws.Turns.{state_got, state_refused, then_refused, then_on, fed_all, one_more}
+use Rattle.typed.proofs.Laws.Readings.{Gets}
+use Rattle.typed.proofs.Laws.Turns.{then_refused, then_on, fed_all, one_more}
 
 -- no element begins with what closes the bracket
 element_closed : (t : List ℕ) → first t ≡ 93 → element t ≡ refused
@@ -48,32 +47,20 @@ module _ (p : ℕ) (st : State) (t : List ℕ) where
           rest (any_number element ends_bracket t)
           ∙ ap (λ d. then_read d past) (one_more element ends_bracket (feed_range p) element_strict st t e)
 
--- past the bracket that closes
-module _ (s : List ℕ) (at : ℕ) (r : Streamed) (loaded buffer : List ℕ) where
-  pub past_reads : {w : Read State} → at ≤ r.next → r.next ≤ length s → (r.refused ≡ false → ends_bracket (drop r.next s) ≡ true) →
-      read_state s r loaded buffer ≡ w →
-      Reads s at (past_one r).refused (past_one r).next (state_of (past_one r).sink loaded buffer) (then_read w past)
-  past_reads {w} f l closes e = by r.refused refl
-    where
-      by : (b : Bool) → r.refused ≡ b →
-          Reads s at (past_one r).refused (past_one r).next (state_of (past_one r).sink loaded buffer) (then_read w past)
-      by true h =
-          let is : w ≡ refused = sym e ∙ state_refused s r loaded buffer h in
-          rw h (record { from = f; to = l; same = sym (ap (λ d. then_read d past) is ∙ then_refused past) })
-      by false h =
-          let is = sym e ∙ state_got s r loaded buffer h in
-          let c : first (drop r.next s) ≡ 93 = eqb-true (first (drop r.next s)) 93 (closes h) in
-          let k = there s r.next (λ z. let q : ◌≡◌ {A = ℕ} 93 0 = sym c ∙ z in omega arith) in
-          rw h (record {
-            from = omega arith;
-            to = omega arith;
-            same = ap (got (state_of r.sink loaded buffer)) (behind_at s r.next)
-                ∙ sym (ap (λ d. then_read d past) is ∙ then_on (state_of r.sink loaded buffer) (drop r.next s) past);
-          })
+  -- a first element that is refused, and a later one
+  pub elements_refused : fed_elements ≡ refused → map_read (λ x. feed_ranges p x st) (elements t) ≡ refused
+  elements_refused e = elements_fed ∙ ap (λ d. then_read d past) e ∙ then_refused past
 
-  pub past_ready : Ready (state_of r.sink loaded buffer) → Ready (state_of (past_one r).sink loaded buffer)
-  past_ready h = by r.refused
-    where
-      by : (b : Bool) → Ready (state_of (cond b r (record { refused = false; next = r.next + 1; sink = r.sink })).sink loaded buffer)
-      by true = h
-      by false = h
+  pub elements_none : map_read (λ x. feed_range p x st) (element t) ≡ refused → map_read (λ x. feed_ranges p x st) (elements t) ≡ refused
+  elements_none e = elements_refused (ap (λ d. then_read d (fed_all element ends_bracket (feed_range p))) e ∙ then_refused (fed_all element ends_bracket (feed_range p)))
+
+-- past the bracket that closes
+pub past_closed : {s : List ℕ} {at next : ℕ} {w : Read State} {st : State} → first (drop next s) ≡ 93 → Gets s at w st next → Gets s at (then_read w past) st (next + 1)
+past_closed {s} {at} {next} {w} {st} c g =
+    let l = there s next (λ z. let q : ◌≡◌ {A = ℕ} 93 0 = sym c ∙ z in omega arith) in
+    let f = g.from in
+    record {
+      from = omega arith;
+      to = omega arith;
+      is = ap (λ d. then_read d past) g.is ∙ then_on st (drop next s) past ∙ ap (got st) (sym (behind_at s next));
+    }

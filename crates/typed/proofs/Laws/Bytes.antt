@@ -21,6 +21,7 @@ use Rattle.expression.specs.bridge.Forms.{Small, Proper}
 use Rattle.expression.proofs.Laws.Numbers.{small_number, small_place, small_plus, small_minus, small_times}
 use Rattle.expression.proofs.Laws.Affine.{tree_count}
 use Rattle.typed.specs.Grammar.{Pattern, Head, pattern, otherwise, Line}
+use Rattle.expression.specs.Parts.{numbers}
 use Rattle.typed.specs.Records.{part_of, constant, coefficients, output_records, head_records, line_records, records}
 
 -- what the grammar says of lines, as far as it is asked for here
@@ -45,7 +46,7 @@ ProperHead otherwise = Unit {0}
 -- its constant and coefficients are in signed 32 bits, as those of an expression that is read are: `reads_small`
 pub record ProperTree (t : Tree) : Type 0 where
   pub proper : Proper t
-  pub small : Small (part_of t).numbers
+  pub small : Small (numbers (part_of t))
 
 pub record ProperLine (l : Line) : Type 0 where
   pub head : ProperHead l.head
@@ -55,7 +56,7 @@ abbrev pub LinesProper : List Line → Type 0
 LinesProper ls = Each ProperLine ls
 
 -- the numbers of an expression's parts are in signed 32 bits
-pub reads_small : {l : Level} {n : ℕ} {u : List ℕ} {t : Tree} → Reads l n u t → Small (part_of t).numbers
+pub reads_small : {l : Level} {n : ℕ} {u : List ℕ} {t : Tree} → Reads l n u t → Small (numbers (part_of t))
 unfolding fold
 reads_small (reads_number bs dg h) = small_number _ h
 reads_small (reads_place bs h) = small_place _ h
@@ -159,7 +160,7 @@ term_bytes x h =
     (lit< tt, (h, (lit< tt, (lit< tt, each_append (λ y. y < 256) (little_endian 2 k) (0 ∷ 0 ∷ []) (number_bytes 2 k) (lit< tt, (lit< tt, tt))))))
 
 pub eight_coefficients : (t : Tree) → length (coefficients (part_of t)) ≡ 8
-eight_coefficients t = length-drop 1 (part_of t).numbers ∙ omega (arith, tree_count t)
+eight_coefficients t = length-drop 1 (numbers (part_of t)) ∙ omega (arith, tree_count t)
 
 output_bytes : (t : Tree) → Bytes (output_records (part_of t))
 unfolding output_records

@@ -24,34 +24,34 @@ abbrev pub Eights : List (List ℕ) → Type 0
 Eights cs = Each (λ c. length c ≡ 8) cs
 
 -- the state after them, and the table check on bytes
-abbrev pub fed_all : List (List ℕ) → List ℕ → State
-fed_all cs buffer = fold_left feed cs (nothing_read buffer)
+abbrev pub fed_all : List (List ℕ) → List ℕ → ℕ → State
+fed_all cs buffer lent = fold_left feed cs (nothing_read buffer lent)
 
 abbrev pub check_of : List ℕ → Taken
 check_of b = take_records (length b / 8) b started (pad loaded_size [])
 
 -- a check that has refused takes none of them
-fold_idle : (cs : List (List ℕ)) (s : State) (n : ℕ) → s.check ≡ refused n → fold_left feed cs s ≡ s
+pub fold_idle : (cs : List (List ℕ)) (s : State) (n : ℕ) → s.check ≡ refused n → fold_left feed cs s ≡ s
 fold_idle [] s n e = refl
 fold_idle (c ∷ cs) s n e = ap (fold_left feed cs) (feed_idle c s n e) ∙ fold_idle cs s n e
 
--- whether refusal 17 was met does not change
+-- the loan does not change
 
-feed_fine : (c : List ℕ) (s : State) → (feed c s).fine ≡ s.fine
+feed_lent : (c : List ℕ) (s : State) → (feed c s).lent ≡ s.lent
 unfolding feed
-feed_fine c s = by s.check
+feed_lent c s = by s.check
   where
-    on : (o : Outcome Reader) (l : List ℕ) → (tested o c l s).fine ≡ s.fine
+    on : (o : Outcome Reader) (l : List ℕ) → (tested o c l s).lent ≡ s.lent
     on (refused n) l = refl
     on (accepted r) l = refl
 
-    by : (o : Outcome Reader) → (feed_to o c s).fine ≡ s.fine
+    by : (o : Outcome Reader) → (feed_to o c s).lent ≡ s.lent
     by (refused n) = refl
     by (accepted r) = on (admitted r (decode c)) (if_taken r (decode c) s.loaded)
 
-pub fold_fine : (cs : List (List ℕ)) (s : State) → (fold_left feed cs s).fine ≡ s.fine
-fold_fine [] s = refl
-fold_fine (c ∷ cs) s = fold_fine cs (feed c s) ∙ feed_fine c s
+pub fold_lent : (cs : List (List ℕ)) (s : State) → (fold_left feed cs s).lent ≡ s.lent
+fold_lent [] s = refl
+fold_lent (c ∷ cs) s = fold_lent cs (feed c s) ∙ feed_lent c s
 
 -- the answer and the array
 
@@ -125,25 +125,25 @@ eights : (cs : List (List ℕ)) → Eights cs → length (flat cs) ≡ 8 * lengt
 eights [] h = refl
 eights (c ∷ cs) h = let n = length-append c (flat cs) in let a = h.0 in let b = eights cs h.1 in omega arith
 
-module _ (cs : List (List ℕ)) (h : Eights cs) (buffer : List ℕ) where
-  answers : Answers (fed_all cs buffer) (check_of (flat cs))
+module _ (cs : List (List ℕ)) (h : Eights cs) (buffer : List ℕ) (lent : ℕ) where
+  answers : Answers (fed_all cs buffer lent) (check_of (flat cs))
   answers =
       let e = eights cs h in
       let n : length (flat cs) / 8 ≡ length cs = omega arith in
-      rw n (fold_taken cs (nothing_read buffer) started h refl)
+      rw n (fold_taken cs (nothing_read buffer lent) started h refl)
 
-  pub checked_answer : (fed_all cs buffer).check ≡ (check_of (flat cs)).answer
+  pub checked_answer : (fed_all cs buffer lent).check ≡ (check_of (flat cs)).answer
   checked_answer = answers.0
 
-  pub checked_loaded : (fed_all cs buffer).loaded ≡ (check_of (flat cs)).loaded
+  pub checked_loaded : (fed_all cs buffer lent).loaded ≡ (check_of (flat cs)).loaded
   checked_loaded = answers.1
 
-  module _ (r : Reader) (e : (fed_all cs buffer).check ≡ accepted r) where
-    written : Written (flat cs) buffer (fed_all cs buffer)
-    written = fold_written cs (nothing_read buffer) r [] buffer h (record { counted = refl; stored = λ _. refl }) e
+  module _ (r : Reader) (e : (fed_all cs buffer lent).check ≡ accepted r) where
+    written : Written (flat cs) buffer (fed_all cs buffer lent)
+    written = fold_written cs (nothing_read buffer lent) r [] buffer h (record { counted = refl; stored = λ _. refl }) e
 
-    pub checked_count : (fed_all cs buffer).count ≡ length (flat cs)
+    pub checked_count : (fed_all cs buffer lent).count ≡ length (flat cs)
     checked_count = written.counted
 
-    pub checked_buffer : length (flat cs) ≤ length buffer → (fed_all cs buffer).buffer ≡ over (flat cs) buffer
+    pub checked_buffer : length (flat cs) ≤ length buffer → (fed_all cs buffer lent).buffer ≡ over (flat cs) buffer
     checked_buffer = written.stored

@@ -1,21 +1,21 @@
 -- A record that is fed: what holds of every state on the way still holds, and a check that has refused takes no more.
 -- Each record taken in adds 8 bytes and makes the summary's weight greater. Assumes nothing.
 use mathlib.Core.List.{List}
-use mathlib.Core.Option.{Option, none, some}
+use Rattle.std.specs.Prelude.{Option, None, Some, Result, Ok, Err, is_ok}
+use mathlib.Core.Bool.{true, false, cond}
 use mathlib.Core.Path.{◌≡◌, refl, sym, ap, ap₂, subst, ◌∙◌}
-use Prim.Native.Nat.{ℕ, suc, ◌*◌, ◌/◌, ◌≤◌, ◌<◌}
+use Prim.Native.Nat.{ℕ, suc, ◌+◌, ◌*◌, ◌≤◌, ◌<◌}
 use native.Mathlib.Omega.{arith}
-use lib.ListN.{length, drop}
-use lib.Seq.{take_all}
 use Rattle.lists.specs.Lists.{Each}
 use Rattle.meaning.specs.Refusal.{Outcome, refused, accepted}
 use Rattle.meaning.specs.Record.{Record, decode}
 use Rattle.meaning.proofs.Laws.Refusal.{accepted_not}
-use Rattle.rules.specs.bridge.Summary.{admitted, if_taken, take_on, take_records, Fitting}
+use Rattle.rules.specs.bridge.Summary.{admitted, if_taken, Fitting}
+use Rattle.rules.specs.Answers.{number_of, outcome_of}
+use Rattle.rules.specs.declared.refusal.Refusal.{Refusal}
 use Rattle.rules.specs.declared.reader.Reader.{Reader}
-use Rattle.rules.proofs.Laws.Stepping.{if_taken_length}
 use Rattle.rules.proofs.Laws.Loading.{fitting_on}
-use Rattle.typed.specs.bridge.Stream.{State, tested, feed_to, feed, weight, Ready}
+use Rattle.typed.specs.bridge.Stream.{State, put, tested, feed_to, feed, weight, Held, Ready}
 use Rattle.typed.proofs.Laws.Weights.{weight_small, weight_grows}
 
 pub feed_idle : (c : List ℕ) (s : State) (n : ℕ) → s.check ≡ refused n → feed c s ≡ s
@@ -29,8 +29,8 @@ unfolding feed
 feed_tested c s r e = ap (λ o. feed_to o c s) e
 
 admitted_grows : (r r' : Reader) (x : Option Record) → Fitting r → admitted r x ≡ accepted r' → suc (weight r) ≤ weight r'
-admitted_grows r r' none f e = absurd (accepted_not r' 2 (sym e))
-admitted_grows r r' (some x) f e = weight_grows r r' x f e
+admitted_grows r r' None f e = absurd (accepted_not r' 2 (sym e))
+admitted_grows r r' (Some x) f e = weight_grows r r' x f e
 
 pub feed_ready : (c : List ℕ) (s : State) → Each (λ x. x < 256) c → Ready s → Ready (feed c s)
 unfolding feed
@@ -38,10 +38,9 @@ feed_ready c s b h = by s.check refl
   where
     on : (r : Reader) → Fitting r → s.count ≤ 8 * weight r → (o : Outcome Reader) → admitted r (decode c) ≡ o → Ready (tested o c (if_taken r (decode c) s.loaded) s)
     on r f n (refused k) e =
-        record { sized = if_taken_length r (decode c) s.loaded ∙ h.sized; reading = λ r' p. absurd (accepted_not r' k (sym p)) }
+        record { reading = λ r' p. absurd (accepted_not r' k (sym p)) }
     on r f n (accepted q) e =
         record {
-          sized = if_taken_length r (decode c) s.loaded ∙ h.sized;
           reading = λ r' p.
               let a : admitted r (decode c) ≡ accepted r' = e ∙ p in
               let g = admitted_grows r r' (decode c) f a in
@@ -52,21 +51,6 @@ feed_ready c s b h = by s.check refl
     by (refused k) e = h
     by (accepted r) e = let t = h.reading r e in on r t.0 t.1 (admitted r (decode c)) refl
 
--- a record by itself
-one_record : (c : List ℕ) (r : Reader) (l : List ℕ) → length c ≡ 8 →
-    let all = take_records (length c / 8) c r l in (all.answer ≡ admitted r (decode c)) × (all.loaded ≡ if_taken r (decode c) l)
-unfolding take_records
-one_record c r l long =
-    rw (count, take_all 8 c (omega arith)) (by (admitted r (decode c)))
-  where
-    count : length c / 8 ≡ 1
-    count = omega arith
-
-    by : (o : Outcome Reader) →
-        let all = take_on o (if_taken r (decode c) l) (λ r' l'. take_records 0 (drop 8 c) r' l') in (all.answer ≡ o) × (all.loaded ≡ if_taken r (decode c) l)
-    by (refused n) = (refl, refl)
-    by (accepted r') = (refl, refl)
-
 module _ (s : State) (r : Reader) (h : Ready s) (e : s.check ≡ accepted r) where
   pub count_small : s.count ≤ 652312
   count_small =
@@ -75,11 +59,44 @@ module _ (s : State) (r : Reader) (h : Ready s) (e : s.check ≡ accepted r) whe
       let w = weight_small r t.0 in
       omega arith
 
-  -- what the check made of the record by itself
-  pub fed : (c : List ℕ) → length c ≡ 8 → Each (λ b. b < 256) c → {o : Outcome Reader} {after : List ℕ} →
-      o ≡ (take_records (length c / 8) c r s.loaded).answer → after ≡ (take_records (length c / 8) c r s.loaded).loaded →
-      (tested o c after s ≡ feed c s) × Ready (tested o c after s)
-  fed c long bytes {o} {after} p q =
-      let one = one_record c r s.loaded long in
-      let same : tested o c after s ≡ feed c s = ap₂ (λ a l. tested a c l s) (p ∙ one.0) (q ∙ one.1) ∙ sym (feed_tested c s r e) in
-      (same, subst Ready (sym same) (feed_ready c s bytes h))
+  -- what the check made of the record x, by its answer o
+  module _ (c : List ℕ) (bytes : Each (λ b. b < 256) c) {x : Option Record} {after : List ℕ} (o : Result Reader Refusal)
+      (q : x ≡ decode c) (p : outcome_of o ≡ admitted r x) (l : after ≡ if_taken r x s.loaded) where
+    same : tested (outcome_of o) c after s ≡ feed c s
+    same = ap₂ (λ a l. tested a c l s) (p ∙ ap (admitted r) q) (l ∙ ap (λ y. if_taken r y s.loaded) q) ∙ sym (feed_tested c s r e)
+
+    still : Ready (tested (outcome_of o) c after s)
+    still = subst Ready (sym same) (feed_ready c s bytes h)
+
+    -- it was taken in, and its bytes are put
+    pub taken_in : is_ok o ≡ true → record { check = outcome_of o; loaded = after; count = s.count + 8; buffer = put s.count c s.buffer; lent = s.lent } ≡ feed c s
+    taken_in y = by o y ∙ same
+      where
+        by : (o : Result Reader Refusal) → is_ok o ≡ true →
+            record { check = outcome_of o; loaded = after; count = s.count + 8; buffer = put s.count c s.buffer; lent = s.lent } ≡ tested (outcome_of o) c after s
+        by (Ok r') y = refl
+        by (Err n) y = let z : ◌≡◌ {A = ℕ} 0 1 = ap (λ b. cond b 1 0) y in absurd (omega arith)
+
+    pub taken_held : is_ok o ≡ true → Held (outcome_of o) (s.count + 8)
+    taken_held y = by o y still
+      where
+        by : (o : Result Reader Refusal) → is_ok o ≡ true → Ready (tested (outcome_of o) c after s) → Held (outcome_of o) (s.count + 8)
+        by (Ok r') y k = record { reading = k.reading }
+        by (Err n) y k = record { reading = λ r' z. absurd (accepted_not r' (number_of n) (sym z)) }
+
+    -- it was refused
+    pub left_out : is_ok o ≡ false → record { check = outcome_of o; loaded = after; count = s.count; buffer = s.buffer; lent = s.lent } ≡ feed c s
+    left_out y = by o y ∙ same
+      where
+        by : (o : Result Reader Refusal) → is_ok o ≡ false →
+            record { check = outcome_of o; loaded = after; count = s.count; buffer = s.buffer; lent = s.lent } ≡ tested (outcome_of o) c after s
+        by (Ok r') y = let z : ◌≡◌ {A = ℕ} 1 0 = ap (λ b. cond b 1 0) y in absurd (omega arith)
+        by (Err n) y = refl
+
+    -- either way, as long as its bytes are not counted
+    pub held_still : Held (outcome_of o) s.count
+    held_still = by o still
+      where
+        by : (o : Result Reader Refusal) → Ready (tested (outcome_of o) c after s) → Held (outcome_of o) s.count
+        by (Ok r') k = record { reading = λ r'' z. let t = k.reading r'' z in let m = t.1 in (t.0, omega arith) }
+        by (Err n) k = record { reading = λ r' z. absurd (accepted_not r' (number_of n) (sym z)) }

@@ -2,7 +2,7 @@
 -- Range by range and term by term, each from where those before it led.
 use mathlib.Core.Bool.{Bool, true}
 use mathlib.Core.List.{List, [], ◌∷◌, ◌++◌, map, append-nil}
-use mathlib.Core.Option.{Option, some}
+use Rattle.std.specs.Prelude.{is_some, Option, Some}
 use mathlib.Core.Path.{◌≡◌, refl, sym, subst, ◌∙◌}
 use Prim.Native.Nat.{ℕ, suc, ◌+◌, ◌/◌, ◌%◌, ◌≤◌}
 use native.Mathlib.Omega.{arith}
@@ -25,12 +25,12 @@ use Rattle.typed.specs.Records.{part_of, constant, coefficients, output_records}
 use Rattle.typed.proofs.Laws.Bytes.{ProperRange, ProperItem, range_long, output_long, term_long, whole_joined, output_whole, eight_coefficients}
 use Rattle.typed.proofs.Laws.Taken.{filled, Leads, leads_nowhere, leads_on, leads_one}
 
-pub known : (b : List ℕ) (x : Record) → decode b ≡ some x → (y : Record) → decode b ≡ some y → x ≡ y
+pub known : (b : List ℕ) (x : Record) → decode b ≡ Some x → (y : Record) → decode b ≡ Some y → x ≡ y
 known b x e y f = cc
 
 -- ranges
 
-one_range : (p : ℕ) (r : Range) → ProperRange r → (y : Record) → decode (range_record p r) ≡ some y → range p r ≡ y
+one_range : (p : ℕ) (r : Range) → ProperRange r → (y : Record) → decode (range_record p r) ≡ Some y → range p r ≡ y
 unfolding little_endian
 one_range p r w y e =
     let a = r.lowest in
@@ -99,7 +99,7 @@ output_of t = sum (constant (part_of t)) (trimmed (coefficients (part_of t)))
 -- its positions are below 8, 17 does not refuse it, and its numbers are as wide as the fields of their records
 pub record Fitting (t : Tree) : Type 0 where
   pub proper : Proper t
-  pub fine : (part_of t).fine ≡ true
+  pub fine : is_some (part_of t) ≡ true
   pub constant_32 : Signed 32 (constant (part_of t))
   pub coefficients_16 : Each (Signed 16) (coefficients (part_of t))
 

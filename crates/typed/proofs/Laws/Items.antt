@@ -6,19 +6,20 @@ use mathlib.Core.Path.{◌≡◌, refl, sym, ap, ◌∙◌}
 use Prim.Native.Nat.{ℕ, zero, suc, ◌+◌, ◌-◌, ◌≤◌, ◌<◌}
 use native.Mathlib.Numerals.{add-one}
 use native.Mathlib.Omega.{arith}
-use borrow.Author.Tests.{ltb-true, lt-ltb, le-ltb}
-use lib.Dec.{ltb}
 use lib.ListN.{length, drop}
+use Rattle.std.specs.Prelude.{Option, None, Some}
 use Rattle.meaning.specs.Refusal.{refused as Turned-down}
 use Rattle.meaning.specs.Records.{rule_record, range_record}
 use Rattle.meaning.specs.Table.{Range}
 use Rattle.expression.specs.bridge.Text.{Read, refused, got, map_read}
+use Rattle.expression.specs.bridge.Answers.{Answers, read_of}
 use Rattle.expression.proofs.Laws.Sound.{map_got}
 use Rattle.typed.specs.bridge.Reader.{then_read, several, item, ends_items, closing, pattern_of}
 use Rattle.typed.specs.bridge.Stream.{State, feed, feed_ranges, feed_items, feed_pattern}
-use Rattle.typed.specs.bridge.Answers.{counting, ending_of, Reads}
+use Rattle.typed.specs.bridge.Answers.{counting, ending_of, state_of}
+use Rattle.typed.specs.declared.sink.Sink.{Sink}
 use Rattle.typed.proofs.Laws.Feeding.{feed_idle}
-use Rattle.typed.proofs.Laws.Readings.{read_some, fed_one, fed_none}
+use Rattle.typed.proofs.Laws.Readings.{Gets, fed_one, fed_none}
 use Rattle.typed.proofs.Laws.Ends.{ended, pattern_end}
 
 -- items from position p on, at most n less one, fed and counted
@@ -43,20 +44,11 @@ items_none (suc n) p h st t e =
 
 -- one more, where there are fewer than 8
 abbrev pub one_item : ℕ → State → List ℕ → Read State
-one_item p st t = map_read (λ x. feed_ranges p x st) (cond (ltb p 8) (item t) refused)
+one_item p st t = map_read (λ x. feed_ranges p x st) (item t)
 
-pub items_more : (n p : ℕ) → n + p ≡ 8 → (st : State) (t : List ℕ) → ends_items t ≡ false → items_left (suc n) p st t ≡ then_read (one_item p st t) (items_left n (p + 1))
+items_more : (n p : ℕ) (st : State) (t : List ℕ) → ends_items t ≡ false → items_left (suc n) p st t ≡ then_read (one_item p st t) (items_left n (p + 1))
 unfolding several map_read then_read
-items_more zero p h st t e =
-    ap (map_read (fed_count p st)) (ap (λ b. cond b (got [] t) (another 0 t)) e ∙ none (item t))
-    ∙ sym (ap (λ b. then_read (map_read (λ x. feed_ranges p x st) (cond b (item t) refused)) (items_left 0 (p + 1))) (le-ltb p 8 (omega arith)))
-  where
-    none : (d : Read (List Range)) → then_read d (λ a r. map_read (λ rest. a ∷ rest) (several item ends_items 0 r)) ≡ refused
-    none refused = refl
-    none (got a r) = refl
-items_more (suc n) p h st t e =
-    ap (map_read (fed_count p st)) (ap (λ b. cond b (got [] t) (another (suc n) t)) e) ∙ by (item t)
-    ∙ sym (ap (λ b. then_read (map_read (λ x. feed_ranges p x st) (cond b (item t) refused)) (items_left (suc n) (p + 1))) (lt-ltb p 8 (omega arith)))
+items_more n p st t e = ap (map_read (fed_count p st)) (ap (λ b. cond b (got [] t) (another n t)) e) ∙ by (item t)
   where
     rest : (a : List Range) (d : Read (List (List Range))) → map_read (fed_count p st) (map_read (λ rest. a ∷ rest) d)
         ≡ map_read (fed_count (p + 1) (feed_ranges p a st)) d
@@ -69,25 +61,26 @@ items_more (suc n) p h st t e =
         count : p + suc (length ps) ≡ p + 1 + length ps
         count = omega arith
 
-    by : (d : Read (List Range)) → map_read (fed_count p st) (then_read d (λ a r. map_read (λ rest. a ∷ rest) (several item ends_items (suc n) r)))
-        ≡ then_read (map_read (λ x. feed_ranges p x st) d) (items_left (suc n) (p + 1))
+    by : (d : Read (List Range)) → map_read (fed_count p st) (then_read d (λ a r. map_read (λ rest. a ∷ rest) (several item ends_items n r)))
+        ≡ then_read (map_read (λ x. feed_ranges p x st) d) (items_left n (p + 1))
     by refused = refl
-    by (got a r) = rest a (several item ends_items (suc n) r)
+    by (got a r) = rest a (several item ends_items n r)
 
 -- the loop's turn, by the position alone
-pub items_turn : (p : ℕ) → p ≤ 8 → (st : State) (t : List ℕ) → ends_items t ≡ false → items_left (9 - p) p st t ≡ then_read (one_item p st t) (items_left (9 - (p + 1)) (p + 1))
+pub items_turn : (p : ℕ) → p < 8 → (st : State) (t : List ℕ) → ends_items t ≡ false → items_left (9 - p) p st t ≡ then_read (one_item p st t) (items_left (9 - (p + 1)) (p + 1))
 items_turn p h st t e =
     let now : 9 - p ≡ suc (8 - p) = omega arith in
     let then : 8 - p ≡ 9 - (p + 1) = omega arith in
-    ap (λ n. items_left n p st t) now ∙ items_more (8 - p) p (omega arith) st t e ∙ ap (λ n. then_read (one_item p st t) (items_left n (p + 1))) then
+    ap (λ n. items_left n p st t) now ∙ items_more (8 - p) p st t e ∙ ap (λ n. then_read (one_item p st t) (items_left n (p + 1))) then
 
 -- a ninth is refused
-pub item_below : {s : List ℕ} {at next : ℕ} {b : Bool} {st' : State} (p : ℕ) (st : State) (t : List ℕ) → Reads s at b next st' (one_item p st t) → b ≡ false → p < 8
-item_below {s = s} {next = next} {st' = st'} p st t x e = by (ltb p 8) refl (read_some x e)
+pub items_full : (st : State) (t : List ℕ) → ends_items t ≡ false → items_left 1 8 st t ≡ refused
+unfolding several map_read then_read
+items_full st t e = items_more 0 8 st t e ∙ by (item t)
   where
-    by : (f : Bool) → ltb p 8 ≡ f → map_read (λ y. feed_ranges p y st) (cond f (item t) refused) ≡ got st' (drop next s) → p < 8
-    by true h q = ltb-true p 8 h
-    by false h q = let k = sym (fed_none (λ y. feed_ranges p y st) refl) ∙ q in let z : ◌≡◌ {A = ℕ} 0 1 = cc in absurd (omega arith)
+    by : (d : Read (List Range)) → then_read (map_read (λ x. feed_ranges 8 x st) d) (items_left 0 9) ≡ refused
+    by refused = refl
+    by (got a r) = refl
 
 pub count_from : (st : State) (t : List ℕ) → items_left 9 0 st t ≡ map_read (counting st) (several item ends_items 9 t)
 unfolding map_read
@@ -116,10 +109,10 @@ pub record Items (t : List ℕ) (st after : State) (count : ℕ) (rest : List �
   pub counted : length items ≡ count
   pub fed : feed_items 0 items st ≡ after
 
-pub items_read : {s : List ℕ} {at next count : ℕ} {b : Bool} {after : State} (t : List ℕ) (st : State) →
-    Reads s at b next (after, count) (map_read (counting st) (several item ends_items 9 t)) → b ≡ false → Items t st after count (drop next s)
-items_read {s = s} {next = next} {count = count} {after = after} t st x e =
-    let m = map_got (counting st) (several item ends_items 9 t) (after, count) (drop next s) (read_some x e) in
+pub items_read : {s : List ℕ} {at next count : ℕ} {after : State} {t : List ℕ} {st : State} →
+    Gets s at (map_read (counting st) (several item ends_items 9 t)) (after, count) next → Items t st after count (drop next s)
+items_read {s = s} {next = next} {count = count} {after = after} {t = t} {st = st} g =
+    let m = map_got (counting st) (several item ends_items 9 t) (after, count) (drop next s) g.is in
     record { items = m.0; read = m.1; counted = ap (λ q. q.1) m.2; fed = ap (λ q. q.0) m.2 }
 
 -- the ways through a pattern
@@ -132,13 +125,13 @@ unfolding pattern_of then_read
 pattern_read t ps u e = ap (λ d. then_read d closing) e ∙ pattern_end ps u
 
 -- items that were read once are fed again from another state
-pub items_again : {s : List ℕ} {at next count : ℕ} {b : Bool} {after : State} (t : List ℕ) (st : State) {ps : List (List Range)} {u : List ℕ} →
-    several item ends_items 9 t ≡ got ps u → Reads s at b next (after, count) (map_read (counting st) (several item ends_items 9 t)) → after ≡ feed_items 0 ps st
-items_again {s = s} {next = next} {count = count} {b = b} {after = after} t st {ps} {u} e x = by b (x.same ∙ fed_one (counting st) e refl)
+pub items_again : {s : List ℕ} {at : ℕ} (k : Sink) (t : List ℕ) (st : State) {ps : List (List Range)} {u : List ℕ} (r : Option (ℕ × ℕ)) →
+    several item ends_items 9 t ≡ got ps u → Answers (λ n. (state_of k, n)) s at (map_read (counting st) (several item ends_items 9 t)) r → state_of k ≡ feed_items 0 ps st
+items_again {s} k t st {ps} {u} r e x = by r (x.same ∙ fed_one (counting st) e refl)
   where
-    by : (f : Bool) → cond f refused (got (after, count) (drop next s)) ≡ got (counting st ps) u → after ≡ feed_items 0 ps st
-    by true q = let z : ◌≡◌ {A = ℕ} 0 1 = cc in absurd (omega arith)
-    by false q = let k : (after, count) ≡ counting st ps = cc in ap (λ x. x.0) k
+    by : (o : Option (ℕ × ℕ)) → read_of (λ n. (state_of k, n)) s o ≡ got (counting st ps) u → state_of k ≡ feed_items 0 ps st
+    by None q = let z : ◌≡◌ {A = ℕ} 0 1 = cc in absurd (omega arith)
+    by (Some v) q = let e : (state_of k, v.0) ≡ counting st ps = cc in ap (λ x. x.0) e
 
 -- a pattern whose end is refused, and one that is read
 module _ (t : List ℕ) {st after : State} {count : ℕ} {rest : List ℕ} (first : Items t st after count rest) where

@@ -3,7 +3,7 @@
 use mathlib.Core.Bool.{Bool, true, false, cond}
 use mathlib.Core.List.{List, [], ◌∷◌, ◌++◌, map}
 use mathlib.Core.Logic.{◌≢◌}
-use mathlib.Core.Option.{Option, none, some}
+use Rattle.std.specs.Prelude.{Option, None, Some}
 use mathlib.Core.Path.{◌≡◌, refl, sym, ap, ap₂, subst, ◌∙◌}
 use Prim.Native.Nat.{ℕ, zero, suc, pred, ◌<◌}
 use native.Mathlib.Omega.{arith}
@@ -137,7 +137,7 @@ bare_groups (l ∷ ls) = ap₂ (λ g gs. g ∷ gs) (sym (head_bare l.head)) (bar
 
 bare_first : (ls : List Line) → bare_default (first_of (map line_group ls)) ≡ first_of (map group_of ls)
 bare_first [] = refl
-bare_first (l ∷ ls) = ap some (sym (head_bare l.head))
+bare_first (l ∷ ls) = ap Some (sym (head_bare l.head))
 
 pub bare_table : (ls : List Line) → bare (table_of ls) ≡ patterns ls
 unfolding table_of patterns
@@ -145,8 +145,8 @@ bare_table ls =
     λ i. record { rules = bare_groups (flat_map rule_of ls) i; default = bare_first (flat_map default_of ls) i; mark = same (table_of ls).default i }
   where
     same : (d : Option Group) → mark_by (mode_of d unmarked) ≡ unmarked
-    same none = refl
-    same (some g) = refl
+    same None = refl
+    same (Some g) = refl
 
 same_choices : (ls : List Line) (input : List ℕ) → convert (table_of ls) input ≡ choices ls input
 unfolding choices
@@ -159,11 +159,11 @@ unfolding table_of
 lines_single ls = of (first_of (map line_group (flat_map default_of ls)))
   where
     of : (d : Option Group) → mode_of d unmarked ≢ Paired
-    of none e = let z : ◌≡◌ {A = ℕ} 0 1 = cc in omega arith
-    of (some g) e = let z : ◌≡◌ {A = ℕ} 0 1 = cc in omega arith
+    of None e = let z : ◌≡◌ {A = ℕ} 0 1 = cc in omega arith
+    of (Some g) e = let z : ◌≡◌ {A = ℕ} 0 1 = cc in omega arith
 
 module _ (t : Table) (s : Shaped t) (single : mode t ≢ Paired) where
-  pub chosen_plain : (u : List ℕ) (n : ℕ) → choose t u ≡ some n → n < pair_number
+  pub chosen_plain : (u : List ℕ) (n : ℕ) → choose t u ≡ Some n → n < pair_number
   chosen_plain u n e = of (choose_number t s u n e)
     where
       of : Numbered t u n → n < pair_number
@@ -176,10 +176,10 @@ module _ (t : Table) (s : Shaped t) (single : mode t ≢ Paired) where
   from_plain (suc skip) (c ∷ u) = from_plain skip u
   from_plain zero (c ∷ u) = go (choose t (c ∷ u)) (chosen_plain (c ∷ u)) (λ skip. from_plain skip u)
     where
-      go : (o : Option ℕ) → ((n : ℕ) → o ≡ some n → n < pair_number) → ((skip : ℕ) → Each (λ e. e.group < pair_number) (convert_from t skip u).log) →
+      go : (o : Option ℕ) → ((n : ℕ) → o ≡ Some n → n < pair_number) → ((skip : ℕ) → Each (λ e. e.group < pair_number) (convert_from t skip u).log) →
           Each (λ e. e.group < pair_number) (convert_by t o (c ∷ u) (λ skip. convert_from t skip u)).log
-      go none f onward = tt
-      go (some n) f onward = (f n refl, onward (pred (group t n).size))
+      go None f onward = tt
+      go (Some n) f onward = (f n refl, onward (pred (group t n).size))
 
 same_text : (f g : ℕ → List ℕ → List ℕ) → ((n : ℕ) (w : List ℕ) → n < pair_number → f n w ≡ g n w) → (log : List Emission) →
     Each (λ e. e.group < pair_number) log → text_of f log ≡ text_of g log

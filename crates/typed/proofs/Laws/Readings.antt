@@ -1,32 +1,74 @@
 -- Answers at places of a text: what a refused and an accepted one say, and how a proof makes one. Ways through the readers of single characters.
--- By cases on the flag, and on the text. Assumes nothing.
-use mathlib.Core.Bool.{Bool, true, false, cond}
+-- By cases on the answer, and on the text. Assumes nothing.
+use mathlib.Core.Bool.{Bool, true, false, ◌||◌, cond}
 use mathlib.Core.List.{List, [], ◌∷◌}
-use mathlib.Core.Path.{◌≡◌, refl, sym, ap, ◌∙◌}
+use mathlib.Core.Path.{◌≡◌, refl, sym, ap, subst, ◌∙◌}
 use Prim.Native.Nat.{ℕ, ◌+◌, ◌≤◌, ◌<◌}
+use native.Mathlib.Nat.{le_trans}
 use native.Mathlib.Omega.{arith}
 use borrow.Author.Tests.{eq-eqb, ne_eqb}
+use native.Mathlib.Decide.{ℕ_discrete}
+use lib.Dec.{eqb}
 use lib.ListN.{length, drop, get_or}
+use Rattle.std.specs.List.{list_any}
+use Rattle.lists.specs.Lists.{any}
 use lib.Seq.{drop-cons}
 use native.Mathlib.Numerals.{add-one}
+use Rattle.std.specs.Prelude.{Option, None, Some, IfSome}
 use Rattle.expression.specs.bridge.Text.{Read, refused, got, map_read, first, behind}
+use Rattle.expression.specs.bridge.Answers.{Answers, Inside, read_of}
 use Rattle.expression.proofs.Laws.Symbols.{drop_past}
 use Rattle.typed.specs.Grammar.{range, in_brackets}
 use Rattle.typed.specs.bridge.Reader.{then_read, any_character, plain, element}
-use Rattle.typed.specs.bridge.Answers.{Reads}
+use Rattle.typed.specs.bridge.Answers.{Places, place_of}
 
-module _ {A : Type 0} {s : List ℕ} {at next : ℕ} {value : A} {d : Read A} where
-  pub read_none : {b : Bool} → Reads s at b next value d → b ≡ true → d ≡ refused
-  read_none x e = sym x.same ∙ ap (λ b. cond b refused (got value (drop next s))) e
+-- an accepted answer: a value, and a place behind it in the text
+pub record Gets {A : Type 0} (s : List ℕ) (at : ℕ) (d : Read A) (a : A) (next : ℕ) : Type 0 where
+  pub from : at ≤ next
+  pub to : next ≤ length s
+  pub is : d ≡ got a (drop next s)
 
-  pub read_some : {b : Bool} → Reads s at b next value d → b ≡ false → d ≡ got value (drop next s)
-  read_some x e = sym x.same ∙ ap (λ b. cond b refused (got value (drop next s))) e
+module _ {A B : Type 0} {s : List ℕ} {at : ℕ} {f : A → B} {r : Option (A × ℕ)} {d : Read B} (x : Answers f s at d r) where
+  pub read_none : r ≡ None → d ≡ refused
+  read_none e = sym x.same ∙ ap (read_of f s) e
 
-  pub refuses : (b : Bool) → b ≡ true → at ≤ next → next ≤ length s → d ≡ refused → Reads s at b next value d
-  refuses b e f l h = record { from = f; to = l; same = ap (λ b. cond b refused (got value (drop next s))) e ∙ sym h }
+  pub read_some : {v : A × ℕ} → r ≡ Some v → Gets s at d (f v.0) v.1
+  read_some {v} e =
+      let p = subst (λ (o : Option (A × ℕ)). Inside s at o) e x.place in
+      record { from = p.0; to = p.1; is = sym x.same ∙ ap (read_of f s) e }
 
-  pub gives : (b : Bool) → b ≡ false → at ≤ next → next ≤ length s → d ≡ got value (drop next s) → Reads s at b next value d
-  gives b e f l h = record { from = f; to = l; same = ap (λ b. cond b refused (got value (drop next s))) e ∙ sym h }
+module _ {A : Type 0} {s : List ℕ} {at : ℕ} {a : A} {r : Option ℕ} {d : Read A} (x : Places s at a r d) where
+  pub place_none : r ≡ None → d ≡ refused
+  place_none e = sym x.same ∙ ap (place_of s a) e
+
+  pub place_some : {next : ℕ} → r ≡ Some next → Gets s at d a next
+  place_some e =
+      let p = subst (λ (o : Option ℕ). IfSome o (λ next. (at ≤ next) × (next ≤ length s))) e x.placed in
+      record { from = p.0; to = p.1; is = sym x.same ∙ ap (place_of s a) e }
+
+  pub placed_as : {before : ℕ} {e : Read A} → before ≤ at → d ≡ e → Places s before a r e
+  placed_as {before} l h = record { placed = by r x.placed; same = x.same ∙ h }
+    where
+      by : (o : Option ℕ) → IfSome o (λ next. (at ≤ next) × (next ≤ length s)) → IfSome o (λ next. (before ≤ next) × (next ≤ length s))
+      by None p = tt
+      by (Some next) p = (le_trans l p.0, p.1)
+
+-- how a proof makes one: refused, or of what it gets
+module _ {s : List ℕ} {at : ℕ} where
+  pub no_value : {A B : Type 0} {f : A → B} {d : Read B} → d ≡ refused → Answers f s at d None
+  no_value h = record { place = tt; same = sym h }
+
+  pub value : {A B : Type 0} {f : A → B} {d : Read B} {v : A × ℕ} → Gets s at d (f v.0) v.1 → Answers f s at d (Some v)
+  value g = record { place = (g.from, g.to); same = sym g.is }
+
+  pub no_place : {A : Type 0} {a : A} {d : Read A} → d ≡ refused → Places s at a None d
+  no_place h = record { placed = tt; same = sym h }
+
+  pub place : {A : Type 0} {a : A} {d : Read A} {next : ℕ} → Gets s at d a next → Places s at a (Some next) d
+  place g = record { placed = (g.from, g.to); same = sym g.is }
+
+pub gets_as : {A : Type 0} {s : List ℕ} {at before : ℕ} {d e : Read A} {a b : A} {next : ℕ} → before ≤ at → (d ≡ got a (drop next s) → e ≡ got b (drop next s)) → Gets s at d a next → Gets s before e b next
+gets_as l h g = record { from = le_trans l g.from; to = g.to; is = h g.is }
 
 pub character_there : (s : List ℕ) (at : ℕ) → at < length s → any_character (drop at s) ≡ got (get_or s at 0) (drop (at + 1) s)
 unfolding any_character
@@ -35,6 +77,15 @@ character_there s at h = rw (add-one at, drop-cons s at 0 h)
 pub character_past : (s : List ℕ) (at : ℕ) → length s ≤ at → any_character (drop at s) ≡ refused
 unfolding any_character
 character_past s at h = ap any_character (drop_past s at h)
+
+-- whether a list of characters has one
+pub contains_any : (w : List ℕ) (c : ℕ) → list_any (λ y. eqb y c) w ≡ any (eqb c) w
+contains_any [] c = refl
+contains_any (x ∷ w) c = ap (λ b. b || list_any (λ y. eqb y c) w) (turned (ℕ_discrete x c)) ∙ ap (λ b. eqb c x || b) (contains_any w c)
+  where
+    turned : Dec (x ≡ c) → eqb x c ≡ eqb c x
+    turned (yes e) = eq-eqb x c e ∙ sym (eq-eqb c x (sym e))
+    turned (no n) = ne_eqb x c n ∙ sym (ne_eqb c x (λ e. n (sym e)))
 
 -- a character that may have a backslash
 module _ (special : ℕ → Bool) where
@@ -78,15 +129,6 @@ element_range t a r e h = rw (e, eq-eqb (first r) 45 h)
 pub element_single : (t : List ℕ) (a : ℕ) (r : List ℕ) → plain in_brackets t ≡ got a r → (first r ≡ 45 → ⊥) → element t ≡ got (range a a) r
 unfolding element then_read
 element_single t a r e h = rw (e, ne_eqb (first r) 45 h)
-
--- an answer brought further by a function of its value
-pub map_reads : {A B : Type 0} {s : List ℕ} {at next : ℕ} {b : Bool} {value : A} {d : Read A} (f : A → B) → Reads s at b next value d → Reads s at b next (f value) (map_read f d)
-unfolding map_read
-map_reads {s = s} {next = next} {b = b} {value = value} f x = record { from = x.from; to = x.to; same = by b ∙ ap (map_read f) x.same }
-  where
-    by : (b : Bool) → cond b refused (got (f value) (drop next s)) ≡ map_read f (cond b refused (got value (drop next s)))
-    by true = refl
-    by false = refl
 
 -- what is read and fed, or refused
 pub fed_none : {A B : Type 0} (f : A → B) {d : Read A} → d ≡ refused → map_read f d ≡ refused

@@ -1,13 +1,12 @@
 -- A line in its stages: what stands before `==>`, the outputs behind it, the semicolon. What each reads is fed to the state that the one before left. Whether a text has more lines.
 -- By cases on each reading, and on the place behind the blanks. Assumes nothing.
-use mathlib.Core.Bool.{Bool, true, false, not}
+use mathlib.Core.Bool.{true, false}
 use mathlib.Core.List.{List}
 use mathlib.Core.Path.{◌≡◌, refl, sym, ap, ◌∙◌}
-use Prim.Native.Nat.{ℕ}
-use native.Mathlib.Nat.{le_trans}
-use borrow.Author.Tests.{eq-eqb, ne_eqb, ltb-true, ltb-false}
-use lib.Dec.{ltb}
+use Prim.Native.Nat.{ℕ, ◌≤◌, ◌<◌}
+use borrow.Author.Tests.{eq-eqb, ne_eqb}
 use lib.ListN.{length, drop}
+use Rattle.std.specs.Prelude.{Option}
 use Rattle.lists.specs.Lists.{is_empty}
 use Rattle.meaning.specs.Table.{unmarked}
 use Rattle.meaning.specs.Records.{default_record}
@@ -19,20 +18,22 @@ use Rattle.expression.proofs.Laws.Symbols.{at-cons, drop_past}
 use Rattle.typed.specs.Grammar.{Head, pattern, otherwise, else_word, arrow, semicolon}
 use Rattle.typed.specs.bridge.Reader.{then_read, pattern_of, symbol, head_of, right_of, line_of, ends_text}
 use Rattle.typed.specs.bridge.Stream.{State, feed, feed_pattern, feed_head, feed_outputs, feed_line}
-use Rattle.typed.specs.bridge.Answers.{Reads}
-use Rattle.typed.proofs.Laws.Readings.{read_none, read_some, refuses}
+use Rattle.typed.specs.bridge.Answers.{Places}
+use Rattle.typed.proofs.Laws.Readings.{Gets, placed_as}
 
 -- two readings, one behind the other: a refusal of the first is one of both, and otherwise the second's answer is that of both
-module _ {A B : Type 0} {s : List ℕ} {at next : ℕ} {b : Bool} {value : A} {d : Read A} {both : Read B} (f : A → List ℕ → Read B)
-    (e : both ≡ then_read d f) (x : Reads s at b next value d) where
-  pub first_refused : {b' : Bool} {other : B} → b ≡ true → b' ≡ true → Reads s at b' next other both
+module _ {A B : Type 0} {d : Read A} {both : Read B} (f : A → List ℕ → Read B) (e : both ≡ then_read d f) where
+  pub first_refused : d ≡ refused → both ≡ refused
   unfolding then_read
-  first_refused {b'} h k = refuses b' k x.from x.to (e ∙ ap (λ d. then_read d f) (read_none x h))
+  first_refused h = e ∙ ap (λ d. then_read d f) h
 
-  pub second_read : {b' : Bool} {next' : ℕ} {value' : B} → b ≡ false → Reads s next b' next' value' (f value (drop next s)) → Reads s at b' next' value' both
+  pub second_refused : {a : A} {u : List ℕ} → d ≡ got a u → f a u ≡ refused → both ≡ refused
   unfolding then_read
-  second_read h y =
-      record { from = le_trans x.from y.from; to = y.to; same = y.same ∙ sym (e ∙ ap (λ d. then_read d f) (read_some x h)) }
+  second_refused h k = e ∙ ap (λ d. then_read d f) h ∙ k
+
+  pub second_placed : {s : List ℕ} {at : ℕ} {a : A} {next : ℕ} {b : B} {r : Option ℕ} → Gets s at d a next → Places s next b r (f a (drop next s)) → Places s at b r both
+  unfolding then_read
+  second_placed g y = placed_as y g.from (sym (e ∙ ap (λ d. then_read d f) g.is))
 
 module _ (st : State) where
   -- the two ways through what stands before `==>`
@@ -77,10 +78,9 @@ module _ (st : State) where
       by refused = refl
       by (got h r) = map_map (λ l. feed_line l st) (λ ts. record { head = h; outputs = ts }) (right_of r)
 
--- more than blanks is left where the next symbol's place is before the end
-pub text_left : (s : List ℕ) (at j : ℕ) → Skipped s at j → ltb j (length s) ≡ not (ends_text (drop at s))
-text_left s at j k = by (ltb j (length s)) refl ∙ ap (λ u. not (is_empty u)) k.same
-  where
-    by : (b : Bool) → ltb j (length s) ≡ b → b ≡ not (is_empty (drop j s))
-    by true e = rw (at-cons s j (ltb-true j (length s) e))
-    by false e = rw (drop_past s j (ltb-false j (length s) e))
+-- nothing but blanks is left where the next symbol's place is not before the end
+pub text_left : {s : List ℕ} {at j : ℕ} → Skipped s at j → j < length s → ends_text (drop at s) ≡ false
+text_left {s} {at} {j} k l = ap is_empty (sym k.same ∙ at-cons s j l)
+
+pub text_done : {s : List ℕ} {at j : ℕ} → Skipped s at j → length s ≤ j → ends_text (drop at s) ≡ true
+text_done {s} {at} {j} k l = ap is_empty (sym k.same ∙ drop_past s j l)

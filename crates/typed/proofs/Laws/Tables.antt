@@ -2,7 +2,7 @@
 -- The records of each line lead from the groups before it to those with its own; a line behind `else` is refused.
 use mathlib.Core.Bool.{Bool, true, not}
 use mathlib.Core.List.{List, [], ◌∷◌, ◌++◌, map, append-nil}
-use mathlib.Core.Option.{Option, none, some}
+use Rattle.std.specs.Prelude.{is_some, Option, None, Some}
 use mathlib.Core.Path.{◌≡◌, refl, sym, ap, subst, ◌∙◌}
 use Prim.Native.Nat.{ℕ, ◌*◌, ◌/◌, ◌%◌, ◌<◌}
 use native.Mathlib.Nat.{div-add-mod}
@@ -56,9 +56,9 @@ unfolding within17
 tree_fits t w =
     record {
       proper = w.0.proper;
-      fine = of_T (part_of t).fine (and_left (part_of t).fine _ w.1);
+      fine = of_T (is_some (part_of t)) (and_left (is_some (part_of t)) _ w.1);
       constant_32 = signed_32 (constant (part_of t)) (w.0.small.each 0);
-      coefficients_16 = all_each short (coefficients (part_of t)) (λ z h. signed_16 z (ltb→lt (mag z) 32768 h)) (and_right (part_of t).fine _ w.1);
+      coefficients_16 = all_each short (coefficients (part_of t)) (λ z h. signed_16 z (ltb→lt (mag z) 32768 h)) (and_right (is_some (part_of t)) _ w.1);
     }
 
 pub record LineFits (l : Line) : Type 0 where
@@ -82,12 +82,12 @@ lines_fit ls w e =
 
 -- a default's mark, which no text has
 abbrev mark_in : Head → Option Mark
-mark_in (pattern p) = none
-mark_in otherwise = some unmarked
+mark_in (pattern p) = None
+mark_in otherwise = Some unmarked
 
 -- where no default was read before, the group is added
 abbrev Added : Reading → Head → Group → Reading → Type 0
-Added s h g r = (s.table.default ≡ none) × (r.table ≡ holding (mark_in h) s.table.rules g)
+Added s h g r = (s.table.default ≡ None) × (r.table ≡ holding (mark_in h) s.table.rules g)
 
 head_goes : (h : Head) → ProperHead h → (s : Reading) → T (not (unfilled s)) → Goes s (head_records h) (Added s h (group_of (record { head = h; outputs = [] })))
 unfolding head_records misplaced skipping taken
@@ -98,7 +98,7 @@ head_goes (pattern p) w s u =
     let done = Added s (pattern p) (record { size = k; anchored = a; ranges = p.items; outputs = [] }) in
     goes_on begun done s (rule_record k a) (range_records 0 p.items) (1, refl)
     (goes_one begun s (rule_record k a) (rule k a) refl (known _ _ (read_rule k a w.some_item w.few_items)) (λ m. (u, (is_none s.table.default m, refl))))
-    (λ r q. goes_so _ done r (range_records 0 p.items) (λ v e. (q.0, e)) (items_lead none s.table.rules k a [] p.items w.items r q.1))
+    (λ r q. goes_so _ done r (range_records 0 p.items) (λ v e. (q.0, e)) (items_lead None s.table.rules k a [] p.items w.items r q.1))
 head_goes otherwise w s u =
     goes_one (Added s otherwise (every_character [])) s (default_record unmarked) (default unmarked) refl (known _ _ (read_default unmarked)) (λ m. (u, (is_none s.table.default m, refl)))
 
@@ -128,18 +128,18 @@ line_filled l s r q =
 -- line after line
 
 -- behind the default there is none
-last_goes : (Q : Reading → Type 0) (ls : List Line) → Each LineFits ls → (s : Reading) (g : Group) → s.table.default ≡ some g → T (not (unfilled s)) → (ls ≡ [] → Q s) → Goes s (records ls) Q
+last_goes : (Q : Reading → Type 0) (ls : List Line) → Each LineFits ls → (s : Reading) (g : Group) → s.table.default ≡ Some g → T (not (unfilled s)) → (ls ≡ [] → Q s) → Goes s (records ls) Q
 unfolding records
 last_goes Q [] w s g e u h = goes_nowhere Q s (h refl)
 last_goes Q (l ∷ ls) w s g e u h =
     goes_on (Added s l.head (line_group l)) Q s (line_records l) (records ls) (line_whole l) (line_goes l w.0 s u)
-    (λ r q. absurd (let n : none ≡ some g = sym q.0 ∙ e in let z : ◌≡◌ {A = ℕ} 0 1 = cc in omega arith))
+    (λ r q. absurd (let n : None ≡ Some g = sym q.0 ∙ e in let z : ◌≡◌ {A = ℕ} 0 1 = cc in omega arith))
 
 abbrev Done : List Group → List Line → Reading → Type 0
 Done gs ls r = (r.table ≡ record { rules = gs ++ (table_of ls).rules; default = (table_of ls).default; mark = (table_of ls).mark }) × T (not (unfilled r))
 
 abbrev LinesGo : List Line → Type 0
-LinesGo ls = (gs : List Group) (s : Reading) → s.table ≡ record { rules = gs; default = none; mark = unmarked } → T (not (unfilled s)) → Goes s (records ls) (Done gs ls)
+LinesGo ls = (gs : List Group) (s : Reading) → s.table ≡ record { rules = gs; default = None; mark = unmarked } → T (not (unfilled s)) → Goes s (records ls) (Done gs ls)
 
 next_goes : (h : Head) (ts : List Tree) (ls : List Line) → LineFits (record { head = h; outputs = ts }) → Each LineFits ls → LinesGo ls → LinesGo (record { head = h; outputs = ts } ∷ ls)
 unfolding table_of records
@@ -150,19 +150,19 @@ next_goes (pattern p) ts ls w v onward gs s e u =
     (λ r q.
     goes_so (Done (gs ++ (g ∷ [])) ls) (Done gs (l ∷ ls)) r (records ls)
     (λ x d. (d.0 ∙ ap (λ rs. record { rules = rs; default = (table_of ls).default; mark = (table_of ls).mark }) (append_snoc gs g (table_of ls).rules), d.1))
-    (onward (gs ++ (g ∷ [])) r (q.1 ∙ ap (λ t. record { rules = t.rules ++ (g ∷ []); default = none; mark = unmarked }) e) (line_filled l s r q)))
+    (onward (gs ++ (g ∷ [])) r (q.1 ∙ ap (λ t. record { rules = t.rules ++ (g ∷ []); default = None; mark = unmarked }) e) (line_filled l s r q)))
 next_goes otherwise ts ls w v onward gs s e u =
     let l : Line = record { head = otherwise; outputs = ts } in
     let g = line_group l in
     goes_on (Added s otherwise g) (Done gs (l ∷ ls)) s (line_records l) (records ls) (line_whole l) (line_goes l w s u)
     (λ r q.
-    let table : r.table ≡ record { rules = gs; default = some g; mark = unmarked } = q.1 ∙ ap (λ t. record { rules = t.rules; default = some g; mark = unmarked }) e in
+    let table : r.table ≡ record { rules = gs; default = Some g; mark = unmarked } = q.1 ∙ ap (λ t. record { rules = t.rules; default = Some g; mark = unmarked }) e in
     last_goes (Done gs (l ∷ ls)) ls v r g (ap (λ t. t.default) table) (line_filled l s r q)
-    (λ n. (table ∙ ap (λ rs. record { rules = rs; default = some g; mark = unmarked }) (sym (append-nil gs) ∙ ap (λ xs. gs ++ map line_group (flat_map rule_of xs)) (sym n)), line_filled l s r q)))
+    (λ n. (table ∙ ap (λ rs. record { rules = rs; default = Some g; mark = unmarked }) (sym (append-nil gs) ∙ ap (λ xs. gs ++ map line_group (flat_map rule_of xs)) (sym n)), line_filled l s r q)))
 
 lines_go : (ls : List Line) → Each LineFits ls → LinesGo ls
 unfolding table_of records
-lines_go [] w gs s e u = goes_nowhere (Done gs []) s (e ∙ ap (λ rs. record { rules = rs; default = none; mark = unmarked }) (sym (append-nil gs)), u)
+lines_go [] w gs s e u = goes_nowhere (Done gs []) s (e ∙ ap (λ rs. record { rules = rs; default = None; mark = unmarked }) (sym (append-nil gs)), u)
 lines_go (l ∷ ls) w gs s e u = next_goes l.head l.outputs ls w.0 w.1 (lines_go ls w.1) gs s e u
 
 -- the table

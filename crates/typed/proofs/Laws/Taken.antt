@@ -2,7 +2,7 @@
 -- Records one after another are taken in where those before led; a record that changes the group read last leads to the group so changed.
 use mathlib.Core.Bool.{not, ◌||◌}
 use mathlib.Core.List.{List, [], ◌∷◌, ◌++◌}
-use mathlib.Core.Option.{Option, none, some}
+use Rattle.std.specs.Prelude.{Option, None, Some}
 use mathlib.Core.Path.{◌≡◌, refl, sym, subst, ◌∙◌}
 use Prim.Native.Nat.{ℕ, zero, suc, ◌+◌, ◌*◌, ◌-◌}
 use native.Mathlib.Omega.{arith}
@@ -51,17 +51,17 @@ goes_so P Q s b f h n l = go (read_records n b s) (h n l)
     go (accepted r) p = f r p
 
 -- one record: where it may come nothing is skipped, and it leads to the reading with it taken in
-pub goes_one : (P : Reading → Type 0) (s : Reading) (b : List ℕ) (x : Record) → length b ≡ 8 → ((y : Record) → decode b ≡ some y → x ≡ y) →
+pub goes_one : (P : Reading → Type 0) (s : Reading) (b : List ℕ) (x : Record) → length b ≡ 8 → ((y : Record) → decode b ≡ Some y → x ≡ y) →
     (T (not (misplaced s x)) → T (not (skipping s x)) × P (taken s x)) → Goes s b P
 unfolding read_records read_one and_then
 goes_one P s b x e f h zero l = absurd (omega arith)
 goes_one P s b x e f h (suc (suc n)) l = absurd (omega arith)
 goes_one P s b x e f h (suc zero) l = rw (take_all 8 b (omega arith)) (go (decode b) f)
   where
-    go : (o : Option Record) → ((y : Record) → o ≡ some y → x ≡ y) → Says (2 ∷ 3 ∷ 6 ∷ []) P (and_then (read_one s o) (λ r. accepted r))
-    go none g = tt
-    go (some y) g =
-        subst (λ z. Says (2 ∷ 3 ∷ 6 ∷ []) P (and_then (read_one s (some z)) (λ r. accepted r))) (g y refl)
+    go : (o : Option Record) → ((y : Record) → o ≡ Some y → x ≡ y) → Says (2 ∷ 3 ∷ 6 ∷ []) P (and_then (read_one s o) (λ r. accepted r))
+    go None g = tt
+    go (Some y) g =
+        subst (λ z. Says (2 ∷ 3 ∷ 6 ∷ []) P (and_then (read_one s (Some z)) (λ r. accepted r))) (g y refl)
         (by_cases (λ o. Says (2 ∷ 3 ∷ 6 ∷ []) P (and_then o (λ r. accepted r))) _ (accepted (taken s x)) (
           λ _. tt,
           λ m. (λ u. absurd (T_not (skipping s x) (h m).0 u), λ _. (λ _. tt, λ _. (h m).1)),
@@ -87,7 +87,7 @@ module _ (d : Option Mark) (gs : List Group) where
   leads_on g h i b c w l m s e = goes_on (λ r. r.table ≡ holding d gs h) (λ r. r.table ≡ holding d gs i) s b c w (l s e) m
 
   -- one record, by which the last group is changed
-  pub leads_one : (f : Group → Group) (g : Group) (b : List ℕ) (x : Record) → length b ≡ 8 → ((y : Record) → decode b ≡ some y → x ≡ y) →
+  pub leads_one : (f : Group → Group) (g : Group) (b : List ℕ) (x : Record) → length b ≡ 8 → ((y : Record) → decode b ≡ Some y → x ≡ y) →
       ((s : Reading) → (taken s x).table ≡ change_latest f s.table) → ((kind : ℕ) → T (not (skipping (at d gs g kind) x))) → Leads d gs g b (f g)
   leads_one f g b x l e c n =
       by_table (λ s. Goes s b (λ r. r.table ≡ holding d gs (f g))) d gs g

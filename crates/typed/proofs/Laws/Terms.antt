@@ -10,9 +10,8 @@ use lib.IntN.{ℤ, pos, negsuc}
 use lib.ListN.{length, get_or, drop, drop_of_length-le}
 use lib.Seq.{drop-cons}
 use Rattle.meaning.specs.Records.{output_record, term_record}
-use Rattle.expression.specs.declared.part.Part.{Part}
 use Rattle.expression.specs.Grammar.{Tree, fold}
-use Rattle.expression.specs.Parts.{parts, is_zero}
+use Rattle.expression.specs.Parts.{Part, parts, is_zero}
 use Rattle.expression.specs.bridge.Text.{Read, refused, got, map_read}
 use Rattle.expression.proofs.Laws.Folds.{map_map, map_refused}
 use Rattle.typed.specs.Records.{constant, coefficients, within17}

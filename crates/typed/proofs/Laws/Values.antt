@@ -3,7 +3,7 @@
 use mathlib.Core.List.{List, [], ◌∷◌, map}
 use mathlib.Core.Bool.{true}
 use mathlib.Core.Logic.{◌≢◌}
-use mathlib.Core.Option.{Option, none, some}
+use Rattle.std.specs.Prelude.{Option, None, Some}
 use mathlib.Core.Path.{◌≡◌, refl, sym, ap, subst, ◌∙◌}
 use Prim.Native.Nat.{ℕ, zero, suc, pred, ◌<◌}
 use native.Mathlib.Omega.{arith}
@@ -43,8 +43,8 @@ group_safe t s n below =
     (λ _. each_anywhere SafeGroup t.rules n (every_character []) (each_front SafeGroup t.rules (optional t.default) s) tt))
   where
     of_default : (d : Option Group) → Each SafeGroup (optional d) → SafeGroup (or_else (every_character []) d)
-    of_default none h = tt
-    of_default (some g) h = h.0
+    of_default None h = tt
+    of_default (Some g) h = h.0
 
 -- the group chosen takes the characters that it is chosen for
 
@@ -52,7 +52,7 @@ abbrev Takes : Table → Emission → Type 0
 Takes t e = T (fits_word (group t e.group).ranges e.word) × (e.group < pair_number)
 
 module _ (t : Table) (s : Shaped t) (single : mode t ≢ Paired) where
-  chosen_takes : (c : ℕ) (u : List ℕ) (n : ℕ) → c < 65536 → choose t (c ∷ u) ≡ some n → T (fits_word (group t n).ranges (take (group t n).size (c ∷ u)))
+  chosen_takes : (c : ℕ) (u : List ℕ) (n : ℕ) → c < 65536 → choose t (c ∷ u) ≡ Some n → T (fits_word (group t n).ranges (take (group t n).size (c ∷ u)))
   chosen_takes c u n h e =
       choose_cases t (c ∷ u) n e
       (λ l f. subst Fits (sym (group_rule t n s l)) f.match)
@@ -71,10 +71,10 @@ module _ (t : Table) (s : Shaped t) (single : mode t ≢ Paired) where
   from_takes (suc skip) (c ∷ u) h = from_takes skip u h.1
   from_takes zero (c ∷ u) h = go (choose t (c ∷ u)) (λ n e. (chosen_takes c u n h.0 e, chosen_plain t s single (c ∷ u) n e)) (λ skip. from_takes skip u h.1)
     where
-      go : (o : Option ℕ) → ((n : ℕ) → o ≡ some n → T (fits_word (group t n).ranges (take (group t n).size (c ∷ u))) × (n < pair_number)) → ((skip : ℕ) → Each (Takes t) (convert_from t skip u).log) →
+      go : (o : Option ℕ) → ((n : ℕ) → o ≡ Some n → T (fits_word (group t n).ranges (take (group t n).size (c ∷ u))) × (n < pair_number)) → ((skip : ℕ) → Each (Takes t) (convert_from t skip u).log) →
           Each (Takes t) (convert_by t o (c ∷ u) (λ skip. convert_from t skip u)).log
-      go none f onward = tt
-      go (some n) f onward = (f n refl, onward (pred (group t n).size))
+      go None f onward = tt
+      go (Some n) f onward = (f n refl, onward (pred (group t n).size))
 
 -- the values of the output characters are those of the expressions
 same_values : (w : List ℕ) (ts : List Tree) → Each Fitting ts → Each (λ o. IsCharacter (value o w)) (map output_of ts) → Each (λ t. IsCharacter (value_at w t)) ts

@@ -1,5 +1,5 @@
 -- What the code keeps while it reads a text, and how each record that comes out changes it: the table check's summary and array, and the buffer.
-use Rattle.std.specs.Prelude.{Bool, true, false, cond, List, [], ◌∷◌, ◌≡◌, ℕ, suc, ◌+◌, ◌*◌, ◌≤◌, leb, ℤ, length}
+use Rattle.std.specs.Prelude.{cond, List, [], ◌∷◌, ◌≡◌, ℕ, suc, ◌+◌, ◌*◌, ◌≤◌, leb, ℤ, length}
 use Rattle.std.proofs.Math.Seq.{paste}
 use Rattle.lists.specs.Lists.{fold_left, pad}
 use Rattle.meaning.specs.Refusal.{Outcome, refused, accepted}
@@ -11,18 +11,19 @@ use Rattle.meaning.specs.Records.{rule_record, range_record, output_record, term
 use Rattle.meaning.specs.bridge.Flat.{loaded_size}
 use Rattle.rules.specs.declared.reader.Reader.{Reader}
 use Rattle.rules.specs.bridge.Summary.{started, defaulted, admitted, if_taken, Fitting}
-use Rattle.expression.specs.declared.part.Part.{Part}
 use Rattle.expression.specs.Grammar.{Tree}
+use Rattle.expression.specs.Parts.{Part}
 use Rattle.typed.specs.Grammar.{Pattern, Head, pattern, otherwise, Line}
 use Rattle.typed.specs.Records.{part_of, constant, coefficients, within17}
 
--- whether 17 met nothing so far; the table check of the records so far, and its array; the bytes of those that it took in, and the buffer
+-- the table check of the records so far, or 17 once that was met, and its array; the bytes of those that it took in, the buffer, and which loan it is
+-- (no reader changes that)
 pub record State : Type 0 where
-  pub fine : Bool
   pub check : Outcome Reader
   pub loaded : List ℕ
   pub count : ℕ
   pub buffer : List ℕ
+  pub lent : ℕ
 
 -- a record's bytes at a place of a buffer, if they fit
 unfoldable pub put : ℕ → List ℕ → List ℕ → List ℕ
@@ -30,8 +31,8 @@ put place c buffer = cond (leb (place + 8) (length buffer)) (paste buffer place 
 
 -- after a record's test: taken in, or refused
 abbrev pub tested : Outcome Reader → List ℕ → List ℕ → State → State
-tested (refused n) c loaded s = record { fine = s.fine; check = refused n; loaded = loaded; count = s.count; buffer = s.buffer }
-tested (accepted r) c loaded s = record { fine = s.fine; check = accepted r; loaded = loaded; count = s.count + 8; buffer = put s.count c s.buffer }
+tested (refused n) c loaded s = record { check = refused n; loaded = loaded; count = s.count; buffer = s.buffer; lent = s.lent }
+tested (accepted r) c loaded s = record { check = accepted r; loaded = loaded; count = s.count + 8; buffer = put s.count c s.buffer; lent = s.lent }
 
 -- a record's bytes, of which a check that has refused takes no more
 abbrev pub feed_to : Outcome Reader → List ℕ → State → State
@@ -41,9 +42,9 @@ feed_to (accepted r) c s = let x = decode c in tested (admitted r x) c (if_taken
 unfoldable pub feed : List ℕ → State → State
 feed c s = feed_to s.check c s
 
--- an expression that 17 refuses
+-- an expression that 17 refuses, whatever the check says
 abbrev pub beyond17 : State → State
-beyond17 s = record { fine = false; check = s.check; loaded = s.loaded; count = s.count; buffer = s.buffer }
+beyond17 s = record { check = refused 17; loaded = s.loaded; count = s.count; buffer = s.buffer; lent = s.lent }
 
 -- the terms of coefficients from a position on
 abbrev pub feed_terms : ℕ → List ℤ → State → State
@@ -82,15 +83,20 @@ feed_line l s = feed_outputs l.outputs (feed_head l.head s)
 abbrev pub feed_lines : List Line → State → State
 feed_lines ls s = fold_left feed_line ls s
 
--- nothing read yet
-abbrev pub nothing_read : List ℕ → State
-nothing_read buffer = record { fine = true; check = accepted started; loaded = pad loaded_size []; count = 0; buffer = buffer }
+-- nothing read yet, into an array that is lent, and into one of zeros
+abbrev pub beginning : List ℕ → List ℕ → ℕ → State
+beginning loaded buffer lent = record { check = accepted started; loaded = loaded; count = 0; buffer = buffer; lent = lent }
+
+abbrev pub nothing_read : List ℕ → ℕ → State
+nothing_read buffer lent = beginning (pad loaded_size []) buffer lent
 
 -- a number that each record taken in makes greater, so that no more than 81,539 are
 abbrev pub weight : Reader → ℕ
 weight r = 2400 * (r.rules + bit (defaulted r)) + 4 * r.last.positions + r.last.slots + 256 * r.last.outputs + r.last.named
 
--- what holds of every state on the way
-pub record Ready (s : State) : Type 0 where
-  pub sized : length s.loaded ≡ loaded_size
-  pub reading : (r : Reader) → s.check ≡ accepted r → Fitting r × (s.count ≤ 8 * weight r)
+-- what holds of every state on the way: of the check and the number of bytes
+pub record Held (check : Outcome Reader) (count : ℕ) : Type 0 where
+  pub reading : (r : Reader) → check ≡ accepted r → Fitting r × (count ≤ 8 * weight r)
+
+abbrev pub Ready : State → Type 0
+Ready s = Held s.check s.count

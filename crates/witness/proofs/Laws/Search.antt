@@ -1,17 +1,16 @@
 -- The search over the words of a table tells a live rule by an input that shows it, and a dead one.
 -- Back from a state each step finds the latest state that leads there, and there is one until the first; the word grows by a class start a step.
-use mathlib.Core.Bool.{Bool, true, false, not, cond}
+use mathlib.Core.Bool.{Bool, true, false, not}
 use mathlib.Core.List.{List, [], ◌∷◌, ◌++◌, append-nil}
-use mathlib.Core.Option.{none, some}
+use Rattle.std.specs.Prelude.{Option, None, Some, MatchOption, option_map}
 use mathlib.Core.Path.{◌≡◌, refl, sym, ap, subst, ◌∙◌}
 use Prim.Native.Nat.{ℕ, zero, suc, ◌+◌, ◌-◌, ◌≤◌, ◌<◌}
 use native.Mathlib.Decide.{ℕ_discrete}
 use native.Mathlib.Omega.{arith}
-use borrow.Author.Tests.{lt-ltb, le-ltb}
-use lib.Dec.{T, T_not, eqb, ltb, eqb→eq, ltb→lt, nltb→le}
+use lib.Dec.{T, T_not, eqb, eqb→eq}
 use lib.ListN.{length, take, drop}
 use Rattle.lists.specs.Lists.{pad}
-use Rattle.lists.proofs.Laws.Tests.{of_cond, or_cases, or_left, or_right, eq→eqb, neqb→ne}
+use Rattle.lists.proofs.Laws.Tests.{to_T, of_T, of_not, of_cond, or_cases, or_left, or_right, eq→eqb, neqb→ne}
 use Rattle.meaning.specs.Table.{Table}
 use Rattle.meaning.specs.WellFormed.{WellFormed}
 use Rattle.meaning.specs.Block.{at}
@@ -27,44 +26,51 @@ use Rattle.witness.specs.bridge.Search.{first_from, first_below, telling, leadin
 
 -- the first number at which a test passes
 
+-- by cases on what was found
+of_option : {A : Type 0} (P : A → Type 0) (f : ℕ → A) (a : A) (o : Option ℕ) → ((k : ℕ) → o ≡ Some k → P (f k)) → (o ≡ None → P a) →
+    P (elim o [ Some k ↦ f k | None ↦ a ])
+of_option P f a None some none = none refl
+of_option P f a (Some k) some none = some k refl
+
 module _ (p : ℕ → Bool) where
-  -- one number looked at: the test passes there, or the search goes on behind it
-  pub first_here : (i n : ℕ) → i < n → p i ≡ true → first_from i (n - i) p ≡ i
-  first_here i n h t = let e : n - i ≡ suc (n - suc i) = omega arith in rw (e, t) refl
+  -- the number found is the first from i on and below n that passes, and where none is found, none of them does
+  abbrev pub First : ℕ → ℕ → Option ℕ → Type 0
+  First i n r = MatchOption r ((k : ℕ) → i ≤ k → k < n → p k ≡ false) (λ k. (i ≤ k) × (k < n) × (p k ≡ true) × ((j : ℕ) → i ≤ j → j < k → p j ≡ false))
 
-  pub first_on : (i n : ℕ) → i < n → p i ≡ false → first_from i (n - i) p ≡ first_from (suc i) (n - suc i) p
-  first_on i n h f = let e : n - i ≡ suc (n - suc i) = omega arith in rw (e, f) refl
+  -- that leaves no choice
+  first_found : (i n m : ℕ) → n ≡ i + m → (r : Option ℕ) → First i n r → r ≡ first_from i m p
+  first_found i n zero e None f = refl
+  first_found i n zero e (Some k) f = absurd (let a = f.0 in let b = f.1 in let z : ⊥ = omega arith in z)
+  first_found i n (suc m) e None f =
+      rw (f i (omega arith) (omega arith)) (first_found (suc i) n m (omega arith) None (λ k l h. f k (omega arith) h))
+  first_found i n (suc m) e (Some k) f =
+      elim (ℕ_discrete k i) [
+        | yes q ↦ rw (q, subst (λ x. p x ≡ true) q f.2) refl
+        | no q ↦
+            let l : i < k = let a = f.0 in omega arith in
+            rw (f.3 i (omega arith) l) (first_found (suc i) n m (omega arith) (Some k) (l, f.1, f.2, λ j g h. f.3 j (omega arith) h))
+      ]
 
-  pub first_end : (i n : ℕ) → n ≤ i → first_from i (n - i) p ≡ i
-  first_end i n h = let e : n - i ≡ 0 = omega arith in rw e refl
+  pub first_is : (n : ℕ) (r : Option ℕ) → First 0 n r → r ≡ first_below n p
+  first_is n r f = first_found 0 n n (omega arith) r f
 
-  -- what the number found says
-  record First (i n k : ℕ) : Type 0 where
-    within : k ≤ i + n
-    passes : k < i + n → T (p k)
-    before : (j : ℕ) → i ≤ j → j < k → T (not (p j))
+  first_says : (i n m : ℕ) → n ≡ i + m → First i n (first_from i m p)
+  first_says i n zero e = λ k l h. absurd (let z : ⊥ = omega arith in z)
+  first_says i n (suc m) e =
+      of_cond (First i n) (p i) (Some i) (first_from (suc i) m p)
+      (λ t. (omega arith, omega arith, of_T (p i) t, λ j l h. absurd (let z : ⊥ = omega arith in z)))
+      (λ f. on (first_from (suc i) m p) (of_not (p i) f) (first_says (suc i) n m (omega arith)))
+    where
+      on : (r : Option ℕ) → p i ≡ false → First (suc i) n r → First i n r
+      on None f g = λ k l h. elim (ℕ_discrete k i) [ yes q ↦ subst (λ x. p x ≡ false) (sym q) f | no q ↦ g k (omega arith) h ]
+      on (Some k) f g =
+          (let a = g.0 in omega arith, g.1, g.2, λ j l h. elim (ℕ_discrete j i) [ yes q ↦ subst (λ x. p x ≡ false) (sym q) f | no q ↦ g.3 j (omega arith) h ])
 
-  first_says : (i n : ℕ) → First i n (first_from i n p)
-  first_says i zero = record { within = omega arith; passes = λ h. absurd (omega arith); before = λ j l h. absurd (omega arith) }
-  first_says i (suc n) =
-      let k = first_from (suc i) n p in
-      let later : First (suc i) n k = first_says (suc i) n in
-      of_cond (First i (suc n)) (p i) i k
-      (λ t. record { within = omega arith; passes = λ _. t; before = λ j l h. absurd (omega arith) })
-      (λ f. record {
-        within = let a : k ≤ suc i + n = later.within in omega arith;
-        passes = λ h. later.passes (omega arith);
-        before = λ j l h. elim (ℕ_discrete j i) [ yes e ↦ rw e f | no e ↦ later.before j (omega arith) h ];
-      })
+  pub first_passes : (n k : ℕ) → first_below n p ≡ Some k → (k < n) × (p k ≡ true)
+  first_passes n k e = let f = subst (First 0 n) e (first_says 0 n n (omega arith)) in (f.1, f.2)
 
-  pub first_most : (n : ℕ) → first_below n p ≤ n
-  first_most n = let a : first_below n p ≤ 0 + n = (first_says 0 n).within in omega arith
-
-  pub first_passes : (n : ℕ) → first_below n p < n → T (p (first_below n p))
-  first_passes n h = (first_says 0 n).passes (omega arith)
-
-  pub first_none : (n : ℕ) → n ≤ first_below n p → (j : ℕ) → j < n → T (not (p j))
-  first_none n h j l = (first_says 0 n).before j (omega arith) (omega arith)
+  pub first_none : (n : ℕ) → first_below n p ≡ None → (j : ℕ) → j < n → p j ≡ false
+  first_none n e j h = subst (First 0 n) e (first_says 0 n n (omega arith)) j (omega arith) h
 
 -- a number put before the others, in places that are 0 behind them
 pub pad_front : (n x : ℕ) (v : List ℕ) → length v < n → x ∷ take (length v) (pad n v) ++ drop (length v + 1) (pad n v) ≡ pad n (x ∷ v)
@@ -101,8 +107,8 @@ pub record Back (w : List ℕ) (goal n s : ℕ) (v : List ℕ) : Type 0 where
   pub depths : length v + depth_word w s ≡ depth_word w goal
 
 -- a class that is found leads to the state
-back_to : (w : List ℕ) (p s : ℕ) → class_leading w p s < class_count w → target_word w p (class_leading w p s) ≡ s
-back_to w p s h = eqb→eq (target_word w p (class_leading w p s)) s (first_passes (leading w p s) (class_count w) h)
+pub back_to : (w : List ℕ) (p s k : ℕ) → class_leading w p s ≡ Some k → (k < class_count w) × (target_word w p k ≡ s)
+back_to w p s k e = let f = first_passes (leading w p s) (class_count w) k e in (f.0, eqb→eq (target_word w p k) s (to_T (leading w p s k) f.1))
 
 module _ (w : List ℕ) (S : T (sound w)) where
   pub back_start : (goal : ℕ) → goal < state_count w → Back w goal goal goal []
@@ -120,31 +126,27 @@ module _ (w : List ℕ) (S : T (sound w)) where
     abbrev p : ℕ
     p = n - 1
 
+    abbrev go_back : Option ℕ → List ℕ
+    go_back o = elim o [ Some k ↦ word_back w p p (at w (classes_from + k) ∷ v) | None ↦ word_back w p s v ]
+
     module _ (z : 0 < n) where
-      pub back_none : class_count w ≤ class_leading w p s → Back w goal p s v
+      pub back_none : class_leading w p s ≡ None → Back w goal p s v
       unfolding word_back
       back_none h =
           let e : n ≡ suc p = omega arith in
           let l = B.left in
-          record {
-            word = B.word ∙ ap (λ m. word_back w m s v) e
-                ∙ ap (λ b. cond b (word_back w p p (at w (classes_from + class_leading w p s) ∷ v)) (word_back w p s v)) (le-ltb (class_leading w p s) (class_count w) h);
-            left = omega arith;
-            there = B.there;
-            goal_there = B.goal_there;
-            depths = B.depths;
-          }
+          record { word = B.word ∙ ap (λ m. word_back w m s v) e ∙ ap go_back h; left = omega arith; there = B.there; goal_there = B.goal_there; depths = B.depths }
 
-      module _ (h : class_leading w p s < class_count w) where
+      module _ (k : ℕ) (h : class_leading w p s ≡ Some k) where
         back_deeper : depth_word w s ≡ suc (depth_word w p)
         back_deeper =
             let l = B.left in
             let i = B.there in
-            let e = back_to w p s h in
-            subst (λ q. depth_word w q ≡ suc (depth_word w p)) e
-            ((sound_state_lem w S p (omega arith)).target (class_leading w p s) h (λ n. let y : s ≡ 0 = sym e ∙ n in omega arith)).deeper
+            let t = back_to w p s k h in
+            subst (λ q. depth_word w q ≡ suc (depth_word w p)) t.1
+            ((sound_state_lem w S p (omega arith)).target k t.0 (λ n. let y : s ≡ 0 = sym t.1 ∙ n in omega arith)).deeper
 
-        pub back_found : Back w goal p p (at w (classes_from + class_leading w p s) ∷ v)
+        pub back_found : Back w goal p p (at w (classes_from + k) ∷ v)
         unfolding word_back
         back_found =
             let e : n ≡ suc p = omega arith in
@@ -152,14 +154,7 @@ module _ (w : List ℕ) (S : T (sound w)) where
             let i = B.there in
             let d = B.depths in
             let d' = back_deeper in
-            record {
-              word = B.word ∙ ap (λ m. word_back w m s v) e
-                  ∙ ap (λ b. cond b (word_back w p p (at w (classes_from + class_leading w p s) ∷ v)) (word_back w p s v)) (lt-ltb (class_leading w p s) (class_count w) h);
-              left = omega arith;
-              there = omega arith;
-              goal_there = B.goal_there;
-              depths = omega arith;
-            }
+            record { word = B.word ∙ ap (λ m. word_back w m s v) e ∙ ap go_back h; left = omega arith; there = omega arith; goal_there = B.goal_there; depths = omega arith }
 
     pub back_end : n ≡ 0 → word_to w goal ≡ v
     unfolding word_back
@@ -188,18 +183,16 @@ module _ (t : Table) (W : WellFormed t) (narrow : length (starts t) ≤ 64) (few
       let P = words_parent t W narrow few rest (suc s) (omega arith) h in
       absurd (f (omega arith) P.0 P.1 (omega arith) P.2 P.3 P.4)
   onto_first (suc p) s goal v l h f o =
-      let k = class_leading w p s in
-      of_cond (Reached t goal) (ltb k (class_count w)) (word_back w p p (at w (classes_from + k) ∷ v)) (word_back w p s v)
-      (λ b.
-      let i : k < class_count w = ltb→lt k (class_count w) b in
+      of_option (Reached t goal) (λ k. word_back w p p (at w (classes_from + k) ∷ v)) (word_back w p s v) (class_leading w p s)
+      (λ k e.
+      let b = back_to w p s k e in
       onto_first p p goal (at w (classes_from + k) ∷ v) (omega arith) (omega arith) (none_behind p)
-      (words_back t W narrow few rest p k s goal v (omega arith) i (back_to w p s i) (omega arith) o))
-      (λ b.
-      let i : class_count w ≤ k = nltb→le k (class_count w) b in
+      (words_back t W narrow few rest p k s goal v (omega arith) b.0 b.1 (omega arith) o))
+      (λ e.
       onto_first p s goal v (omega arith) h
-      (λ z q c m j g e. elim (ℕ_discrete q p) [
-        | yes y ↦ neqb→ne (target_word w p c) s (first_none (leading w p s) (class_count w) i c g) (subst (λ q. target_word w q c ≡ s) y e)
-        | no y ↦ f z q c (omega arith) j g e
+      (λ z q c m j g i. elim (ℕ_discrete q p) [
+        | yes y ↦ neqb→ne (target_word w p c) s (to_T (not (leading w p s c)) (ap not (first_none (leading w p s) (class_count w) e c g))) (subst (λ q. target_word w q c ≡ s) y i)
+        | no y ↦ f z q c (omega arith) j g i
       ]) o)
 
   -- THE WORD OF A STATE LEADS TO IT.
@@ -216,10 +209,10 @@ module _ (t : Table) (W : WellFormed t) (narrow : length (starts t) ≤ 64) (few
       (or_cases (eqb (accept_at_end_word w s) (suc r)) (eqb (accept_word w s) (suc r)) g
       (λ e. absurd (neqb→ne (accept_at_end_word w s) (suc r) n (eqb→eq (accept_at_end_word w s) (suc r) e))) (eqb→eq (accept_word w s) (suc r))) (omega arith) R)
 
-  untold : (r : ℕ) → state_count w ≤ state_telling w r → Dead t r
+  untold : (r : ℕ) → state_telling w r ≡ None → Dead t r
   untold r h =
       words_dead t W narrow few rest r (λ s i.
-      let n : T (not (telling w r s)) = first_none (telling w r) (state_count w) h s i in (
+      let n : T (not (telling w r s)) = to_T (not (telling w r s)) (ap not (first_none (telling w r) (state_count w) h s i)) in (
         λ e. T_not (telling w r s) n (or_left (eqb (accept_at_end_word w s) (suc r)) (eqb (accept_word w s) (suc r)) (eq→eqb (accept_at_end_word w s) (suc r) e)),
         λ e. T_not (telling w r s) n (or_right (eqb (accept_at_end_word w s) (suc r)) (eqb (accept_word w s) (suc r)) (eq→eqb (accept_word w s) (suc r) e)),
       ))
@@ -227,8 +220,8 @@ module _ (t : Table) (W : WellFormed t) (narrow : length (starts t) ≤ 64) (few
   -- THE SEARCH IS RIGHT: an input that shows the rule, or none and the rule is dead.
   pub search_right : (r : ℕ) → Verdict t r (searched w r)
   unfolding searched
-  search_right r =
-      let s = state_telling w r in
-      of_cond (Verdict t r) (ltb s (state_count w)) (some (input_at w r s)) none
-      (λ b. let h : s < state_count w = ltb→lt s (state_count w) b in shown r s h (first_passes (telling w r) (state_count w) h))
-      (λ b. untold r (nltb→le s (state_count w) b))
+  search_right r = by (state_telling w r) refl
+    where
+      by : (o : Option ℕ) → state_telling w r ≡ o → Verdict t r (option_map (input_at w r) o)
+      by (Some s) e = let f = first_passes (telling w r) (state_count w) s e in shown r s f.0 (to_T (telling w r s) f.1)
+      by None e = untold r e

@@ -1,35 +1,17 @@
 -- A state that passes by its level is sound.
 -- A target in the interval of the next level exceeds its state's number, is below the state count and lies one deeper.
-use Rattle.std.proofs.Common.{◌≡◌, ℕ, suc, pred, ◌+◌, ◌-◌, ◌%◌, ◌<◌, ◌≤◌, Bool, true, false, cond, not, ◌&&◌, T, eqb, ltb, leb, List, [], ◌∷◌, sym, refl, ap, ◌∙◌, arith, le→leb, eqb→eq, ltb→lt, lt→ltb, leb→le, T_not, ltb-false, lt-ltb, eq-eqb}
+use Rattle.std.proofs.Common.{◌≡◌, ℕ, suc, pred, ◌+◌, ◌-◌, ◌<◌, ◌≤◌, Bool, true, false, cond, not, ◌&&◌, T, eqb, ltb, leb, List, [], ◌∷◌, sym, ap, ◌∙◌, arith, eqb→eq, ltb→lt, leb→le, lt-ltb, eq-eqb}
 use Rattle.lists.specs.Decide.{all_of, for_below, implies}
-use Rattle.lists.proofs.Laws.Tests.{to_T, of_T, of_not, test_eq, and_left, and_right, both, either, split, neqb→ne, eq→eqb, to_between, of_cond, implied, to_implies, all_next, all_last, below, to_below}
+use Rattle.lists.proofs.Laws.Tests.{to_T, of_T, test_eq, and_left, and_right, split, neqb→ne, eq→eqb, to_between, of_cond, implied, to_implies, all_next, all_last, below, to_below}
 use Rattle.meaning.specs.Block.{at}
 use Rattle.automaton.specs.Sound.{state_count, class_count, longest_word, depth_word, accept_at_end_word, accept_word, target_word, block_at, between, used, names_rule, sound_target, sound_state}
 use Rattle.words.specs.bridge.Levels.{Above, row_within, sound_depth}
 
--- a word less `low`, modulo 65536, is below the count just where it is one of so many numbers from `low` on
+-- one of so many numbers from `low` on
 abbrev inside : ℕ → ℕ → ℕ → Bool
 inside word low count = leb low word && ltb word (low + count)
 
-module _ (word low count : ℕ) {r : ℕ} (e : (r + low) % 65536 ≡ word) (small : low + count < 65536) where
-  pub stray_none : r < count → 0 ≡ cond (inside word low count) 0 word
-  stray_none h =
-      let is : r + low ≡ word = omega arith in
-      either (λ b. 0 ≡ cond b 0 word) (inside word low count) (λ t. refl)
-      (λ n.
-      absurd (T_not (inside word low count) n
-      (both (leb low word) (ltb word (low + count)) (le→leb low word (omega arith)) (lt→ltb word (low + count) (omega arith)))))
-
-  pub stray_word : r < 65536 → count ≤ r → word ≡ cond (inside word low count) 0 word
-  stray_word fits h =
-      either (λ b. word ≡ cond b 0 word) (inside word low count)
-      (λ t.
-      let above = leb→le low word (and_left (leb low word) (ltb word (low + count)) t) in
-      let under = ltb→lt word (low + count) (and_right (leb low word) (ltb word (low + count)) t) in
-      absurd (let no : ⊥ = omega arith in no))
-      (λ n. refl)
-
--- so the word that is left is 0 just where the word is 0 or in the interval
+-- the word that is left is 0 just where the word is 0 or in the interval
 left_none : (word : ℕ) (b : Bool) → eqb 0 (cond b 0 word) ≡ implies (used word) b
 left_none word true = sym (of_T (implies (used word) true) (to_implies (used word) true (λ u. tt)))
 left_none word false =
@@ -42,11 +24,6 @@ pub passes_by_stray : (word low high : ℕ) → low ≤ high → {r : ℕ} →
 passes_by_stray word low high h {r} f =
     let end : low + (high - low) ≡ high = omega arith in
     ap (eqb 0) f ∙ left_none word (inside word low (high - low)) ∙ ap (λ n. implies (used word) (leb low word && ltb word n)) end
-
--- what holds before a number and from there on below another holds below that
-pub join_levels : {P : ℕ → Type 0} {from low : ℕ} → ((q : ℕ) → q < from → P q) → ((q : ℕ) → q < low → from ≤ q → P q) → (q : ℕ) → q < low → P q
-join_levels {P} {from} {low} before here q h =
-    split (ltb q from) (λ t. before q (ltb→lt q from t)) (λ n. here q h (ltb-false q from (of_not (ltb q from) n)))
 
 module _ (w : List ℕ) (s : ℕ) where
   -- state 0 stands in the level of depth 0, others deeper

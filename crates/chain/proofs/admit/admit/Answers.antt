@@ -1,141 +1,146 @@
 -- `admit::admit` meets its contract: the tests stand in the order of the refusals, and the first that fails decides.
 -- What the tests of words and sessions tell is what `admit_open` requires.
-use Rattle.std.proofs.Common.{not, ap}
+use Rattle.std.proofs.lemmas.Result.{err_from_is_err_and}
 use mathlib.Core.Bool.{true, false}
-use mathlib.Core.List.{List}
-use mathlib.Core.Logic.{◌≢◌}
-use mathlib.Core.Path.{◌≡◌, refl, ◌∙◌}
-use Prim.Native.Nat.{ℕ}
+use mathlib.Core.Path.{◌≡◌, refl, sym, ap, subst, ◌∙◌}
 use native.Mathlib.Omega.{arith}
-use lib.ListN.{length}
-use Rattle.lists.proofs.Laws.Tests.{to_T, passed, failed}
-use Rattle.automaton.specs.Sound.{sound}
+use borrow.Author.Tests.{not-true, not-false}
+use denote.Enum.Bare.{sameb}
+use Rattle.lists.proofs.Laws.Tests.{to_T, of_T}
+use Rattle.rules.specs.Answers.{outcome_of}
+use Rattle.automaton.specs.Sound.{sound, expansion_word}
 use Rattle.automaton.proofs.Laws.Words.{sound_header_lem}
 use Rattle.reckoning.specs.Session.{Session, is_open, sound_session}
+use Rattle.reckoning.specs.Chain.{admits_chain}
 use Rattle.reckoning.proofs.Laws.Kept.{sound_facts}
+use Rattle.session.specs.contracts.kept.Status.{the_type}
 use Rattle.session.specs.Keeping.{meant_status, together, session_of}
 use Rattle.session.specs.declared.kept.Status.{Status}
 use Rattle.session.specs.declared.kept.Status.TheVariants.{Open, Closed, Stopped}
 use Rattle.chain.specs.bridge.Both.{room_tests}
 use Rattle.chain.proofs.Laws.Admitting.{first_words, second_words, first_kept, second_kept, first_ended, second_ended, both_open}
 use Rattle.chain.proofs.admit.admit.Goals as goal
-use Rattle.chain.proofs.admit.admit.Goals.{After-second_places-1, Else-not-is_sound, Else-not-is_sound-2, Else-not-is_sound_session, Else-not-is_sound_session-2, In-Open}
+use Rattle.chain.proofs.admit.admit.Goals.{Start, In-Some, In-Some-new, Else-not-is_sound_session, Else-not-is_sound_session-2, Else-ne, Else-ne-2, After-admit_open}
 
-abbrev words₁ : After-second_places-1 → List ℕ
-words₁ p = p.args.first_words.now
-
-abbrev words₂ : After-second_places-1 → List ℕ
-words₂ p = p.args.second_words.now
-
-abbrev session₁ : After-second_places-1 → Session
+abbrev session₁ : Start → Session
 session₁ p = let a = p.args in session_of (together a.first a.first_uses.now)
 
-abbrev session₂ : After-second_places-1 → Session
+abbrev session₂ : Start → Session
 session₂ p = let a = p.args in session_of (together a.second a.second_uses.now)
 
-counts : (p : After-second_places-1) → let a = p.args in (length a.first_uses.now ≡ 34) × (length a.second_uses.now ≡ 34)
-counts p = (p.first_places-1.given, p.second_places-1.given)
+-- the words are the machines', so they are sound
+same₁ : (c : In-Some) → c.in-Some.one.words.all.now ≡ c.args.first_words.now
+same₁ c = ap (λ b. b.now) c.in-Some.ensures
 
--- past the tests of the words, and of the sessions
-abbrev past₁ : Else-not-is_sound-2 → After-second_places-1
-past₁ c = (goal.at.Else-not-is_sound-2 c).After-second_places-1
+same₂ : (c : In-Some-new) → c.in-Some-new.other.words.all.now ≡ c.args.second_words.now
+same₂ c = ap (λ b. b.now) c.in-Some-new.ensures
 
-abbrev past₂ : Else-not-is_sound_session-2 → After-second_places-1
-past₂ c = past₁ (goal.at.Else-not-is_sound_session-2 c).Else-not-is_sound-2
+sound₁ : (c : In-Some) → sound c.args.first_words.now ≡ true
+sound₁ c = subst (λ w. sound w ≡ true) (same₁ c) (of_T _ c.in-Some.one.sound)
 
-first_sound : (c : Else-not-is_sound) → sound (words₁ (goal.at.Else-not-is_sound c).After-second_places-1) ≡ true
-first_sound c = passed c.is_sound.ensures (ap not c.if-not-is_sound.false)
+sound₂ : (c : In-Some-new) → sound c.args.second_words.now ≡ true
+sound₂ c = subst (λ w. sound w ≡ true) (same₂ c) (of_T _ c.in-Some-new.other.sound)
 
-second-sound : (c : Else-not-is_sound-2) → sound (words₂ (goal.at.Else-not-is_sound-2 c).After-second_places-1) ≡ true
-second-sound c = passed c.is_sound-2.ensures (ap not c.if-not-is_sound-2.false)
-
-first-keeps : (c : Else-not-is_sound_session) → sound_session (words₁ (goal.at.Else-not-is_sound_session c).After-second_places-1) (session₁ (goal.at.Else-not-is_sound_session c).After-second_places-1) ≡ true
-first-keeps c = passed c.is_sound_session.ensures (ap not c.if-not-is_sound_session.false)
-
-second-keeps : (c : Else-not-is_sound_session-2) → let p = past₂ c in sound_session (words₂ p) (session₂ p) ≡ true
-second-keeps c = passed c.is_sound_session-2.ensures (ap not c.if-not-is_sound_session-2.false)
-
-ended : (x : Status) → x ≢ Open → is_open (meant_status x) ≡ false
-ended Open k = absurd (k refl)
-ended Closed k = refl
-ended Stopped k = refl
-
-pub returns-then-not-is_sound : goal.returns-then-not-is_sound
-returns-then-not-is_sound c =
+keeps₁ : (c : Else-not-is_sound_session) → let a = c.args in sound_session a.first_words.now (session_of (together a.first a.first_uses.now)) ≡ true
+keeps₁ c =
     let a = c.args in
-    record { first_uses_len = counts (goal.at.returns-then-not-is_sound c).After-second_places-1; result_value = first_words (words₁ (goal.at.returns-then-not-is_sound c).After-second_places-1) (words₂ (goal.at.returns-then-not-is_sound c).After-second_places-1) (session₁ (goal.at.returns-then-not-is_sound c).After-second_places-1) (session₂ (goal.at.returns-then-not-is_sound c).After-second_places-1) a.size a.middle a.room (failed c.is_sound.ensures (ap not c.if-not-is_sound.true)) }
+    subst (λ w. sound_session w (session_of (together a.first a.first_uses.now)) ≡ true) (same₁ (goal.at.Else-not-is_sound_session c).In-Some) (sym c.if-not-is_sound_session.ensures)
 
-pub returns-then-not-is_sound-2 : goal.returns-then-not-is_sound-2
-returns-then-not-is_sound-2 c =
-    let a = c.args in record {
-      first_uses_len = counts (goal.at.returns-then-not-is_sound-2 c).After-second_places-1;
-      result_value = second_words (words₁ (goal.at.returns-then-not-is_sound-2 c).After-second_places-1) (words₂ (goal.at.returns-then-not-is_sound-2 c).After-second_places-1) (session₁ (goal.at.returns-then-not-is_sound-2 c).After-second_places-1) (session₂ (goal.at.returns-then-not-is_sound-2 c).After-second_places-1) a.size a.middle a.room (first_sound (goal.at.returns-then-not-is_sound-2 c).Else-not-is_sound)
-          (failed c.is_sound-2.ensures (ap not c.if-not-is_sound-2.true));
-    }
+keeps₂ : (c : Else-not-is_sound_session-2) → let a = c.args in sound_session a.second_words.now (session_of (together a.second a.second_uses.now)) ≡ true
+keeps₂ c =
+    let a = c.args in
+    subst (λ w. sound_session w (session_of (together a.second a.second_uses.now)) ≡ true) (same₂ (goal.at.Else-not-is_sound_session-2 c).In-Some-new) (sym c.if-not-is_sound_session-2.ensures)
 
-pub is_sound_session-requires : goal.is_sound_session-requires
-is_sound_session-requires c = (to_T _ (first_sound (goal.at.is_sound_session-requires c).Else-not-is_sound), (counts (goal.at.is_sound_session-requires c).After-second_places-1).0)
+opens : (x : Status) → is_open (meant_status x) ≡ sameb the_type x Open
+opens Open = refl
+opens Closed = refl
+opens Stopped = refl
+
+-- a test that failed is the first that did
+pub returns-in_default : goal.returns-in_default
+returns-in_default c =
+    let a = c.args in
+    let p = (goal.at.returns-in_default c).Start in
+    sym (first_words a.first_words.now a.second_words.now (session₁ p) (session₂ p) a.size a.middle a.room c.in_default.ensures)
+
+pub returns-in_default-new : goal.returns-in_default-new
+returns-in_default-new c =
+    let a = c.args in
+    let p = (goal.at.returns-in_default-new c).Start in
+    sym (second_words a.first_words.now a.second_words.now (session₁ p) (session₂ p) a.size a.middle a.room
+    (sound₁ (goal.at.returns-in_default-new c).In-Some) c.in_default-new.ensures)
 
 pub returns-then-not-is_sound_session : goal.returns-then-not-is_sound_session
 returns-then-not-is_sound_session c =
-    let a = c.args in record {
-      first_uses_len = counts (goal.at.returns-then-not-is_sound_session c).After-second_places-1;
-      result_value = first_kept (words₁ (goal.at.returns-then-not-is_sound_session c).After-second_places-1) (words₂ (goal.at.returns-then-not-is_sound_session c).After-second_places-1) (session₁ (goal.at.returns-then-not-is_sound_session c).After-second_places-1) (session₂ (goal.at.returns-then-not-is_sound_session c).After-second_places-1) a.size a.middle a.room (first_sound (goal.at.returns-then-not-is_sound_session c).Else-not-is_sound) (second-sound (goal.at.returns-then-not-is_sound_session c).Else-not-is_sound-2)
-          (failed c.is_sound_session.ensures (ap not c.if-not-is_sound_session.true));
-    }
-
-pub is_sound_session-requires-2 : goal.is_sound_session-requires-2
-is_sound_session-requires-2 c = (to_T _ (second-sound (goal.at.is_sound_session-requires-2 c).Else-not-is_sound-2), (counts (goal.at.is_sound_session-requires-2 c).After-second_places-1).1)
+    let a = c.args in
+    let at = goal.at.returns-then-not-is_sound_session c in
+    let p = at.Start in
+    sym (first_kept a.first_words.now a.second_words.now (session₁ p) (session₂ p) a.size a.middle a.room (sound₁ at.In-Some) (sound₂ at.In-Some-new)
+    (subst (λ w. sound_session w (session₁ p) ≡ false) (same₁ at.In-Some) (sym c.if-not-is_sound_session.ensures)))
 
 pub returns-then-not-is_sound_session-2 : goal.returns-then-not-is_sound_session-2
 returns-then-not-is_sound_session-2 c =
-    let a = c.args in record {
-      first_uses_len = counts (goal.at.returns-then-not-is_sound_session-2 c).After-second_places-1;
-      result_value = second_kept (words₁ (goal.at.returns-then-not-is_sound_session-2 c).After-second_places-1) (words₂ (goal.at.returns-then-not-is_sound_session-2 c).After-second_places-1) (session₁ (goal.at.returns-then-not-is_sound_session-2 c).After-second_places-1) (session₂ (goal.at.returns-then-not-is_sound_session-2 c).After-second_places-1) a.size a.middle a.room (first_sound (goal.at.returns-then-not-is_sound_session-2 c).Else-not-is_sound) (second-sound (goal.at.returns-then-not-is_sound_session-2 c).Else-not-is_sound-2) (first-keeps (goal.at.returns-then-not-is_sound_session-2 c).Else-not-is_sound_session)
-          (failed c.is_sound_session-2.ensures (ap not c.if-not-is_sound_session-2.true));
-    }
+    let a = c.args in
+    let at = goal.at.returns-then-not-is_sound_session-2 c in
+    let p = at.Start in
+    sym (second_kept a.first_words.now a.second_words.now (session₁ p) (session₂ p) a.size a.middle a.room (sound₁ at.In-Some) (sound₂ at.In-Some-new)
+    (keeps₁ at.Else-not-is_sound_session) (subst (λ w. sound_session w (session₂ p) ≡ false) (same₂ at.In-Some-new) (sym c.if-not-is_sound_session-2.ensures)))
 
-pub returns-in_default : goal.returns-in_default
-returns-in_default c =
-    let a = c.args in record {
-      first_uses_len = counts (goal.at.returns-in_default c).After-second_places-1;
-      result_value = first_ended (words₁ (goal.at.returns-in_default c).After-second_places-1) (words₂ (goal.at.returns-in_default c).After-second_places-1) (session₁ (goal.at.returns-in_default c).After-second_places-1) (session₂ (goal.at.returns-in_default c).After-second_places-1) a.size a.middle a.room (first_sound (goal.at.returns-in_default c).Else-not-is_sound) (second-sound (goal.at.returns-in_default c).Else-not-is_sound-2) (first-keeps (goal.at.returns-in_default c).Else-not-is_sound_session)
-          (second-keeps (goal.at.returns-in_default c).Else-not-is_sound_session-2) (ended a.first.status c.in_default.not-Open);
-    }
+pub returns-then-ne : goal.returns-then-ne
+returns-then-ne c =
+    let a = c.args in
+    let at = goal.at.returns-then-ne c in
+    let p = at.Start in
+    sym (first_ended a.first_words.now a.second_words.now (session₁ p) (session₂ p) a.size a.middle a.room (sound₁ at.In-Some) (sound₂ at.In-Some-new)
+    (keeps₁ at.Else-not-is_sound_session) (keeps₂ at.Else-not-is_sound_session-2) (opens a.first.status ∙ not-true _ (sym c.if-ne.ensures)))
 
--- the first is open
-first-open : (c : In-Open) → is_open (session₁ (past₂ (goal.at.In-Open c).Else-not-is_sound_session-2)).status ≡ true
-first-open c = ap (λ y. is_open (meant_status y)) c.in-Open.is
+open₁ : (c : Else-ne) → is_open (session₁ (goal.at.Else-ne c).Start).status ≡ true
+open₁ c = opens c.args.first.status ∙ not-false _ (sym c.if-ne.ensures)
 
-pub returns-in_default-second_status : goal.returns-in_default-second_status
-returns-in_default-second_status c =
-    let a = c.args in record {
-      first_uses_len = counts (goal.at.returns-in_default-second_status c).After-second_places-1;
-      result_value = second_ended (words₁ (goal.at.returns-in_default-second_status c).After-second_places-1) (words₂ (goal.at.returns-in_default-second_status c).After-second_places-1) (session₁ (goal.at.returns-in_default-second_status c).After-second_places-1) (session₂ (goal.at.returns-in_default-second_status c).After-second_places-1) a.size a.middle a.room (first_sound (goal.at.returns-in_default-second_status c).Else-not-is_sound) (second-sound (goal.at.returns-in_default-second_status c).Else-not-is_sound-2) (first-keeps (goal.at.returns-in_default-second_status c).Else-not-is_sound_session)
-          (second-keeps (goal.at.returns-in_default-second_status c).Else-not-is_sound_session-2) (first-open (goal.at.returns-in_default-second_status c).In-Open) (ended a.second.status c.in_default-second_status.not-Open);
-    }
+pub returns-then-ne-2 : goal.returns-then-ne-2
+returns-then-ne-2 c =
+    let a = c.args in
+    let at = goal.at.returns-then-ne-2 c in
+    let p = at.Start in
+    sym (second_ended a.first_words.now a.second_words.now (session₁ p) (session₂ p) a.size a.middle a.room (sound₁ at.In-Some) (sound₂ at.In-Some-new)
+    (keeps₁ at.Else-not-is_sound_session) (keeps₂ at.Else-not-is_sound_session-2) (open₁ at.Else-ne) (opens a.second.status ∙ not-true _ (sym c.if-ne-2.ensures)))
 
-pub expansion-requires : goal.expansion-requires
-expansion-requires c = (sound_header_lem (words₁ (goal.at.expansion-requires c).After-second_places-1) (to_T _ (first_sound (goal.at.expansion-requires c).Else-not-is_sound))).long
+pub invariant_of-first_needs : goal.invariant_of-first_needs
+invariant_of-first_needs c =
+    let m = c.in-Some.one in
+    let h = sound_header_lem m.words.all.now m.sound in
+    let at = goal.at.invariant_of-first_needs c in
+    let f = sound_facts c.args.first_words.now (session₁ at.Start) (to_T _ (keeps₁ at.Else-not-is_sound_session)) in
+    record { small = (omega (arith, h.expansion, c.expansion.ensures), f.limited, f.enough) }
 
-pub expansion-requires-2 : goal.expansion-requires-2
-expansion-requires-2 c = (sound_header_lem (words₂ (goal.at.expansion-requires-2 c).After-second_places-1) (to_T _ (second-sound (goal.at.expansion-requires-2 c).Else-not-is_sound-2))).long
+pub invariant_of-second_needs : goal.invariant_of-second_needs
+invariant_of-second_needs c =
+    let m = c.in-Some-new.other in
+    let h = sound_header_lem m.words.all.now m.sound in
+    let at = goal.at.invariant_of-second_needs c in
+    let f = sound_facts c.args.second_words.now (session₂ at.Start) (to_T _ (keeps₂ at.Else-not-is_sound_session-2)) in
+    record { small = (omega (arith, h.expansion, c.expansion-2.ensures), f.limited, f.enough) }
 
-pub admit_open-requires : goal.admit_open-requires
-admit_open-requires c =
-    let h₁ = sound_header_lem (words₁ (goal.at.admit_open-requires c).After-second_places-1) (to_T _ (first_sound (goal.at.admit_open-requires c).Else-not-is_sound)) in
-    let h₂ = sound_header_lem (words₂ (goal.at.admit_open-requires c).After-second_places-1) (to_T _ (second-sound (goal.at.admit_open-requires c).Else-not-is_sound-2)) in
-    let k₁ = sound_facts (words₁ (goal.at.admit_open-requires c).After-second_places-1) (session₁ (goal.at.admit_open-requires c).After-second_places-1) (to_T _ (first-keeps (goal.at.admit_open-requires c).Else-not-is_sound_session)) in
-    let k₂ = sound_facts (words₂ (goal.at.admit_open-requires c).After-second_places-1) (session₂ (goal.at.admit_open-requires c).After-second_places-1) (to_T _ (second-keeps (goal.at.admit_open-requires c).Else-not-is_sound_session-2)) in record { first_most_bound = (omega (arith, h₁.expansion, c.expansion.ensures), k₁.limited, k₁.enough); second_most_bound = (omega (arith, h₂.expansion, c.expansion-2.ensures), k₂.limited, k₂.enough) }
+-- past the tests before, refusals 14, 18 and 15 decide
+decided : (c : After-admit_open) → let a = c.args in
+    outcome_of c.admit_open.result
+    ≡ admits_chain a.first_words.now a.second_words.now (session_of (together a.first a.first_uses.now)) (session_of (together a.second a.second_uses.now)) a.size a.middle a.room
+decided c =
+    let a = c.args in
+    let at = goal.at.After-admit_open c in
+    let s₁ = session₁ at.Start in
+    let s₂ = session₂ at.Start in
+    c.admit_open.ensures
+    ∙ (λ i. room_tests ((c.expansion.ensures ∙ ap expansion_word (same₁ at.In-Some)) i) s₁.received s₁.count
+    ((c.expansion-2.ensures ∙ ap expansion_word (same₂ at.In-Some-new)) i) s₂.received s₂.count a.size a.middle a.room)
+    ∙ both_open a.first_words.now a.second_words.now s₁ s₂ a.size a.middle a.room (sound₁ at.In-Some) (sound₂ at.In-Some-new)
+    (keeps₁ at.Else-not-is_sound_session) (keeps₂ at.Else-not-is_sound_session-2) (open₁ at.Else-ne) (opens a.second.status ∙ not-false _ (sym c.if-ne-2.ensures))
+
+pub returns-in_err-admit_open : goal.returns-in_err-admit_open
+returns-in_err-admit_open c =
+    let p = err_from_is_err_and c.from_residual.result c.from_residual.ensures.1 in
+    rw (p.1, p.2) (sym (decided (goal.at.returns-in_err-admit_open c).After-admit_open) ∙ ap outcome_of c.in_err-admit_open.was)
 
 pub returns : goal.returns
 returns c =
-    let s₁ = session₁ (goal.at.returns c).After-second_places-1 in
-    let s₂ = session₂ (goal.at.returns c).After-second_places-1 in
-    let a = c.args in record {
-      first_uses_len = counts (goal.at.returns c).After-second_places-1;
-      result_value = c.admit_open.ensures
-          ∙ (λ i. room_tests (c.expansion.ensures i) s₁.received s₁.count (c.expansion-2.ensures i) s₂.received s₂.count a.size a.middle a.room)
-          ∙ both_open (words₁ (goal.at.returns c).After-second_places-1) (words₂ (goal.at.returns c).After-second_places-1) s₁ s₂ a.size a.middle a.room (first_sound (goal.at.returns c).Else-not-is_sound) (second-sound (goal.at.returns c).Else-not-is_sound-2) (first-keeps (goal.at.returns c).Else-not-is_sound_session) (second-keeps (goal.at.returns c).Else-not-is_sound_session-2)
-          (first-open (goal.at.returns c).In-Open) (ap (λ y. is_open (meant_status y)) c.in-Open-second_status.is);
-    }
+    (c.in-Some.ensures, c.in-Some-new.ensures, sym (decided (goal.at.returns c).After-admit_open) ∙ ap outcome_of c.in_ok-admit_open.was)

@@ -6,58 +6,58 @@ use Rattle.meaning.specs.Direct.{limit}
 use Rattle.reckoning.proofs.Laws.Keeping.{product_small}
 use Rattle.chain.proofs.Laws.Admitting.{first_long, second_long, middle_short, output_short, has_room}
 use Rattle.chain.proofs.admit.admit_open.Goals as goal
-use Rattle.chain.proofs.admit.admit_open.Goals.{Else-second_piece-second_received, Else-size-first_received, Start}
+use Rattle.chain.proofs.admit.admit_open.Goals.{Else-second_piece-second, Else-size-first, Start}
 
 -- the least middle length
 abbrev least : Start → ℕ
-least s = let a = s.args in a.first_most * (a.first_held + a.size)
+least s = let a = s.args in a.first.most * (a.first.held + a.size)
 
 -- past the first test
-first-within : (c : Else-size-first_received) → let a = c.args in a.first_received + a.size ≤ limit
-first-within c = omega (arith, c.requires.first_most_bound.1, c.if-size-first_received.false)
+first-within : (c : Else-size-first) → let a = c.args in a.first.received + a.size ≤ limit
+first-within c = omega (arith, c.args.first.small.1, c.if-size-first.false)
 
 -- and past the second
-second-within : (c : Else-second_piece-second_received) → c.args.second_received + least (goal.at.Else-second_piece-second_received c).Start ≤ limit
-second-within c = omega (arith, c.requires.second_most_bound.1, c.if-second_piece-second_received.false)
+second-within : (c : Else-second_piece-second) → c.args.second.received + least (goal.at.Else-second_piece-second c).Start ≤ limit
+second-within c = omega (arith, c.args.second.small.1, c.if-second_piece-second.false)
 
-pub returns-then-size-first_received : goal.returns-then-size-first_received
-returns-then-size-first_received c =
+pub returns-then-size-first : goal.returns-then-size-first
+returns-then-size-first c =
     let a = c.args in
-    first_long a.first_most a.first_received a.first_held a.second_most a.second_received a.second_held a.size a.middle a.room
-    (omega (arith, c.requires.first_most_bound.1, c.if-size-first_received.true))
+    first_long a.first.most a.first.received a.first.held a.second.most a.second.received a.second.held a.size a.middle a.room
+    (omega (arith, c.args.first.small.1, c.if-size-first.true))
 
 pub overflow_mul-least : goal.overflow_mul-least
 overflow_mul-least c =
     let a = c.args in
-    let p = c.requires.first_most_bound in
-    omega (arith, product_small a.first_most 8 (a.first_held + a.size) p.0 (omega (arith, first-within c, p.2)))
+    let p = c.args.first.small in
+    omega (arith, product_small a.first.most 8 (a.first.held + a.size) p.0 (omega (arith, first-within (goal.at.overflow_mul-least c).Else-size-first, p.2)))
 
-pub returns-then-second_piece-second_received : goal.returns-then-second_piece-second_received
-returns-then-second_piece-second_received c =
+pub returns-then-second_piece-second : goal.returns-then-second_piece-second
+returns-then-second_piece-second c =
     let a = c.args in
-    second_long a.first_most a.first_received a.first_held a.second_most a.second_received a.second_held a.size a.middle a.room
-    (first-within (goal.at.returns-then-second_piece-second_received c).Else-size-first_received) (omega (arith, c.requires.second_most_bound.1, c.if-second_piece-second_received.true))
+    second_long a.first.most a.first.received a.first.held a.second.most a.second.received a.second.held a.size a.middle a.room
+    (first-within (goal.at.returns-then-second_piece-second c).Else-size-first) (omega (arith, c.args.second.small.1, c.if-second_piece-second.true))
 
 pub returns-then-middle-least : goal.returns-then-middle-least
 returns-then-middle-least c =
     let a = c.args in
-    middle_short a.first_most a.first_received a.first_held a.second_most a.second_received a.second_held a.size a.middle a.room
-    (first-within (goal.at.returns-then-middle-least c).Else-size-first_received) (second-within (goal.at.returns-then-middle-least c).Else-second_piece-second_received) c.if-middle-least.true
+    middle_short a.first.most a.first.received a.first.held a.second.most a.second.received a.second.held a.size a.middle a.room
+    (first-within (goal.at.returns-then-middle-least c).Else-size-first) (second-within (goal.at.returns-then-middle-least c).Else-second_piece-second) c.if-middle-least.true
 
-pub overflow_mul-second_most : goal.overflow_mul-second_most
-overflow_mul-second_most c =
+pub overflow_mul-second : goal.overflow_mul-second
+overflow_mul-second c =
     let a = c.args in
-    let p = c.requires.second_most_bound in
-    omega (arith, product_small a.second_most 8 (a.second_held + least (goal.at.overflow_mul-second_most c).Start) p.0 (omega (arith, second-within (goal.at.overflow_mul-second_most c).Else-second_piece-second_received, p.2)))
+    let p = c.args.second.small in
+    omega (arith, product_small a.second.most 8 (a.second.held + least (goal.at.overflow_mul-second c).Start) p.0 (omega (arith, second-within (goal.at.overflow_mul-second c).Else-second_piece-second, p.2)))
 
-pub returns-then-room-second_most : goal.returns-then-room-second_most
-returns-then-room-second_most c =
+pub returns-then-room-second : goal.returns-then-room-second
+returns-then-room-second c =
     let a = c.args in
-    output_short a.first_most a.first_received a.first_held a.second_most a.second_received a.second_held a.size a.middle a.room
-    (first-within (goal.at.returns-then-room-second_most c).Else-size-first_received) (second-within (goal.at.returns-then-room-second_most c).Else-second_piece-second_received) c.if-middle-least.false c.if-room-second_most.true
+    output_short a.first.most a.first.received a.first.held a.second.most a.second.received a.second.held a.size a.middle a.room
+    (first-within (goal.at.returns-then-room-second c).Else-size-first) (second-within (goal.at.returns-then-room-second c).Else-second_piece-second) c.if-middle-least.false c.if-room-second.true
 
 pub returns : goal.returns
 returns c =
     let a = c.args in
-    has_room a.first_most a.first_received a.first_held a.second_most a.second_received a.second_held a.size a.middle a.room
-    (first-within (goal.at.returns c).Else-size-first_received) (second-within (goal.at.returns c).Else-second_piece-second_received) c.if-middle-least.false c.if-room-second_most.false
+    has_room a.first.most a.first.received a.first.held a.second.most a.second.received a.second.held a.size a.middle a.room
+    (first-within (goal.at.returns c).Else-size-first) (second-within (goal.at.returns c).Else-second_piece-second) c.if-middle-least.false c.if-room-second.false

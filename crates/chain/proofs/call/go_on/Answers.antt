@@ -1,22 +1,28 @@
 -- `call::go_on` meets its contract: the first's run is admitted over the piece, the second's over what the first wrote, and what they leave is the
 -- chain's outcome. What a machine has produced more is what it wrote.
 use mathlib.Core.List.{List}
-use mathlib.Core.Path.{refl, sym}
+use mathlib.Core.Bool.{◌&&◌}
+use mathlib.Core.Path.{◌≡◌, refl, sym, ap, ◌∙◌}
+use denote.Enum.Bare.{sameb}
 use Prim.Native.Nat.{ℕ}
 use native.Mathlib.Nat.{le_refl}
 use native.Mathlib.Omega.{arith}
 use lib.Seq.{length-take-le}
 use Rattle.reckoning.specs.Session.{Session}
-use Rattle.session.specs.Keeping.{together, session_of}
+use Rattle.reckoning.specs.Chain.{is_closed}
+use Rattle.session.specs.contracts.kept.Status.{the_type}
+use Rattle.session.specs.Keeping.{meant_status, together, session_of}
+use Rattle.session.specs.declared.kept.Status.{Status}
+use Rattle.session.specs.declared.kept.Status.TheVariants.{Open, Closed, Stopped}
 use Rattle.chain.proofs.Laws.Going.{first_passes, first_counted, passed_fits, second_passes, second_counted, both_go}
 use Rattle.chain.proofs.call.go_on.Goals as goal
-use Rattle.chain.proofs.call.go_on.Goals.{After-resume-one, After-resume-other, After-written-passed, Start}
+use Rattle.chain.proofs.call.go_on.Goals.{After-resume-of_first, After-resume-of_second, After-gained-passed, Start, then-ended, else-ended}
 
 abbrev words₁ : Start → List ℕ
-words₁ s = s.args.first_words.now
+words₁ s = s.args.one.words.all.now
 
 abbrev words₂ : Start → List ℕ
-words₂ s = s.args.second_words.now
+words₂ s = s.args.other.words.all.now
 
 abbrev session₁ : Start → Session
 session₁ s = session_of (together s.args.first s.args.first_uses.now)
@@ -33,51 +39,55 @@ middle s = s.args.middle.now
 abbrev output : Start → List ℕ
 output s = s.args.output.now
 
-pub resume-one-requires : goal.resume-one-requires
-resume-one-requires c = record { uses_len = c.requires.first_uses_len.0; resumable = (_, first_passes (words₁ (goal.at.resume-one-requires c).Start) (words₂ (goal.at.resume-one-requires c).Start) (session₁ (goal.at.resume-one-requires c).Start) (session₂ (goal.at.resume-one-requires c).Start) (piece (goal.at.resume-one-requires c).Start) c.args.ended (middle (goal.at.resume-one-requires c).Start) (output (goal.at.resume-one-requires c).Start) c.requires.output_value, λ any. le_refl _) }
+closing : (x : Status) → is_closed (meant_status x) ≡ sameb the_type x Closed
+closing Open = refl
+closing Closed = refl
+closing Stopped = refl
 
-pub written-passed-requires : goal.written-passed-requires
-written-passed-requires c = omega (arith, first_counted (words₁ (goal.at.written-passed-requires c).Start) (words₂ (goal.at.written-passed-requires c).Start) (session₁ (goal.at.written-passed-requires c).Start) (session₂ (goal.at.written-passed-requires c).Start) (piece (goal.at.written-passed-requires c).Start) c.args.ended (middle (goal.at.written-passed-requires c).Start) (output (goal.at.written-passed-requires c).Start) c.requires.output_value _ c.resume-one.ensures.output_after)
+pub resume-of_first-requires : goal.resume-of_first-requires
+resume-of_first-requires c = (_, first_passes (words₁ (goal.at.resume-of_first-requires c).Start) (words₂ (goal.at.resume-of_first-requires c).Start) (session₁ (goal.at.resume-of_first-requires c).Start) (session₂ (goal.at.resume-of_first-requires c).Start) (piece (goal.at.resume-of_first-requires c).Start) c.args.ended (middle (goal.at.resume-of_first-requires c).Start) (output (goal.at.resume-of_first-requires c).Start) c.requires, λ any. le_refl _)
+
+pub gained-passed-requires : goal.gained-passed-requires
+gained-passed-requires c = omega (arith, first_counted (words₁ (goal.at.gained-passed-requires c).Start) (words₂ (goal.at.gained-passed-requires c).Start) (session₁ (goal.at.gained-passed-requires c).Start) (session₂ (goal.at.gained-passed-requires c).Start) (piece (goal.at.gained-passed-requires c).Start) c.args.ended (middle (goal.at.gained-passed-requires c).Start) (output (goal.at.gained-passed-requires c).Start) c.requires _ c.resume-of_first.ensures)
 
 -- where the first's call was made, from where what it wrote is counted
-abbrev made : After-written-passed → After-resume-one
-made x = (goal.at.After-written-passed x).After-resume-one
+abbrev made : After-gained-passed → After-resume-of_first
+made x = (goal.at.After-gained-passed x).After-resume-of_first
 
 pub slice_bounds-resume-end : goal.slice_bounds-resume-end
 slice_bounds-resume-end c =
-    passed_fits (words₁ (goal.at.slice_bounds-resume-end c).Start) (words₂ (goal.at.slice_bounds-resume-end c).Start) (session₁ (goal.at.slice_bounds-resume-end c).Start) (session₂ (goal.at.slice_bounds-resume-end c).Start) (piece (goal.at.slice_bounds-resume-end c).Start) c.args.ended (middle (goal.at.slice_bounds-resume-end c).Start) (output (goal.at.slice_bounds-resume-end c).Start) c.requires.output_value _ c.resume-one.ensures.output_after c.written-passed.result
-    c.written-passed.ensures
+    passed_fits (words₁ (goal.at.slice_bounds-resume-end c).Start) (words₂ (goal.at.slice_bounds-resume-end c).Start) (session₁ (goal.at.slice_bounds-resume-end c).Start) (session₂ (goal.at.slice_bounds-resume-end c).Start) (piece (goal.at.slice_bounds-resume-end c).Start) c.args.ended (middle (goal.at.slice_bounds-resume-end c).Start) (output (goal.at.slice_bounds-resume-end c).Start) c.requires _ c.resume-of_first.ensures c.gained-passed.result
+    c.gained-passed.ensures
 
 pub slice_bounds-resume-end-2 : goal.slice_bounds-resume-end-2
 slice_bounds-resume-end-2 c =
-    sym (length-take-le c.written-passed.result _
-    (passed_fits (words₁ (goal.at.slice_bounds-resume-end-2 c).Start) (words₂ (goal.at.slice_bounds-resume-end-2 c).Start) (session₁ (goal.at.slice_bounds-resume-end-2 c).Start) (session₂ (goal.at.slice_bounds-resume-end-2 c).Start) (piece (goal.at.slice_bounds-resume-end-2 c).Start) c.args.ended (middle (goal.at.slice_bounds-resume-end-2 c).Start) (output (goal.at.slice_bounds-resume-end-2 c).Start) c.requires.output_value _ c.resume-one.ensures.output_after c.written-passed.result
-    c.written-passed.ensures))
+    sym (length-take-le c.gained-passed.result _
+    (passed_fits (words₁ (goal.at.slice_bounds-resume-end-2 c).Start) (words₂ (goal.at.slice_bounds-resume-end-2 c).Start) (session₁ (goal.at.slice_bounds-resume-end-2 c).Start) (session₂ (goal.at.slice_bounds-resume-end-2 c).Start) (piece (goal.at.slice_bounds-resume-end-2 c).Start) c.args.ended (middle (goal.at.slice_bounds-resume-end-2 c).Start) (output (goal.at.slice_bounds-resume-end-2 c).Start) c.requires _ c.resume-of_first.ensures c.gained-passed.result
+    c.gained-passed.ensures))
 
-pub resume-other-requires : goal.resume-other-requires
-resume-other-requires c =
-    record {
-      uses_len = c.requires.first_uses_len.1;
-      resumable = (
-        _,
-        second_passes (words₁ (goal.at.resume-other-requires c).Start) (words₂ (goal.at.resume-other-requires c).Start) (session₁ (goal.at.resume-other-requires c).Start) (session₂ (goal.at.resume-other-requires c).Start) (piece (goal.at.resume-other-requires c).Start) c.args.ended (middle (goal.at.resume-other-requires c).Start) (output (goal.at.resume-other-requires c).Start) c.requires.output_value _ c.resume-one.ensures.output_after c.written-passed.result
-            c.written-passed.ensures,
-        λ any. le_refl _,
-      );
-    }
+pub resume-of_second-requires : goal.resume-of_second-requires
+resume-of_second-requires c = (
+  _,
+  second_passes (words₁ (goal.at.resume-of_second-requires c).Start) (words₂ (goal.at.resume-of_second-requires c).Start) (session₁ (goal.at.resume-of_second-requires c).Start) (session₂ (goal.at.resume-of_second-requires c).Start) (piece (goal.at.resume-of_second-requires c).Start) c.args.ended (middle (goal.at.resume-of_second-requires c).Start) (output (goal.at.resume-of_second-requires c).Start) c.requires _ c.resume-of_first.ensures c.gained-passed.result
+      c.gained-passed.ensures,
+  λ any. le_refl _,
+)
 
-pub written-requires : goal.written-requires
-written-requires c =
+pub gained-requires : goal.gained-requires
+gained-requires c =
     omega (
       arith,
-      second_counted (words₁ (goal.at.written-requires c).Start) (words₂ (goal.at.written-requires c).Start) (session₁ (goal.at.written-requires c).Start) (session₂ (goal.at.written-requires c).Start) (piece (goal.at.written-requires c).Start) c.args.ended (middle (goal.at.written-requires c).Start) (output (goal.at.written-requires c).Start) c.requires.output_value _ c.resume-one.ensures.output_after
-          c.written-passed.result c.written-passed.ensures _ c.closes-end.ensures _ c.resume-other.ensures.output_after,
+      second_counted (words₁ (goal.at.gained-requires c).Start) (words₂ (goal.at.gained-requires c).Start) (session₁ (goal.at.gained-requires c).Start) (session₂ (goal.at.gained-requires c).Start) (piece (goal.at.gained-requires c).Start) c.args.ended (middle (goal.at.gained-requires c).Start) (output (goal.at.gained-requires c).Start) c.requires _ c.resume-of_first.ensures
+          c.gained-passed.result c.gained-passed.ensures _ (elim c.if-ended.branch [
+            | then-ended w ↦ w.end-is ∙ w.eq-end.ensures ∙ sym (closing c.resume-of_first.result.left.status) ∙ ap (λ e. e && is_closed (meant_status c.resume-of_first.result.left.status)) (sym w.if-ended.true)
+            | else-ended w ↦ w.end-is ∙ w.if-ended.false ∙ ap (λ e. e && is_closed (meant_status c.resume-of_first.result.left.status)) (sym w.if-ended.false)
+          ]) _ c.resume-of_second.ensures,
     )
 
 pub returns : goal.returns
 returns c =
-    record {
-      accepted_value = refl;
-      output_after = both_go (words₁ (goal.at.returns c).Start) (words₂ (goal.at.returns c).Start) (session₁ (goal.at.returns c).Start) (session₂ (goal.at.returns c).Start) (piece (goal.at.returns c).Start) c.args.ended (middle (goal.at.returns c).Start) (output (goal.at.returns c).Start) c.requires.output_value _ c.resume-one.ensures.output_after c.written-passed.result
-          c.written-passed.ensures _ c.closes-end.ensures _ c.resume-other.ensures.output_after c.written.result c.written.ensures;
-    }
+    both_go (words₁ (goal.at.returns c).Start) (words₂ (goal.at.returns c).Start) (session₁ (goal.at.returns c).Start) (session₂ (goal.at.returns c).Start) (piece (goal.at.returns c).Start) c.args.ended (middle (goal.at.returns c).Start) (output (goal.at.returns c).Start) c.requires _ c.resume-of_first.ensures c.gained-passed.result
+    c.gained-passed.ensures _ (elim c.if-ended.branch [
+      | then-ended w ↦ w.end-is ∙ w.eq-end.ensures ∙ sym (closing c.resume-of_first.result.left.status) ∙ ap (λ e. e && is_closed (meant_status c.resume-of_first.result.left.status)) (sym w.if-ended.true)
+      | else-ended w ↦ w.end-is ∙ w.if-ended.false ∙ ap (λ e. e && is_closed (meant_status c.resume-of_first.result.left.status)) (sym w.if-ended.false)
+    ]) _ c.resume-of_second.ensures c.gained.result c.gained.ensures

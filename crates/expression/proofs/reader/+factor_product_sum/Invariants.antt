@@ -16,16 +16,16 @@ decreases-product l = 3 * (length l.s.now - l.at) + 1
 abbrev pub decreases-sum : goal.decreases-sum
 decreases-sum l = 3 * (length l.s.now - l.at) + 2
 
-abbrev pub invariant-product-loop-op : goal.invariant-product-loop-op
-invariant-product-loop-op l =
-    Going l.s l.at is_star (factor_of parts (within parts l.depth)) (product_of parts (within parts l.depth) (drop l.at l.s)) l.so_far l.op
+abbrev pub invariant-product-loop-operation : goal.invariant-product-loop-operation
+invariant-product-loop-operation l =
+    Going l.s l.at is_star (factor_of parts (within parts l.depth)) (product_of parts (within parts l.depth) (drop l.at l.s)) l.part l.next
 
-abbrev pub decreases-product-loop-op : goal.decreases-product-loop-op
-decreases-product-loop-op l = length l.s - l.so_far.next
+abbrev pub decreases-product-loop-operation : goal.decreases-product-loop-operation
+decreases-product-loop-operation l = length l.s - l.next
 
-abbrev pub invariant-sum-loop-op : goal.invariant-sum-loop-op
-invariant-sum-loop-op l =
-    Going l.s l.at is_sign (product_of parts (within parts l.depth)) (sum_of parts (within parts l.depth) (drop l.at l.s)) l.so_far l.op
+abbrev pub invariant-sum-loop-operation : goal.invariant-sum-loop-operation
+invariant-sum-loop-operation l =
+    Going l.s l.at is_sign (product_of parts (within parts l.depth)) (sum_of parts (within parts l.depth) (drop l.at l.s)) l.part l.next
 
-abbrev pub decreases-sum-loop-op : goal.decreases-sum-loop-op
-decreases-sum-loop-op l = length l.s - l.so_far.next
+abbrev pub decreases-sum-loop-operation : goal.decreases-sum-loop-operation
+decreases-sum-loop-operation l = length l.s - l.next

@@ -1,30 +1,17 @@
--- `compile::copy_blocks` meets its contract. The invariant: the first i blocks' words are copied.
--- The measure is the words left. Assumes nothing.
-use mathlib.Core.Path.{◌≡◌, refl, sym, ap, ◌∙◌}
-use Prim.Native.Nat.{◌+◌, ◌<◌}
-use native.Mathlib.Numerals.{add-one}
-use borrow.Author.Rules.{rules}
-use lib.ListN.{set, length, get_or}
-use lib.Seq.{paste, paste-zero, paste-suc}
+-- `compile::copy_blocks` meets its contract: the blocks stand between the words before them and those behind the last word.
+-- Assumes nothing.
+use Rattle.std.proofs.Common.{◌++◌, take, drop, sym, ap, refl, ◌∙◌}
+use Rattle.std.proofs.lemmas.Slice.{put_mid-paste}
+use lib.Seq.{take-take, length-take-le}
+use native.Mathlib.Omega.{arith}
 use Rattle.meaning.specs.Block.{blocks_size}
-use Rattle.automaton.specs.Layout.{blocks_from}
+use Rattle.meaning.specs.bridge.Flat.{blocks_of}
+use Rattle.automaton.specs.Layout.{blocks_from, word_count}
 use Rattle.machine.proofs.compile.copy_blocks.Goals as goal
-
-pub loop-i-init : goal.loop-i-init
-loop-i-init c = (search rules, refl, paste-zero c.args.words.now blocks_from c.args.loaded.now)
-
-pub loop-i-preserved : goal.loop-i-preserved
-loop-i-preserved c =
-    let w = c.args.words.now in
-    let b = c.args.loaded.now in
-    let i = c.loop-i.i in
-    let h : i < length b = search rules in
-    let k : blocks_from + i < length w = search rules in
-    (search rules, search rules, ap (λ v. set v (blocks_from + i) (get_or b i 0)) c.loop-i.invariant.2 ∙ paste-suc w blocks_from b i 0 k h ∙ ap (paste w blocks_from b) (sym (add-one i)))
 
 pub returns : goal.returns
 returns c =
     let w = c.args.words.now in
-    let b = c.args.loaded.now in
-    let e : c.loop-i.i ≡ blocks_size = search rules in
-    c.loop-i.invariant.2 ∙ ap (paste w blocks_from b) e
+    let b = c.args.table.now.words.now in
+    put_mid-paste blocks_from blocks_size w c.copy_from_slice.new.self (blocks_of b) blocks_size c.copy_from_slice.ensures.after refl (sym (length-take-le blocks_size b (omega (arith, c.args.table.now.flat.long))))
+    ∙ ap (λ l. take blocks_from w ++ l ++ drop word_count w) (take-take blocks_size blocks_size b (omega arith))

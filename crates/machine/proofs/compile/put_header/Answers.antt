@@ -1,43 +1,11 @@
--- `compile::put_header` meets its contract: six stores, one for each word of the header.
+-- `compile::put_header` meets its contract: E fits a word, and the rest the check finds alone.
 -- Assumes nothing.
-use mathlib.Core.List.{[], ◌∷◌, ◌++◌}
-use mathlib.Core.Path.{ap, ◌∙◌}
-use native.Mathlib.Omega.{arith}
-use lib.ListN.{set, drop, length-set}
-use Rattle.machine.proofs.Laws.Compiling.{header_put}
-use Rattle.automaton.specs.Layout.{classes_from}
+use Rattle.std.proofs.Common.{arith}
+use Rattle.rules.specs.bridge.Modes.{the_mode}
+use Rattle.rules.proofs.Laws.Converting.{expansion_eight}
 use Rattle.machine.proofs.compile.put_header.Goals as goal
 
-pub bounds-words-1 : goal.bounds-words-1
-bounds-words-1 c =
-    let a = c.args in
-    let w = a.words.now in
-    let room = c.requires.0 in
-    omega (arith, room, length-set w 0 a.states)
-
-pub bounds-words-2 : goal.bounds-words-2
-bounds-words-2 c =
-    let a = c.args in
-    let w = a.words.now in
-    let room = c.requires.0 in
-    omega (arith, room, length-set w 0 a.states, length-set (set w 0 a.states) 1 a.classes)
-
-pub bounds-words-3 : goal.bounds-words-3
-bounds-words-3 c =
-    let a = c.args in
-    let w = a.words.now in
-    let room = c.requires.0 in
-    omega (arith, room, length-set w 0 a.states, length-set (set w 0 a.states) 1 a.classes, length-set (set (set w 0 a.states) 1 a.classes) 2 a.longest)
-
-pub bounds-words-4 : goal.bounds-words-4
-bounds-words-4 c =
-    let a = c.args in
-    let w = a.words.now in
-    let room = c.requires.0 in
-    omega (arith, room, length-set w 0 a.states, length-set (set w 0 a.states) 1 a.classes, length-set (set (set w 0 a.states) 1 a.classes) 2 a.longest, length-set (set (set (set w 0 a.states) 1 a.classes) 2 a.longest) 3 a.expansion)
-
-pub returns : goal.returns
-returns c =
-    let a = c.args in
-    header_put a.words.now a.states a.classes a.longest a.expansion a.rules c.mode_word-last.result c.requires.0
-    ∙ ap (λ d. (a.states ∷ a.classes ∷ a.longest ∷ a.expansion ∷ a.rules ∷ d ∷ []) ++ drop classes_from a.words.now) c.mode_word-last.ensures
+pub overflow_cast-expansion : goal.overflow_cast-expansion
+overflow_cast-expansion c =
+    let t = c.args.table.now in
+    omega (arith, c.expansion.ensures, expansion_eight t.words.now t.rules (the_mode t.mode) t.flat t.few)

@@ -1,7 +1,7 @@
 -- `gather::gather_place` meets its contract. The invariant: the first k ranges are met.
--- The measure is the ranges left. Assumes nothing.
+-- Assumes nothing.
 use mathlib.Core.Path.{◌≡◌}
-use Prim.Native.Nat.{◌≤◌, ◌-◌}
+use Prim.Native.Nat.{◌≤◌}
 use lib.ListN.{length}
 use Rattle.lists.specs.Lists.{tab_from}
 use Rattle.meaning.specs.bridge.Flat.{range_at}
@@ -9,7 +9,4 @@ use Rattle.automaton.specs.Starts.{holding, meet_ranges}
 use Rattle.machine.proofs.gather.gather_place.Given as goal
 
 abbrev pub invariant-loop-k : goal.invariant-loop-k
-invariant-loop-k l = (l.k ≤ l.number) × (length l.words ≡ length l.initial.words) × (holding l.words l.met ≡ meet_ranges (tab_from 0 l.k (range_at l.loaded l.place)) (holding l.initial.words l.count))
-
-abbrev pub decreases-loop-k : goal.decreases-loop-k
-decreases-loop-k l = l.number - l.k
+invariant-loop-k l = (l.met ≤ 64) × (length l.words ≡ length l.initial.words) × (holding l.words l.met ≡ meet_ranges (tab_from 0 l.k (range_at l.table.words.now l.place)) (holding l.initial.words l.count))

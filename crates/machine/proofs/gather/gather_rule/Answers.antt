@@ -1,48 +1,32 @@
 -- `gather::gather_rule` meets its contract. The invariant: the ranges of the first p positions are met.
--- The measure is the positions left. Assumes nothing.
-use mathlib.Core.Path.{◌≡◌, refl}
-use Prim.Native.Nat.{◌<◌, ◌≤◌, ◌+◌, ◌*◌}
-use native.Mathlib.Omega.{arith}
-use borrow.Author.Rules.{rules}
-use Rattle.lists.specs.Lists.{tab_from}
+-- Assumes nothing.
+use Rattle.std.proofs.Common.{rules, arith, ◌<◌, ◌≡◌, ◌*◌, length, ap, ◌∙◌}
 use Rattle.meaning.specs.Block.{at, block_size}
 use Rattle.meaning.specs.bridge.Flat.{pattern_at}
-use Rattle.automaton.specs.Starts.{pattern_ranges, holding}
-use Rattle.automaton.proofs.Laws.Gathering.{ranges_few, ranges_next}
+use Rattle.automaton.specs.Layout.{states_from}
+use Rattle.automaton.specs.Starts.{holding}
+use Rattle.automaton.specs.bridge.Gathered.{counted}
+use Rattle.automaton.proofs.Laws.Gathering.{ranges_next, ranges_full}
 use Rattle.machine.proofs.gather.gather_rule.Invariants.{ranges}
 use Rattle.machine.proofs.gather.gather_rule.Goals as goal
-use Rattle.machine.proofs.gather.gather_rule.Goals.{Start}
 
--- a rule has at most eight positions
-few : (s : Start) → at s.args.loaded.now (block_size * s.args.rule.0) ≤ 8
-few s = s.requires.flat.0.size s.args.rule.0 (omega arith)
-
-pub overflow_cast-size : goal.overflow_cast-size
-overflow_cast-size c = omega (arith, few (goal.at.overflow_cast-size c).Start)
-
-pub loop-p-init : goal.loop-p-init
-loop-p-init c = (search rules, refl, refl)
-
-pub overflow_add-group : goal.overflow_add-group
-overflow_add-group c = omega (arith, few (goal.at.overflow_add-group c).Start)
-
-pub gather_place-met-requires : goal.gather_place-met-requires
-gather_place-met-requires c =
-    let h : 8 * c.args.rule.0 + c.loop-p.p < 264 = omega (arith, few (goal.at.gather_place-met-requires c).Start) in
-    let few = ranges_few (pattern_ranges (tab_from 0 c.loop-p.p (ranges c.args.loaded.now c.args.rule.0))) (holding c.args.words.now c.args.count) c.loop-p.invariant.2 c.requires.word_count_in_bounds.1 in
-    record { place_bound = (h, c.requires.flat.0.long, c.requires.flat.0.few (8 * c.args.rule.0 + c.loop-p.p) h); word_count_in_bounds = (search rules, few) }
-
-pub overflow_add-p : goal.overflow_add-p
-overflow_add-p c = omega (arith, few (goal.at.overflow_add-p c).Start)
+pub returns-in_err-met-clause-met : goal.returns-in_err-met-clause-met
+unfolding pattern_at
+returns-in_err-met-clause-met c =
+    let a = c.args in
+    let w = c.gather_place.new.words in
+    let room : states_from < length w = omega (arith, c.gather_place.auto.words) in
+    ap (λ n. holding w (counted n)) c.from_residual.ensures
+    ∙ ranges_full w room (λ rs. rs) (ranges a.table.now.words.now a.rule.0) (holding a.words.now a.count) c.loop-p.p (at a.table.now.words.now (block_size * a.rule.0)) c.loop-p-test.true c.loop-p.invariant.2 c.in_err-met.ensures.met
 
 pub loop-p-preserved : goal.loop-p-preserved
 loop-p-preserved c =
     let a = c.args in
-    (search rules, search rules, ranges_next (λ rs. rs) (ranges a.loaded.now a.rule.0) c.loop-p.p (holding a.words.now a.count) c.loop-p.invariant.2 c.gather_place-met.ensures)
+    (c.in_ok-met.ensures.few, search rules, ranges_next (λ rs. rs) (ranges a.table.now.words.now a.rule.0) c.loop-p.p (holding a.words.now a.count) c.loop-p.invariant.2 c.in_ok-met.ensures.met)
 
-pub returns : goal.returns
+pub returns-clause-met : goal.returns-clause-met
 unfolding pattern_at
-returns c =
+returns-clause-met c =
     let a = c.args in
-    let e : c.loop-p.p ≡ at a.loaded.now (block_size * a.rule.0) = search rules in
+    let e : c.loop-p.p ≡ at a.table.now.words.now (block_size * a.rule.0) = search rules in
     rw e at c.loop-p.invariant.2

@@ -1,8 +1,8 @@
 -- `gather::gather_rule` meets its contract. The invariant: the ranges of the first p positions are met.
--- The measure is the positions left. Assumes nothing.
+-- Assumes nothing.
 use mathlib.Core.List.{List}
 use mathlib.Core.Path.{◌≡◌}
-use Prim.Native.Nat.{ℕ, ◌≤◌, ◌+◌, ◌-◌, ◌*◌}
+use Prim.Native.Nat.{ℕ, ◌≤◌, ◌+◌, ◌*◌}
 use lib.ListN.{length}
 use Rattle.lists.specs.Lists.{tab_from}
 use Rattle.meaning.specs.Table.{Range}
@@ -15,8 +15,5 @@ abbrev pub ranges : List ℕ → ℕ → ℕ → List Range
 ranges loaded group p = ranges_at loaded (8 * group + p)
 
 abbrev pub invariant-loop-p : goal.invariant-loop-p
-invariant-loop-p l = (l.p ≤ l.size) × (length l.words ≡ length l.initial.words)
-    × (holding l.words l.met ≡ meet_ranges (pattern_ranges (tab_from 0 l.p (ranges l.loaded l.group))) (holding l.initial.words l.count))
-
-abbrev pub decreases-loop-p : goal.decreases-loop-p
-decreases-loop-p l = l.size - l.p
+invariant-loop-p l = (l.met ≤ 64) × (length l.words ≡ length l.initial.words)
+    × (holding l.words l.met ≡ meet_ranges (pattern_ranges (tab_from 0 l.p (ranges l.table.words.now l.group))) (holding l.initial.words l.count))

@@ -1,8 +1,8 @@
 -- `gather::gather_starts` meets its contract. The invariant: the ranges of the rules before this one are met.
--- The measure is the rules left. Assumes nothing.
+-- Assumes nothing.
 use mathlib.Core.List.{List}
 use mathlib.Core.Path.{◌≡◌}
-use Prim.Native.Nat.{◌≤◌, ◌-◌}
+use Prim.Native.Nat.{◌≤◌}
 use lib.ListN.{length}
 use Rattle.lists.specs.Lists.{flat_map, tab_from}
 use Rattle.meaning.specs.bridge.Flat.{group_at}
@@ -14,8 +14,5 @@ abbrev pub pattern : Group → List Range
 pattern g = pattern_ranges g.ranges
 
 abbrev pub invariant-loop-rule : goal.invariant-loop-rule
-invariant-loop-rule l = (l.rule.0 ≤ l.rules) × (length l.words ≡ length l.initial.words)
-    × (holding l.words l.met ≡ meet_ranges (flat_map pattern (tab_from 0 l.rule.0 (group_at l.loaded))) (holding l.initial.words 1))
-
-abbrev pub decreases-loop-rule : goal.decreases-loop-rule
-decreases-loop-rule l = l.rules - l.rule.0
+invariant-loop-rule l = (l.met ≤ 64) × (length l.words ≡ length l.initial.words)
+    × (holding l.words l.met ≡ meet_ranges (flat_map pattern (tab_from 0 l.rule (group_at l.table.words.now))) (holding l.initial.words 1))

@@ -1,11 +1,15 @@
 -- `sets::accept_of` meets its contract: the tests of the rules' size and anchor, by the array, are those of the table.
 -- Assumes nothing.
-use mathlib.Core.Path.{sym, ◌∙◌}
+use Rattle.std.proofs.Common.{rules, tests, sym, ap, ◌∙◌}
+use Rattle.lists.specs.Lists.{filter}
+use Rattle.automaton.specs.States.{first_number}
 use Rattle.meaning.specs.Table.{Absent}
-use Rattle.automaton.proofs.Laws.Sets.{accept_flat}
+use Rattle.automaton.proofs.Laws.Sets.{members_more, accept_flat, free_at_lem}
 use Rattle.machine.proofs.sets.accept_of.Goals as goal
 
-pub returns : goal.returns
-returns c =
+pub returns-clause-word : goal.returns-clause-word
+returns-clause-word c =
     let a = c.args in
-    c.lowest_ending.ensures ∙ sym (accept_flat a.loaded.now a.rules Absent a.set a.depth)
+    c.lowest.ensures.first (free_at_lem a.table.now.words.now a.depth) (λ r b h q. search (rules, tests))
+    ∙ ap (λ xs. first_number (filter (free_at_lem a.table.now.words.now a.depth) xs)) (members_more a.table.now.rules 32 0 a.set a.table.now.few c.requires)
+    ∙ sym (accept_flat a.table.now.words.now a.table.now.rules Absent a.set a.depth)

@@ -1,11 +1,10 @@
--- `feeding::take_turn` meets its contract: session, answer and text are those of the call, by the contracts of what it calls.
+-- `feeding::take_turn` meets its contract: what the call wrote lies within the output.
 -- Assumes nothing.
-use borrow.Author.Rules.{rules}
+use Rattle.std.proofs.Common.{rules}
 use Rattle.program.proofs.Laws.Calls.{counted}
 use Rattle.program.proofs.feeding.take_turn.Goals as goal
 
-pub put_call-size-requires : goal.put_call-size-requires
-put_call-size-requires c =
-    let called = c.call_on-called in
-    let a = c.args in
-    (counted _ _ called.result.answer called.result.session called.new.output a.bytes.now _ called.ensures, search rules)
+pub put_call-requires : goal.put_call-requires
+put_call-requires c =
+    let called = c.call_on-answer in
+    (search rules, (counted _ _ called.result called.new.session called.new.output c.args.bytes.now _ called.ensures, search rules))

@@ -1,16 +1,20 @@
 -- `rules::convert::check` meets its contract: the array is zeros, and what was loaded into it says what the table is.
 -- The answer of the table check is the definition's.
-use Rattle.std.proofs.Common.{sym}
+use Rattle.std.proofs.Common.{sym, ap}
+use Rattle.std.proofs.lemmas.Result.{err_from_is_err_and}
+use Rattle.meaning.specs.bridge.Flat.{loaded_size}
+use Rattle.rules.specs.Answers.{number_of, outcome_of}
 use Rattle.rules.proofs.Laws.Flattened.{pad_zeros}
 use Rattle.rules.proofs.Laws.Converting.{loaded_checked, refused_checked}
-use Rattle.meaning.specs.bridge.Flat.{loaded_size}
 use Rattle.rules.proofs.convert.check.Goals as goal
 
-pub load_table-load-requires : goal.load_table-load-requires
-load_table-load-requires c = sym (pad_zeros loaded_size)
+pub load_table-requires : goal.load_table-requires
+load_table-requires c = sym (pad_zeros loaded_size)
 
-pub returns-in-Refused : goal.returns-in-Refused
-returns-in-Refused c = refused_checked _ c.load_table-load.result _ c.load_table-load.ensures c.in-Refused.n c.in-Refused.is
+pub returns-in_err-load_table : goal.returns-in_err-load_table
+returns-in_err-load_table c =
+    let p = err_from_is_err_and c.from_residual.result c.from_residual.ensures.1 in
+    rw (p.1, p.2) (refused_checked c.args.table.now (outcome_of c.load_table.result) _ c.load_table.ensures (number_of c.in_err-load_table.field-0.0) (ap outcome_of c.in_err-load_table.was))
 
-pub returns-in-Accepted : goal.returns-in-Accepted
-returns-in-Accepted c = loaded_checked _ c.load_table-load.result _ c.load_table-load.ensures c.in-Accepted.rules c.in-Accepted.mode c.in-Accepted.is
+pub returns : goal.returns
+returns c = loaded_checked c.args.table.now (outcome_of c.load_table.result) _ c.load_table.ensures _ _ (ap outcome_of c.in_ok-load_table.was)

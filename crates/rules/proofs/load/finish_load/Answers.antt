@@ -17,8 +17,8 @@ pub returns-then-rules-eq0 : goal.returns-then-rules-eq0
 unfolding select
 returns-then-rules-eq0 c = simp (sym c.has_gap.ensures ∙ c.if-has_gap.false, eq-eqb _ _ c.if-rules-eq0.true) refl
 
-pub all_safe-requires : goal.all_safe-requires
-all_safe-requires c = (c.requires.flat (no_gap (goal.at.all_safe-requires c).Else-rules-eq0) (omega (arith, c.if-rules-eq0.false)), c.requires.rules_bound)
+pub invariant_of-table : goal.invariant_of-table
+invariant_of-table c = record { flat = c.requires.flat (no_gap (goal.at.invariant_of-table c).Else-rules-eq0) (omega (arith, c.if-rules-eq0.false)); few = c.requires.rules_bound }
 
 pub returns-then-all_safe : goal.returns-then-all_safe
 unfolding select

@@ -2,46 +2,44 @@
 -- ensures, over a copy of the counts of uses and with an output without places.
 use mathlib.Core.Bool.{false}
 use mathlib.Core.List.{[]}
+use lib.ListN.{length}
+use Prim.Native.Nat.{ℕ}
 use mathlib.Core.Path.{◌≡◌, sym, ap, subst, ◌∙◌}
 use native.Mathlib.Omega.{arith}
-use lib.ListN.{length}
 use Rattle.meaning.specs.Refusal.{accepted}
-use Rattle.rules.specs.Answers.{check_of}
-use Rattle.automaton.specs.Automaton.{from_words}
-use Rattle.reckoning.specs.Calls.{admits}
+use Rattle.reckoning.specs.Calls.{CallOutcome, admits}
+use Rattle.reckoning.specs.Preview.{seen_by}
+use Rattle.std.proofs.lemmas.Result.{err_from_is_err_and}
 use Rattle.session.specs.Keeping.{together, session_of}
-use Rattle.session.specs.bridge.Later.{Resumable, went_on}
-use Rattle.session.proofs.Laws.Resuming.{refused_shows, accepted_shows}
+use Rattle.automaton.specs.Automaton.{from_words}
+use Rattle.session.specs.bridge.Later.{went_on}
+use Rattle.session.proofs.Laws.Resuming.{seen_call}
 use Rattle.session.proofs.call.preview_kept.Goals as goal
-use Rattle.session.proofs.call.preview_kept.Goals.{In-Accepted}
-
--- where the call was admitted, for the most that it may write
-admitted : (c : In-Accepted) →
-    let a = c.args in
-    admits a.words.now (session_of (together a.kept a.uses.now)) (length a.piece.now) 8796093022208 ≡ accepted tt
-admitted c = sym c.admit.ensures.result_value ∙ ap check_of c.in-Accepted.is
 
 pub resume-requires : goal.resume-requires
 resume-requires c =
-    let copied = c.copy_uses in
     let a = c.args in
-    let both = subst (λ uses. (length uses ≡ 34) × Resumable a.words.now (session_of (together a.kept uses)) (length a.piece.now) 0) (sym copied.ensures)
-    (c.admit.ensures.uses_len, (_, admitted (goal.at.resume-requires c).In-Accepted, λ any. absurd (omega arith))) in
-    record { uses_len = both.0; resumable = both.1 }
+    let most : ℕ = 8796093022208 in
+    let e = ap (λ b. b.now) c.in_ok-machine.ensures.0 in
+    let here = subst (λ w. admits w (session_of (together a.kept a.uses.now)) (length a.piece.now) most ≡ accepted tt) (sym e) c.in_ok-machine.ensures.1 in
+    let m = c.in_ok-machine.machine in
+    (most, subst (λ uses. admits m.words.all.now (session_of (together a.kept uses)) (length a.piece.now) most ≡ accepted tt) (sym c.copy_uses.ensures) here, λ any. absurd (omega arith))
 
-pub returns-in-Refused : goal.returns-in-Refused
-returns-in-Refused c =
+pub returns-in_err-machine-clause-previews : goal.returns-in_err-machine-clause-previews
+returns-in_err-machine-clause-previews c =
     let a = c.args in
-    let both = refused_shows a.words.now a.kept a.uses.now a.piece.now a.later.now 8796093022208 (omega arith) _ c.refuse.result c.refuse.ensures
-    (sym c.admit.ensures.result_value ∙ ap check_of c.in-Refused.is) in
-    record { said = both.0; previews = both.1 }
+    let s = session_of (together a.kept a.uses.now) in
+    let p = err_from_is_err_and c.from_residual.result c.from_residual.ensures.1 in
+    rw (p.1, p.2) (seen_call a.words.now s a.piece.now 8796093022208 (omega arith) _ c.in_err-machine.ensures)
 
-pub returns-in-Accepted : goal.returns-in-Accepted
-returns-in-Accepted c =
+pub returns-clause-previews : goal.returns-clause-previews
+returns-clause-previews c =
     let a = c.args in
-    let same = c.copy_uses.ensures in
-    let both = accepted_shows a.words.now a.kept a.uses.now a.piece.now a.later.now 8796093022208 (omega arith) c.resume.result _ _ []
-    c.resume.ensures.accepted_value
-    (c.resume.ensures.output_after ∙ ap (λ uses. went_on (from_words a.words.now) (session_of (together a.kept uses)) a.piece.now false []) same)
-    (admitted (goal.at.returns-in-Accepted c).In-Accepted) in
-    record { said = both.0; previews = both.1 }
+    let s = session_of (together a.kept a.uses.now) in
+    let e = ap (λ b. b.now) c.in_ok-machine.ensures.0 in
+    ap (λ (x : CallOutcome). seen_by x.answer x.session) (
+    c.resume.ensures
+    ∙ ap (λ uses. went_on (from_words c.in_ok-machine.machine.words.all.now) (session_of (together a.kept uses)) a.piece.now false []) c.copy_uses.ensures
+    ∙ ap (λ w. went_on (from_words w) s a.piece.now false []) e
+    )
+    ∙ seen_call a.words.now s a.piece.now 8796093022208 (omega arith) (accepted tt) c.in_ok-machine.ensures.1

@@ -1,115 +1,132 @@
 -- `kept::is_sound_session` meets its contract: the first part that fails decides, and past three what the status asks.
 -- The counts' test gives what the parts after it require.
-use Rattle.std.proofs.Common.{not, ap}
+use Rattle.std.proofs.Common.{not, ap, inl, inr}
 use mathlib.Core.Bool.{true, cond}
 use mathlib.Core.List.{List, [], ◌∷◌}
 use mathlib.Core.Path.{◌≡◌, sym, ap, ◌∙◌}
-use Prim.Native.Nat.{ℕ, ◌-◌, ◌≤◌}
+use Prim.Native.Nat.{ℕ, ◌+◌, ◌*◌, ◌≤◌}
 use native.Mathlib.Omega.{arith}
 use borrow.Author.Rules.{rules}
-use lib.ListN.{length}
+use lib.Dec.{eqb, leb}
+use lib.ListN.{length, take, drop}
+use lib.Seq.{length-take-le}
+use Rattle.lists.specs.Lists.{all}
 use Rattle.lists.specs.Decide.{all_of}
 use Rattle.lists.proofs.Laws.Tests.{passed, failed, all_stops, all_next, all_last}
 use Rattle.meaning.specs.Direct.{limit}
-use Rattle.automaton.specs.Sound.{expansion_word}
+use Rattle.automaton.specs.Sound.{expansion_word, longest_word}
+use Rattle.automaton.specs.Automaton.{from_words}
 use Rattle.automaton.proofs.Laws.Words.{sound_header_lem}
-use Rattle.reckoning.specs.Session.{Session, is_open, sound_session}
+use Rattle.reckoning.specs.Session.{Session, consumed, stands_at, is_open, sound_session}
 use Rattle.session.specs.declared.kept.Status.{Status}
 use Rattle.session.specs.declared.kept.Status.TheVariants.{Open, Closed, Stopped}
 use Rattle.session.specs.Keeping.{meant_status, together, session_of}
 use Rattle.reckoning.proofs.Laws.Keeping.{counts_test, uses_test, open_test, ended_test, session_parts, counts_known}
 use Rattle.session.proofs.kept.is_sound_session.Goals as goal
-use Rattle.session.proofs.kept.is_sound_session.Goals.{After-counts_sound, Else-not-counts_sound, Else-not-others_clear, Else-not-uses_sound, Start}
+use Rattle.session.proofs.kept.is_sound_session.Goals.{After-counts_sound, Else-not-counts_sound, Else-not-all_clear, Else-not-uses_sound, then-not-all_clear-via-then-not-all_clear, then-not-all_clear-via-else-not-all_clear+then-not-uses_sound}
 
 -- the words and the session
 abbrev words : After-counts_sound → List ℕ
-words c = c.args.words.now
+words c = c.args.machine.words.all.now
 
 abbrev session : After-counts_sound → Session
 session c = let a = c.args in session_of (together a.kept a.uses.now)
-
--- there are eight places
-places : (c : After-counts_sound) → length (session c).held ≡ 8
-places c = search rules
 
 -- the counts are tested by E
 counted : (c : After-counts_sound) → c.counts_sound.result ≡ counts_test (words c) (session c) (expansion_word (words c))
 counted c = c.counts_sound.ensures ∙ ap (counts_test (words c) (session c)) c.expansion.ensures
 
-past-counts : (c : Else-not-counts_sound) → counts_test (words (goal.at.Else-not-counts_sound c).After-counts_sound) (session (goal.at.Else-not-counts_sound c).After-counts_sound) (expansion_word (words (goal.at.Else-not-counts_sound c).After-counts_sound)) ≡ true
-past-counts c = passed (counted (goal.at.Else-not-counts_sound c).After-counts_sound) (ap not c.if-not-counts_sound.false)
+-- past that test
+abbrev start : Else-not-counts_sound → After-counts_sound
+start c = (goal.at.Else-not-counts_sound c).After-counts_sound
 
-small : (c : Else-not-counts_sound) → let s = session (goal.at.Else-not-counts_sound c).After-counts_sound in (s.received ≤ limit) × (s.count ≤ s.received) × (s.count ≤ 8)
-small c = counts_known (words (goal.at.Else-not-counts_sound c).After-counts_sound) (session (goal.at.Else-not-counts_sound c).After-counts_sound) _ (past-counts c)
+past-counts : (c : Else-not-counts_sound) → counts_test (words (start c)) (session (start c)) (expansion_word (words (start c))) ≡ true
+past-counts c = passed (counted (start c)) (ap not c.if-not-counts_sound.false)
 
--- past the places not in use
-abbrev counts : Else-not-others_clear → Else-not-counts_sound
-counts c = (goal.at.Else-not-others_clear c).Else-not-counts_sound
+small : (c : Else-not-counts_sound) → let s = session (start c) in (s.received ≤ limit) × (s.count ≤ s.received) × (s.count ≤ 8)
+small c = counts_known (words (start c)) (session (start c)) _ (past-counts c)
 
-abbrev start : Else-not-others_clear → Start
-start c = (goal.at.Else-not-others_clear c).Start
-
-few : (c : Else-not-others_clear) → let s = session (goal.at.Else-not-others_clear c).After-counts_sound in s.received - s.count ≤ limit
-few c = let s = session (goal.at.Else-not-others_clear c).After-counts_sound in
-    let b : s.received ≤ limit = (small (goal.at.Else-not-others_clear c).Else-not-counts_sound).0 in
+few : (c : Else-not-counts_sound) → consumed (session (start c)) ≤ limit
+few c =
+    let s = session (start c) in
+    let b : s.received ≤ limit = (small c).0 in
     omega arith
 
-past-others : (c : Else-not-others_clear) → sound_session (words (goal.at.Else-not-others_clear c).After-counts_sound) (session (goal.at.Else-not-others_clear c).After-counts_sound)
-    ≡ all_of (uses_test (words (goal.at.Else-not-others_clear c).After-counts_sound) (session (goal.at.Else-not-others_clear c).After-counts_sound) ∷ cond (is_open (session (goal.at.Else-not-others_clear c).After-counts_sound).status) (open_test (words (goal.at.Else-not-others_clear c).After-counts_sound) (session (goal.at.Else-not-others_clear c).After-counts_sound)) (ended_test (words (goal.at.Else-not-others_clear c).After-counts_sound) (session (goal.at.Else-not-others_clear c).After-counts_sound)) ∷ [])
-past-others c = session_parts (words (goal.at.Else-not-others_clear c).After-counts_sound) (session (goal.at.Else-not-others_clear c).After-counts_sound)
-    ∙ all_next _ (past-counts (goal.at.Else-not-others_clear c).Else-not-counts_sound)
-    ∙ all_next _ (passed c.others_clear.ensures (ap not c.if-not-others_clear.false))
+-- the tests after it
+rest : (c : Else-not-counts_sound) → let w = words (start c) in let s = session (start c) in
+    sound_session w s ≡ all_of (all (eqb 0) (drop s.count s.held) ∷ uses_test w s ∷ cond (is_open s.status) (open_test w s) (ended_test w s) ∷ [])
+rest c = session_parts (words (start c)) (session (start c)) ∙ all_next _ (past-counts c)
 
--- past the counts of uses, by the status
-past-uses : (c : Else-not-uses_sound) (x : Status) → (start (goal.at.Else-not-uses_sound c).Else-not-others_clear).args.kept.status ≡ x →
-    sound_session (words (goal.at.Else-not-uses_sound c).After-counts_sound) (session (goal.at.Else-not-uses_sound c).After-counts_sound) ≡ cond (is_open (meant_status x)) (open_test (words (goal.at.Else-not-uses_sound c).After-counts_sound) (session (goal.at.Else-not-uses_sound c).After-counts_sound)) (ended_test (words (goal.at.Else-not-uses_sound c).After-counts_sound) (session (goal.at.Else-not-uses_sound c).After-counts_sound))
-past-uses c x known = past-others (goal.at.Else-not-uses_sound c).Else-not-others_clear
+-- past all three, by the status
+past-uses : (c : Else-not-uses_sound) (x : Status) → let w = c.args.machine.words.all.now in let s = session_of (together c.args.kept c.args.uses.now) in
+    c.args.kept.status ≡ x → sound_session w s ≡ cond (is_open (meant_status x)) (open_test w s) (ended_test w s)
+past-uses c x known =
+    let w = c.args.machine.words.all.now in
+    let s = session_of (together c.args.kept c.args.uses.now) in
+    rest (goal.at.Else-not-uses_sound c).Else-not-counts_sound
+    ∙ all_next _ (passed (c.all_clear.ensures ∙ ap (all (eqb 0)) c.others.ensures) (ap not c.if-not-all_clear.false))
     ∙ all_next _ (passed c.uses_sound.ensures (ap not c.if-not-uses_sound.false))
     ∙ all_last _
-    ∙ ap (λ y. cond (is_open (meant_status y)) (open_test (words (goal.at.Else-not-uses_sound c).After-counts_sound) (session (goal.at.Else-not-uses_sound c).After-counts_sound)) (ended_test (words (goal.at.Else-not-uses_sound c).After-counts_sound) (session (goal.at.Else-not-uses_sound c).After-counts_sound))) known
-
-pub expansion-requires : goal.expansion-requires
-expansion-requires c = (sound_header_lem c.args.words.now c.requires.0).long
+    ∙ ap (λ y. cond (is_open (meant_status y)) (open_test w s) (ended_test w s)) known
 
 pub counts_sound-requires : goal.counts_sound-requires
-counts_sound-requires c = omega (arith, (sound_header_lem c.args.words.now c.requires.0).expansion, c.expansion.ensures)
+counts_sound-requires c = omega (arith, (sound_header_lem c.args.machine.words.all.now c.args.machine.sound).expansion, c.expansion.ensures)
 
 pub returns-then-not-counts_sound : goal.returns-then-not-counts_sound
-returns-then-not-counts_sound c = sym (session_parts (words (goal.at.returns-then-not-counts_sound c).After-counts_sound) (session (goal.at.returns-then-not-counts_sound c).After-counts_sound) ∙ all_stops _ (failed (counted (goal.at.returns-then-not-counts_sound c).After-counts_sound) (ap not c.if-not-counts_sound.true)))
-
-pub others_clear-requires : goal.others_clear-requires
-others_clear-requires c = (search rules, (small (goal.at.others_clear-requires c).Else-not-counts_sound).2)
-
-pub returns-then-not-others_clear : goal.returns-then-not-others_clear
-returns-then-not-others_clear c =
-    sym
-    (session_parts (words (goal.at.returns-then-not-others_clear c).After-counts_sound) (session (goal.at.returns-then-not-others_clear c).After-counts_sound)
-    ∙ all_next _ (past-counts (goal.at.returns-then-not-others_clear c).Else-not-counts_sound)
-    ∙ all_stops _ (failed c.others_clear.ensures (ap not c.if-not-others_clear.true)))
+returns-then-not-counts_sound c =
+    let k = (goal.at.returns-then-not-counts_sound c).After-counts_sound in
+    sym (session_parts (words k) (session k) ∙ all_stops _ (failed (counted k) (ap not c.if-not-counts_sound.true)))
 
 pub overflow_sub-consumed : goal.overflow_sub-consumed
 overflow_sub-consumed c = (small (goal.at.overflow_sub-consumed c).Else-not-counts_sound).1
 
-pub uses_sound-requires : goal.uses_sound-requires
-uses_sound-requires c = ((start (goal.at.uses_sound-requires c).Else-not-others_clear).requires.0, (start (goal.at.uses_sound-requires c).Else-not-others_clear).requires.1, few (goal.at.uses_sound-requires c).Else-not-others_clear)
+pub others-requires : goal.others-requires
+others-requires c = (small (goal.at.others-requires c).Else-not-counts_sound).2
 
-pub returns-then-not-uses_sound : goal.returns-then-not-uses_sound
-returns-then-not-uses_sound c = sym (past-others (goal.at.returns-then-not-uses_sound c).Else-not-others_clear ∙ all_stops _ (failed c.uses_sound.ensures (ap not c.if-not-uses_sound.true)))
+pub uses_sound-requires : goal.uses_sound-requires
+uses_sound-requires c = few (goal.at.uses_sound-requires c).Else-not-counts_sound
+
+pub returns-then-not-all_clear : goal.returns-then-not-all_clear
+returns-then-not-all_clear c =
+    let k = (goal.at.returns-then-not-all_clear c).Else-not-counts_sound in
+    let clear = c.all_clear.ensures ∙ ap (all (eqb 0)) c.others.ensures in
+    elim c.then-not-all_clear.branch [
+      | then-not-all_clear-via-then-not-all_clear w ↦ sym (rest k ∙ all_stops _ (failed clear (ap not w.if-not-all_clear.true)))
+      | then-not-all_clear-via-else-not-all_clear+then-not-uses_sound w ↦
+          sym (rest k ∙ all_next _ (passed clear (ap not w.if-not-all_clear.false)) ∙ all_stops _ (failed w.uses_sound.ensures (ap not w.if-not-uses_sound.true)))
+    ]
+
+pub held-requires : goal.held-requires
+held-requires c = (small (goal.at.held-requires c).Else-not-counts_sound).2
+
+-- there are as many as are counted
+held-count : (k : ℕ) (held : List ℕ) → k ≤ 8 → length held ≡ 8 → length (take k held) ≡ k
+held-count k held h e = length-take-le k held (omega arith)
 
 pub open_sound-requires : goal.open_sound-requires
-open_sound-requires c = ((start (goal.at.open_sound-requires c).Else-not-others_clear).requires.0, places (goal.at.open_sound-requires c).After-counts_sound, (small (goal.at.open_sound-requires c).Else-not-counts_sound).2, few (goal.at.open_sound-requires c).Else-not-others_clear)
+open_sound-requires c =
+    let k = (goal.at.open_sound-requires c).Else-not-counts_sound in
+    let n = held-count c.args.kept.held_count c.args.kept.held (small k).2 (search rules) in
+    (omega (arith, ap length c.held.ensures, (small k).2), few k)
 
 pub ended_sound-requires : goal.ended_sound-requires
-ended_sound-requires c = ((start (goal.at.ended_sound-requires c).Else-not-others_clear).requires.0, few (goal.at.ended_sound-requires c).Else-not-others_clear)
-
-pub ended_sound-requires-in-Stopped : goal.ended_sound-requires-in-Stopped
-ended_sound-requires-in-Stopped c = ((start (goal.at.ended_sound-requires-in-Stopped c).Else-not-others_clear).requires.0, few (goal.at.ended_sound-requires-in-Stopped c).Else-not-others_clear)
+ended_sound-requires c = few (goal.at.ended_sound-requires c).Else-not-counts_sound
 
 pub returns-in-Open : goal.returns-in-Open
-returns-in-Open c = c.open_sound.ensures ∙ sym (past-uses (goal.at.returns-in-Open c).Else-not-uses_sound Open c.in-Open.is)
+returns-in-Open c =
+    let k = (goal.at.returns-in-Open c).Else-not-counts_sound in
+    let n = held-count c.args.kept.held_count c.args.kept.held (small k).2 (search rules) in
+    let w = c.args.machine.words.all.now in
+    let s = session_of (together c.args.kept c.args.uses.now) in
+    c.open_sound.ensures
+    ∙ ap (λ h. all_of (stands_at (from_words w) s.state h ∷ leb s.steps ((longest_word w + 3) * consumed s + length h) ∷ [])) c.held.ensures
+    ∙ ap (λ m. all_of (stands_at (from_words w) s.state (take s.count s.held) ∷ leb s.steps ((longest_word w + 3) * consumed s + m) ∷ [])) n
+    ∙ sym (past-uses (goal.at.returns-in-Open c).Else-not-uses_sound Open c.in-Open.is)
 
 pub returns-in-Closed : goal.returns-in-Closed
-returns-in-Closed c = c.ended_sound.ensures ∙ sym (past-uses (goal.at.returns-in-Closed c).Else-not-uses_sound Closed c.in-Closed.is)
-
-pub returns-in-Stopped : goal.returns-in-Stopped
-returns-in-Stopped c = c.ended_sound-in-Stopped.ensures ∙ sym (past-uses (goal.at.returns-in-Stopped c).Else-not-uses_sound Stopped c.in-Stopped.is)
+returns-in-Closed c =
+    let k = (goal.at.returns-in-Closed c).Else-not-uses_sound in
+    elim c.in-Closed.is [
+      | inl e ↦ c.ended_sound.ensures ∙ sym (past-uses k Closed e)
+      | inr e ↦ c.ended_sound.ensures ∙ sym (past-uses k Stopped e)
+    ]

@@ -1,59 +1,78 @@
 -- `kept::may_wait` meets its contract: the mark, the unit and its target from state 0, one test after another.
 -- Assumes nothing.
-use Rattle.std.proofs.Common.{not, ap}
-use mathlib.Core.Bool.{Bool, ◌&&◌}
-use mathlib.Core.Path.{◌≡◌, sym, ap, subst, ◌∙◌}
+use Rattle.std.specs.Prelude.{Option, Some, None, is_none}
+use mathlib.Core.Bool.{Bool, true, false, not, ◌&&◌}
+use mathlib.Core.Path.{◌≡◌, refl, sym, ap, subst, ◌∙◌}
 use Prim.Native.Nat.{ℕ}
 use native.Mathlib.Omega.{arith}
 use borrow.Author.Tests.{eq-eqb, ne_eqb}
+use denote.Enum.Bare.{sameb}
 use lib.Dec.{eqb}
-use Rattle.lists.proofs.Laws.Tests.{passed, failed}
-use Rattle.meaning.specs.Table.{is_first}
+use Rattle.rules.specs.bridge.Modes.{the_mode}
+use Rattle.rules.specs.contracts.mode.Mode.{the_type}
+use Rattle.rules.specs.declared.mode.Mode.{Mode}
+use Rattle.rules.specs.declared.mode.Mode.TheVariants.{Absent, Single, Paired}
 use Rattle.automaton.specs.Sound.{target_word}
 use Rattle.automaton.specs.Automaton.{from_words}
 use Rattle.automaton.proofs.Laws.Words.{sound_header_lem, sound_class}
 use Rattle.reckoning.specs.Session.{is_paired}
 use Rattle.words.specs.bridge.Readings.{Leads}
+use Rattle.words.specs.declared.numbers.StateNo.{StateNo}
+use Rattle.session.proofs.Laws.Running.{mode_words}
 use Rattle.session.proofs.kept.may_wait.Goals as goal
-use Rattle.session.proofs.kept.may_wait.Goals.{After-target, Else-not-is_first, Else-not-is_marked, Start}
+use Rattle.session.proofs.kept.may_wait.Goals.{After-eq, After-target, then-eq, else-eq}
 
--- the target as the definition has it
-abbrev word : Start → ℕ
-word s = (from_words s.args.words.now).target 0 s.args.unit
+-- the mark is set
+paired : (m : Mode) → sameb the_type m Paired ≡ is_paired (the_mode m)
+paired Absent = refl
+paired Single = refl
+paired Paired = refl
 
-pub is_marked-requires : goal.is_marked-requires
-is_marked-requires c = (sound_header_lem c.args.words.now c.requires).long
+marked : (c : After-eq) → c.eq.result ≡ is_paired (from_words c.args.machine.words.all.now).default
+marked c = c.eq.ensures ∙ paired c.default_mode.result ∙ ap is_paired (c.default_mode.ensures ∙ mode_words c.args.machine.words.all.now)
 
-pub returns-then-not-is_marked : goal.returns-then-not-is_marked
-returns-then-not-is_marked c = sym (ap (λ b. b && (is_first c.args.unit && eqb (word (goal.at.returns-then-not-is_marked c).Start) 0)) (failed c.is_marked.ensures (ap not c.if-not-is_marked.true)))
+-- there is no target as the definition has it
+untargeted : (r : Option StateNo) (n : ℕ) → Leads r n → is_none r ≡ eqb n 0
+untargeted None n l = sym (eq-eqb n 0 l)
+untargeted (Some q) n l = sym (ne_eqb n 0 l.1)
 
--- past the mark, and past the unit
-abbrev asked : Start → Bool
-asked s = is_paired (from_words s.args.words.now).default && (is_first s.args.unit && eqb (word s) 0)
+un-not : (b x : Bool) → not b ≡ x → b ≡ not x
+un-not true x e = ap not e
+un-not false x e = ap not e
 
-past-mark : (c : Else-not-is_marked) (r : Bool) → r ≡ is_first c.args.unit && eqb (word (goal.at.Else-not-is_marked c).Start) 0 → r ≡ asked (goal.at.Else-not-is_marked c).Start
-past-mark c r e = e ∙ sym (ap (λ b. b && (is_first c.args.unit && eqb (word (goal.at.Else-not-is_marked c).Start) 0)) (passed c.is_marked.ensures (ap not c.if-not-is_marked.false)))
+leads : (t : After-target) → Leads t.target.result ((from_words t.args.machine.words.all.now).target 0 t.args.unit)
+unfolding from_words
+leads t = subst (λ k. Leads t.target.result (target_word t.args.machine.words.all.now 0 k)) t.class_of.ensures t.target.ensures
 
-pub returns-then-not-is_first : goal.returns-then-not-is_first
-returns-then-not-is_first c = past-mark (goal.at.returns-then-not-is_first c).Else-not-is_marked _ (sym (ap (λ b. b && eqb (word (goal.at.returns-then-not-is_first c).Start) 0) (failed c.is_first.ensures (ap not c.if-not-is_first.true))))
+-- three tests in a row
+past-two : {p q : Bool} (r : Bool) → p ≡ true → q ≡ true → p && (q && r) ≡ r
+past-two r e f = rw (e, f) refl
 
-past-unit : (c : Else-not-is_first) (r : Bool) → r ≡ eqb (word (goal.at.Else-not-is_first c).Start) 0 → r ≡ asked (goal.at.Else-not-is_first c).Start
-past-unit c r e = past-mark (goal.at.Else-not-is_first c).Else-not-is_marked r (e ∙ sym (ap (λ b. b && eqb (word (goal.at.Else-not-is_first c).Start) 0) (passed c.is_first.ensures (ap not c.if-not-is_first.false))))
+second-fails : {p q : Bool} (r : Bool) → p ≡ true → q ≡ false → p && (q && r) ≡ false
+second-fails r e f = rw (e, f) refl
+
+first-fails : {p : Bool} (r : Bool) → p ≡ false → p && r ≡ false
+first-fails r e = rw e refl
 
 pub target-requires : goal.target-requires
 target-requires c =
-    let w = c.args.words.now in
-    let h = sound_header_lem w c.requires in
-    let k = sound_class w c.requires c.args.unit in
-    let e = c.class_of.ensures in
-    (h.long, omega arith, omega (arith, h.few_classes, k, e))
+    let w = c.args.machine.words.all.now in
+    let h = sound_header_lem w c.args.machine.sound in
+    (omega arith, omega (arith, h.few_classes, sound_class w c.args.machine.sound c.args.unit, c.class_of.ensures))
 
-leads : (t : After-target) → Leads t.target.result (word (goal.at.After-target t).Start)
-unfolding from_words
-leads t = subst (λ k. Leads t.target.result (target_word t.args.words.now 0 k)) t.class_of.ensures t.target.ensures
+pub returns-then-is_first : goal.returns-then-is_first
+returns-then-is_first c =
+    let m = marked (goal.at.returns-then-is_first c).After-eq in
+    let none = un-not _ _ (sym c.is_none.ensures) ∙ untargeted _ _ (leads (goal.at.returns-then-is_first c).After-target) in
+    elim c.if-eq.branch [
+      | then-eq w ↦ none ∙ sym (past-two _ (sym m ∙ w.if-eq.true) (sym w.is_first.ensures ∙ sym w.value-is ∙ c.if-is_first.true))
+      | else-eq w ↦ cc
+    ]
 
-pub returns-in-Nowhere : goal.returns-in-Nowhere
-returns-in-Nowhere c = past-unit (goal.at.returns-in-Nowhere c).Else-not-is_first _ (sym (eq-eqb (word (goal.at.returns-in-Nowhere c).Start) 0 (subst (λ n. Leads n (word (goal.at.returns-in-Nowhere c).Start)) c.in-Nowhere.is (leads (goal.at.returns-in-Nowhere c).After-target))))
-
-pub returns-in-To : goal.returns-in-To
-returns-in-To c = past-unit (goal.at.returns-in-To c).Else-not-is_first _ (sym (ne_eqb (word (goal.at.returns-in-To c).Start) 0 (subst (λ n. Leads n (word (goal.at.returns-in-To c).Start)) c.in-To.is (leads (goal.at.returns-in-To c).After-target)).1))
+pub returns-else-is_first : goal.returns-else-is_first
+returns-else-is_first c =
+    let m = marked (goal.at.returns-else-is_first c).After-eq in
+    elim c.if-eq.branch [
+      | then-eq w ↦ c.if-is_first.false ∙ sym (second-fails _ (sym m ∙ w.if-eq.true) (sym w.is_first.ensures ∙ sym w.value-is ∙ c.if-is_first.false))
+      | else-eq w ↦ c.if-is_first.false ∙ sym (first-fails _ (sym m ∙ w.if-eq.false))
+    ]

@@ -1,95 +1,79 @@
--- `uses::uses_sound` meets its contract: the first test that fails decides, and past three what a lacking default or mark leaves unused.
--- The sum is what was consumed just where the default's count is what the rules and the pairs leave of it.
-use Rattle.std.proofs.Common.{not, ap}
-use mathlib.Core.Bool.{true, false}
-use mathlib.Core.Logic.{◌≢◌}
+-- `uses::uses_sound` meets its contract: the sum is what was consumed just where the default's count is what the rules and the pairs leave of it.
+-- Past the sum the tests of counts that the machine lacks decide.
+use mathlib.Core.Bool.{Bool}
+use mathlib.Core.List.{List}
 use mathlib.Core.Path.{◌≡◌, sym, ap, ◌∙◌}
-use Prim.Native.Nat.{ℕ, ◌+◌, ◌*◌, ◌<◌}
+use Prim.Native.Nat.{ℕ, ◌+◌, ◌-◌, ◌≤◌}
 use native.Mathlib.Omega.{arith}
-use borrow.Author.Tests.{eq-eqb, ne_eqb}
+use borrow.Author.Rules.{rules}
 use lib.Dec.{eqb}
 use lib.ListN.{take, drop}
-use Rattle.lists.specs.Lists.{all, sum_below}
-use Rattle.lists.proofs.Laws.Tests.{passed, failed, all_stops, all_next}
-use Rattle.meaning.specs.Table.{default_number, pair_number}
+use Rattle.std.specs.Prelude.{Some}
+use Rattle.std.specs.Option.{option_eq}
+use Rattle.std.proofs.lemmas.List.{drop-take}
+use Rattle.lists.specs.Lists.{all}
+use Rattle.lists.proofs.Laws.Tests.{all_stops, all_next}
+use Rattle.meaning.specs.Table.{default_number}
 use Rattle.meaning.specs.Block.{at}
-use Rattle.automaton.specs.Sound.{rule_count, block_at}
+use Rattle.automaton.specs.Sound.{rule_count}
 use Rattle.automaton.proofs.Laws.Words.{sound_header_lem}
 use Rattle.reckoning.specs.Uses.{characters_used, sound_uses}
-use Rattle.session.specs.bridge.Counting.{rest_of}
-use Rattle.session.proofs.Laws.Counting.{enough_less, lacking_less}
+use Rattle.session.proofs.Laws.Counting.{less_is}
 use Rattle.session.proofs.uses.uses_sound.Goals as goal
-use Rattle.session.proofs.uses.uses_sound.Goals.{After-others_unused, Else-singles-uses, In-Left, In-Left-without_rule, Start}
+use Rattle.session.proofs.uses.uses_sound.Goals.{After-eq, After-rule_count, then-eq, else-eq}
 
--- what the rules took, and with the default
-abbrev by_rules : Start → ℕ
-by_rules s = sum_below (rule_count s.args.words.now) (λ g. at s.args.uses.now g * at (block_at s.args.words.now g) 0)
+-- the sum is what was consumed
+sum : (c : After-eq) → c.eq.result ≡ eqb (characters_used c.args.machine.words.all.now c.args.uses.now) c.args.consumed
+unfolding characters_used
+sum c = let uses = c.args.uses.now in
+    c.eq.ensures
+    ∙ ap (λ o. option_eq eqb o (Some (at uses default_number))) c.left_to_default.ensures
+    ∙ less_is c.args.consumed _ (at uses default_number)
+    ∙ ap (λ n. eqb n c.args.consumed) (omega arith)
 
-abbrev used : Start → ℕ
-used s = characters_used s.args.words.now s.args.uses.now
+few : (c : After-rule_count) → c.rule_count.result ≤ 32
+few c = omega (arith, c.rule_count.ensures, (sound_header_lem c.args.machine.words.all.now c.args.machine.sound).few_rules)
 
-sum-fails : (s : Start) → used s ≢ s.args.consumed → false ≡ sound_uses s.args.words.now s.args.uses.now s.args.consumed
+pub offset_bounds-uses-rule_count : goal.offset_bounds-uses-rule_count
+offset_bounds-uses-rule_count c = omega (arith, few c)
+
+pub slice_bounds-all_unused-count : goal.slice_bounds-all_unused-count
+slice_bounds-all_unused-count c = few c
+
+pub slice_bounds-all_unused-start : goal.slice_bounds-all_unused-start
+slice_bounds-all_unused-start c = let h = few c in search rules
+
+-- the counts of the rules that the machine lacks
+others : (w uses : List ℕ) {r : Bool} {n : ℕ} → n ≡ rule_count w → n ≤ 32 → r ≡ all (eqb 0) (take (32 - n) (drop n uses)) →
+    r ≡ all (eqb 0) (drop (rule_count w) (take default_number uses))
+others w uses {r} {n} e b k =
+    let whole : n + (32 - n) ≡ 32 = omega arith in
+    k
+    ∙ ap (all (eqb 0)) (sym (drop-take n (32 - n) uses) ∙ ap (λ m. drop n (take m uses)) whole)
+    ∙ ap (λ m. all (eqb 0) (drop m (take 32 uses))) e
+
+pub returns-then-all_unused : goal.returns-then-all_unused
 unfolding sound_uses
-sum-fails s d = sym (all_stops _ (ne_eqb (used s) s.args.consumed d))
+returns-then-all_unused c =
+    let a = c.args in
+    let e = sum (goal.at.returns-then-all_unused c).After-eq in
+    let few = (sound_header_lem a.machine.words.all.now c.args.machine.sound).few_rules in
+    elim c.if-eq.branch [
+      | then-eq w ↦
+          let o = others a.machine.words.all.now a.uses.now w.rule_count.ensures (omega (arith, w.rule_count.ensures, few)) w.all_unused.ensures in
+          c.defaults_sound.ensures ∙ sym (all_next _ (sym e ∙ w.if-eq.true) ∙ all_next _ (sym o ∙ sym w.value-is ∙ c.if-all_unused.true))
+      | else-eq w ↦ cc
+    ]
 
--- what the rules leave, and then the pairs
-abbrev start : In-Left → Start
-start k = (goal.at.In-Left k).Start
-
-left-of : (k : In-Left) → by_rules (goal.at.In-Left k).Start + k.in-Left.left ≡ k.args.consumed
-left-of k = enough_less _ _ _ (sym k.without_rules.ensures ∙ ap rest_of k.in-Left.is)
-
-singles-of : (k : In-Left-without_rule) → at k.args.uses.now pair_number * 2 + k.in-Left-without_rule.singles ≡ k.in-Left.left
-singles-of k = enough_less _ _ _ (sym k.without_rule.ensures ∙ ap rest_of k.in-Left-without_rule.is)
-
-abbrev entry : Else-singles-uses → Start
-entry e = start (goal.at.Else-singles-uses e).In-Left
-
-others : (c : After-others_unused) → let a = (entry (goal.at.After-others_unused c).Else-singles-uses).args in
-    c.others_unused.result ≡ all (eqb 0) (drop (rule_count a.words.now) (take default_number a.uses.now))
-others c = let a = (entry (goal.at.After-others_unused c).Else-singles-uses).args in
-    c.others_unused.ensures ∙ ap (λ n. all (eqb 0) (drop n (take default_number a.uses.now))) c.rule_count.ensures
-
--- past the sum
-past-sum : (c : Else-singles-uses) → let s = entry c in eqb (used s) s.args.consumed ≡ true
-unfolding characters_used
-past-sum c = let s = entry c in
-    eq-eqb (used s) s.args.consumed (omega (arith, left-of (goal.at.Else-singles-uses c).In-Left, singles-of (goal.at.Else-singles-uses c).In-Left-without_rule, c.if-singles-uses.false))
-
-pub returns-in_default : goal.returns-in_default
-unfolding characters_used
-returns-in_default c =
-    let lacking : c.args.consumed < by_rules (goal.at.returns-in_default c).Start = lacking_less _ _ (sym c.without_rules.ensures ∙ ap rest_of c.in_default.is) in
-    sum-fails (goal.at.returns-in_default c).Start (omega arith)
-
-pub without_rule-requires : goal.without_rule-requires
-without_rule-requires c = (omega (arith, left-of (goal.at.without_rule-requires c).In-Left, c.requires.2), omega arith, omega arith)
-
-pub returns-in_default-without_rule : goal.returns-in_default-without_rule
-unfolding characters_used
-returns-in_default-without_rule c =
-    let lacking : c.in-Left.left < at c.args.uses.now pair_number * 2 = lacking_less _ _ (sym c.without_rule.ensures ∙ ap rest_of c.in_default-without_rule.is) in
-    sum-fails (goal.at.returns-in_default-without_rule c).Start (omega (arith, left-of (goal.at.returns-in_default-without_rule c).In-Left))
-
-pub returns-then-singles-uses : goal.returns-then-singles-uses
-unfolding characters_used
-returns-then-singles-uses c = sum-fails (goal.at.returns-then-singles-uses c).Start (omega (arith, left-of (goal.at.returns-then-singles-uses c).In-Left, singles-of (goal.at.returns-then-singles-uses c).In-Left-without_rule, c.if-singles-uses.true))
-
-pub rule_count-requires : goal.rule_count-requires
-rule_count-requires c = let s = entry (goal.at.rule_count-requires c).Else-singles-uses in (sound_header_lem s.args.words.now s.requires.0).long
-
-pub others_unused-requires : goal.others_unused-requires
-others_unused-requires c =
-    let s = entry (goal.at.others_unused-requires c).Else-singles-uses in
-    (s.requires.1, omega (arith, c.rule_count.ensures, (sound_header_lem s.args.words.now s.requires.0).few_rules))
-
-pub returns-then-not-others_unused : goal.returns-then-not-others_unused
+pub returns-else-all_unused : goal.returns-else-all_unused
 unfolding sound_uses
-returns-then-not-others_unused c = sym (all_next _ (past-sum (goal.at.returns-then-not-others_unused c).Else-singles-uses) ∙ all_stops _ (failed (others (goal.at.returns-then-not-others_unused c).After-others_unused) (ap not c.if-not-others_unused.true)))
-
-pub defaults_sound-requires : goal.defaults_sound-requires
-defaults_sound-requires c = (entry (goal.at.defaults_sound-requires c).Else-singles-uses).requires.0
-
-pub returns : goal.returns
-unfolding sound_uses
-returns c = c.defaults_sound.ensures ∙ sym (all_next _ (past-sum (goal.at.returns c).Else-singles-uses) ∙ all_next _ (passed (others (goal.at.returns c).After-others_unused) (ap not c.if-not-others_unused.false)))
+returns-else-all_unused c =
+    let a = c.args in
+    let e = sum (goal.at.returns-else-all_unused c).After-eq in
+    let few = (sound_header_lem a.machine.words.all.now c.args.machine.sound).few_rules in
+    elim c.if-eq.branch [
+      | then-eq w ↦
+          let o = others a.machine.words.all.now a.uses.now w.rule_count.ensures (omega (arith, w.rule_count.ensures, few)) w.all_unused.ensures in
+          c.if-all_unused.false ∙ sym (all_next _ (sym e ∙ w.if-eq.true) ∙ all_stops _ (sym o ∙ sym w.value-is ∙ c.if-all_unused.false))
+      | else-eq w ↦ c.if-all_unused.false ∙ sym (all_stops _ (sym e ∙ w.if-eq.false))
+    ]

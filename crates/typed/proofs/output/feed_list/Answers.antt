@@ -1,78 +1,53 @@
--- Expressions with commas between are read, and their records are fed.
--- What is fed behind the expressions so far is what is fed behind the first of them. Assumes nothing.
-use mathlib.Core.Path.{refl, sym, ◌∙◌}
-use native.Mathlib.Nat.{le_refl, le_trans}
+-- Expressions with commas between are read, and their records are fed. The invariant: what is read so far, and the expressions behind it, are the whole list.
+-- The measure is what is unread. Assumes nothing.
+use mathlib.Core.Path.{◌≡◌, sym, ap, ◌∙◌}
 use native.Mathlib.Omega.{arith}
+use borrow.Author.Tests.{eq-eqb, ne_eqb}
+use lib.ListN.{drop}
+use Rattle.expression.specs.bridge.Text.{map_read, skip, first, expression_of}
+use Rattle.typed.specs.bridge.Reader.{then_read}
+use Rattle.typed.specs.bridge.Stream.{feed_tree}
 use Rattle.typed.specs.bridge.Answers.{state_of}
-use Rattle.typed.proofs.Laws.Commas.{list_begins, list_goes_on, list_ends}
+use Rattle.typed.proofs.Laws.Readings.{place_none, place_some, no_place, place, gets_as}
+use Rattle.typed.proofs.Laws.Stages.{first_refused}
+use Rattle.typed.proofs.Laws.Turns.{onward_first, onward_turn, onward_refused, onward_end}
+use Rattle.typed.proofs.Laws.Commas.{left_more, first_fed, comma_fed, comma_none}
 use Rattle.typed.proofs.output.feed_list.Goals as goal
+use Rattle.typed.proofs.output.feed_list.Goals.{In-Some}
 
-pub comma-op-requires : goal.comma-op-requires
-comma-op-requires c = c.feed_expression-so_far.ensures.reads.to
+pub returns-in_err-next : goal.returns-in_err-next
+returns-in_err-next c =
+    let a = c.args in
+    rw c.from_residual.ensures (no_place (first_refused left_more (first_fed (state_of a.sink.now) (drop a.at a.s.now)) (place_none c.feed_expression.ensures c.in_err-next.was)))
 
-pub loop-op-init : goal.loop-op-init
-loop-op-init c =
-    let r = c.feed_expression-so_far.ensures in
-    record {
-      from = le_refl _;
-      to = r.reads.to;
-      array_length = refl;
-      buffer_length = refl;
-      ready = r.ready;
-      op = c.comma-op.ensures;
-      same = refl;
-    }
+pub loop-more-init : goal.loop-more-init
+loop-more-init c =
+    let a = c.args in
+    onward_first left_more (first_fed (state_of a.sink.now) (drop a.at a.s.now)) (place_some c.feed_expression.ensures c.in_ok-next.was)
 
-pub feed_expression-so_far-requires-in-loop-op : goal.feed_expression-so_far-requires-in-loop-op
-feed_expression-so_far-requires-in-loop-op c = let i = c.loop-op.invariant in record { at_in_bounds = i.op.to; ready = i.ready }
+-- behind a comma an expression is read, and then what is left
+turn : (c : In-Some) → (let i = c.loop-more in
+    left_more (state_of i.sink) (drop i.next c.args.s.now) ≡ then_read (map_read (λ t. feed_tree t (state_of i.sink)) (expression_of (drop c.in-Some.more c.args.s.now))) left_more)
+turn c =
+    let i = c.loop-more in
+    let t = drop i.next c.args.s.now in
+    let p = c.in-Some.ensures in
+    comma_fed (state_of i.sink) t (eq-eqb (first (skip t)) 44 p.0)
+    ∙ ap (λ u. then_read (map_read (λ t. feed_tree t (state_of i.sink)) (expression_of u)) left_more) (sym p.1.same)
 
-pub comma-op-requires-in-loop-op : goal.comma-op-requires-in-loop-op
-comma-op-requires-in-loop-op c = c.feed_expression-so_far-in-loop-op.ensures.reads.to
+pub returns-in_err-next-2 : goal.returns-in_err-next-2
+returns-in_err-next-2 c =
+    rw c.from_residual-in_err-next-2.ensures
+    (no_place (onward_refused left_more c.loop-more.invariant (turn (goal.at.returns-in_err-next-2 c).In-Some) (place_none c.feed_expression-in-Some.ensures c.in_err-next-2.was)))
 
-pub loop-op-smaller : goal.loop-op-smaller
-loop-op-smaller c =
-    let i = c.loop-op.invariant in
-    let f = i.op.from c.loop-op-test.true in
-    let g = c.feed_expression-so_far-in-loop-op.ensures.reads.from in
-    let l = c.feed_expression-so_far-in-loop-op.ensures.reads.to in
-    omega arith
-
-pub loop-op-preserved : goal.loop-op-preserved
-loop-op-preserved c =
-    let i = c.loop-op in
-    let r = c.feed_expression-so_far-in-loop-op.ensures in
-    let f = i.invariant.op.from c.loop-op-test.true in
-    let g = r.reads.from in
-    let b = i.invariant.from in
-    record {
-      from = omega arith;
-      to = r.reads.to;
-      array_length = c.feed_expression-so_far-in-loop-op.auto.loaded ∙ i.invariant.array_length;
-      buffer_length = c.feed_expression-so_far-in-loop-op.auto.buffer ∙ i.invariant.buffer_length;
-      ready = r.ready;
-      op = c.comma-op-in-loop-op.ensures;
-      same = list_goes_on c.args.s.now i.so_far i.loaded i.buffer i.op i.invariant.op c.loop-op-test.true _ _ _ r ∙ i.invariant.same;
-    }
-
-pub shape_of-loaded : goal.shape_of-loaded
-shape_of-loaded c = c.loop-op.invariant.array_length ∙ c.feed_expression-so_far.auto.loaded
-
-pub shape_of-buffer : goal.shape_of-buffer
-shape_of-buffer c = c.loop-op.invariant.buffer_length ∙ c.feed_expression-so_far.auto.buffer
+pub loop-more-preserved : goal.loop-more-preserved
+loop-more-preserved c =
+    let f = c.in-Some.ensures.1.from in
+    onward_turn left_more c.loop-more.invariant (turn (goal.at.loop-more-preserved c).In-Some)
+    (gets_as (omega arith) (λ h. h) (place_some c.feed_expression-in-Some.ensures c.in_ok-next-2.was))
 
 pub returns : goal.returns
 returns c =
-    let i = c.loop-op in
-    let a = c.args in
-    let r = c.feed_expression-so_far.ensures in
-    record {
-      reads = record {
-        from = le_trans r.reads.from i.invariant.from;
-        to = i.invariant.to;
-        same =
-            sym (list_ends a.s.now i.so_far i.loaded i.buffer i.op i.invariant.op c.loop-op-test.false)
-            ∙ i.invariant.same
-            ∙ list_begins a.s.now a.at (state_of a.sink a.loaded.now a.buffer.now) _ _ _ r;
-      };
-      ready = i.invariant.ready;
-    }
+    let i = c.loop-more in
+    let t = drop i.next c.args.s.now in
+    place (onward_end i.invariant (comma_none (state_of i.sink) t (ne_eqb (first (skip t)) 44 c.in_default.ensures)))

@@ -1,12 +1,16 @@
--- Expressions with commas between are read, and their records are fed.
--- What is fed behind the expressions so far is what is fed behind the first of them. Assumes nothing.
+-- Expressions with commas between are read, and their records are fed. The invariant: what is read so far, and the expressions behind it, are the whole list.
+-- The measure is what is unread. Assumes nothing.
 use Prim.Native.Nat.{◌-◌}
-use lib.ListN.{length}
-use Rattle.typed.proofs.Laws.Commas.{Listing}
+use lib.ListN.{length, drop}
+use Rattle.expression.specs.bridge.Text.{map_read, items, expression_of}
+use Rattle.typed.specs.bridge.Stream.{feed_outputs}
+use Rattle.typed.specs.bridge.Answers.{state_of}
+use Rattle.typed.proofs.Laws.Commas.{left_more}
+use Rattle.typed.proofs.Laws.Turns.{Onward}
 use Rattle.typed.proofs.output.feed_list.Given as goal
 
-abbrev pub invariant-loop-op : goal.invariant-loop-op
-invariant-loop-op l = Listing l.s l.initial.so_far l.initial.loaded l.initial.buffer l.so_far l.op l.loaded l.buffer
+abbrev pub invariant-loop-more : goal.invariant-loop-more
+invariant-loop-more l = Onward l.s l.at left_more (map_read (λ ts. feed_outputs ts (state_of l.fn.sink)) (items expression_of (drop l.at l.s))) l.next l.sink
 
-abbrev pub decreases-loop-op : goal.decreases-loop-op
-decreases-loop-op l = length l.s - l.so_far.next
+abbrev pub decreases-loop-more : goal.decreases-loop-more
+decreases-loop-more l = length l.s - l.next

@@ -1,107 +1,53 @@
 -- Output expressions in square brackets are read, or none, and their records are fed.
 -- The three ways through brackets. Assumes nothing.
-use mathlib.Core.Path.{sym, ap, ◌∙◌}
-use native.Mathlib.Nat.{le_trans}
+use mathlib.Core.Path.{◌≡◌, refl, sym, ap, ◌∙◌}
 use native.Mathlib.Omega.{arith}
 use lib.ListN.{drop}
-use Rattle.expression.specs.bridge.Text.{skip}
-use Rattle.expression.proofs.Laws.Places.{behind_at}
+use Rattle.expression.specs.bridge.Text.{got, map_read, skip, closed_by, expression_of, items, bracketed}
+use Rattle.expression.proofs.Laws.Places.{closed_refused}
+use Rattle.typed.specs.bridge.Stream.{feed_outputs}
 use Rattle.typed.specs.bridge.Answers.{state_of}
-use Rattle.typed.proofs.Laws.Words.{stands}
+use Rattle.typed.proofs.Laws.Readings.{place_none, place_some, no_place, place, placed_as}
 use Rattle.typed.proofs.Laws.Commas.{brackets_not, brackets_none, brackets_some}
+use Rattle.typed.proofs.Laws.Words.{closed_follows}
 use Rattle.typed.proofs.output.feed_outputs.Goals as goal
+use Rattle.typed.proofs.output.feed_outputs.Goals.{After-feed_list}
 
-pub returns-then-c-ne91 : goal.returns-then-c-ne91
-returns-then-c-ne91 c =
+pub returns-in_err-inside : goal.returns-in_err-inside
+returns-in_err-inside c =
     let a = c.args in
-    let k = c.skip-j in
-    let e = c.code_at-c.ensures in
-    record {
-      reads = record {
-        from = k.ensures.from;
-        to = k.ensures.to;
-        same = brackets_not (state_of a.sink a.loaded.now a.buffer.now) (drop a.at a.s.now) (drop k.result a.s.now) (sym k.ensures.same) (λ z. c.if-c-ne91.true (e ∙ z));
-      };
-      ready = c.requires.ready;
-    }
+    rw c.from_residual.ensures (no_place (brackets_not (state_of a.sink.now) (drop a.at a.s.now) _ refl c.in_err-inside.ensures))
 
-pub overflow_add-j : goal.overflow_add-j
-overflow_add-j c =
-    let l = stands c.args.s.now c.skip-j.result 91 _ (λ z. omega arith) c.code_at-c.ensures c.if-c-ne91.false in
-    let g = c.well_formed.0.0 in
-    omega arith
-
-pub skip-k-requires : goal.skip-k-requires
-skip-k-requires c =
-    let l = stands c.args.s.now c.skip-j.result 91 _ (λ z. omega arith) c.code_at-c.ensures c.if-c-ne91.false in
-    omega arith
-
-pub overflow_add-result : goal.overflow_add-result
-overflow_add-result c =
-    let l = stands c.args.s.now c.skip-k.result 93 _ (λ z. omega arith) c.code_at-d.ensures c.if-d-eq93.true in
-    let g = c.well_formed.0.0 in
-    omega arith
-
-pub returns-then-d-eq93 : goal.returns-then-d-eq93
-returns-then-d-eq93 c =
+pub returns-in-Some : goal.returns-in-Some
+returns-in-Some c =
     let a = c.args in
-    let j = c.skip-j in
-    let k = c.skip-k in
-    let e = c.code_at-d.ensures in
-    let l = stands a.s.now k.result 93 _ (λ z. omega arith) e c.if-d-eq93.true in
-    let f = j.ensures.from in
-    let h = k.ensures.from in
-    let st = state_of a.sink a.loaded.now a.buffer.now in
-    record {
-      reads = record {
-        from = omega arith;
-        to = omega arith;
-        same =
-            brackets_none st (drop a.at a.s.now) (drop j.result a.s.now) (sym j.ensures.same) (drop k.result a.s.now) (sym c.code_at-c.ensures ∙ c.if-c-ne91.false)
-            (ap skip (sym (behind_at a.s.now j.result)) ∙ sym k.ensures.same)
-            (sym e ∙ c.if-d-eq93.true)
-            (behind_at a.s.now k.result);
-      };
-      ready = c.requires.ready;
-    }
+    let p = c.in_ok-inside.ensures in
+    let q = c.in-Some.ensures in
+    let f = p.1.from in
+    let g = q.1.from in
+    place (record {
+      from = omega arith;
+      to = q.1.to;
+      is = brackets_none (state_of a.sink.now) (drop a.at a.s.now) _ refl _ p.0 (ap skip (sym p.1.same)) q.0 ∙ ap (got (state_of a.sink.now)) (sym q.1.same);
+    })
 
-pub overflow_add-j-2 : goal.overflow_add-j-2
-overflow_add-j-2 c =
-    let l = c.skip-k.ensures.from in
-    let k = c.skip-k.ensures.to in
-    let g = c.well_formed.0.0 in
-    omega arith
+-- there is an expression, and what closes the list behind them
+listed : (c : After-feed_list) → (let st = state_of c.args.sink.now in
+    map_read (λ ts. feed_outputs ts st) (bracketed expression_of (drop c.args.at c.args.s.now))
+    ≡ closed_by 93 (map_read (λ ts. feed_outputs ts st) (items expression_of (drop c.in_ok-inside.inside c.args.s.now))))
+listed c =
+    let a = c.args in
+    let st = state_of a.sink.now in
+    let p = c.in_ok-inside.ensures in
+    brackets_some st (drop a.at a.s.now) _ refl _ p.0 (ap skip (sym p.1.same)) c.in_default.ensures
+    ∙ ap (λ u. closed_by 93 (map_read (λ ts. feed_outputs ts st) (items expression_of u))) (sym p.1.same)
 
-pub feed_list-inner-requires : goal.feed_list-inner-requires
-feed_list-inner-requires c =
-    let k = c.skip-k.ensures in
-    record { at_in_bounds = le_trans k.from k.to; ready = c.requires.ready }
-
-pub closed-requires : goal.closed-requires
-closed-requires c = c.feed_list-inner.ensures.reads.to
+pub returns-in_err-listed : goal.returns-in_err-listed
+returns-in_err-listed c =
+    rw c.from_residual-in_err-listed.ensures
+    (no_place (listed (goal.at.returns-in_err-listed c).After-feed_list ∙ ap (closed_by 93) (place_none c.feed_list.ensures c.in_err-listed.was) ∙ closed_refused 93))
 
 pub returns : goal.returns
 returns c =
-    let k = c.skip-k in
-    let j = c.skip-j in
-    let a = c.args in
-    let q = c.feed_list-inner.ensures in
-    let r = c.closed.ensures.1 c.feed_list-inner.new.loaded c.feed_list-inner.new.buffer in
-    let f = j.ensures.from in
-    let g = q.reads.from in
-    let l = r.from in
-    let st = state_of a.sink a.loaded.now a.buffer.now in
-    record {
-      reads = record {
-        from = omega arith;
-        to = r.to;
-        same =
-            brackets_some st (drop a.at a.s.now) (drop j.result a.s.now) (sym j.ensures.same) (drop k.result a.s.now) (sym c.code_at-c.ensures ∙ c.if-c-ne91.false)
-            (ap skip (sym (behind_at a.s.now j.result)) ∙ sym k.ensures.same)
-            (λ z. c.if-d-eq93.false (c.code_at-d.ensures ∙ z))
-            (behind_at a.s.now j.result)
-            q.reads.same
-            r.same;
-      };
-      ready = rw c.closed.ensures.0 q.ready;
-    }
+    let f = c.in_ok-inside.ensures.1.from in
+    placed_as (closed_follows 93 c.behind-3.result (place_some c.feed_list.ensures c.in_ok-listed.was) c.behind-3.ensures) (omega arith) (sym (listed (goal.at.returns c).After-feed_list))

@@ -1,68 +1,60 @@
 -- `typed::pattern::feed_elements` meets its contract. The invariant: what is read so far, and then any number of elements, is the whole bracket.
--- The measure is what is unread, and whether the loop goes on. Assumes nothing.
-use mathlib.Core.Path.{refl, sym, ap, subst, ◌∙◌}
+-- The measure is what is unread. Assumes nothing.
+use mathlib.Core.Path.{◌≡◌, refl, sym, ◌∙◌}
+use native.Mathlib.Nat.{le_refl}
 use native.Mathlib.Omega.{arith}
+use borrow.Author.Tests.{eq-eqb, ne_eqb}
 use lib.ListN.{drop}
-use Rattle.expression.specs.bridge.Text.{map_read}
-use Rattle.typed.specs.declared.sink.Streamed.{Streamed}
-use Rattle.typed.specs.bridge.Reader.{then_read, element, ends_bracket, elements}
-use Rattle.typed.specs.bridge.Stream.{feed_range, feed_ranges}
-use Rattle.typed.specs.bridge.Answers.{state_of, Streams}
+use Rattle.expression.specs.bridge.Text.{map_read, first}
+use Rattle.typed.specs.bridge.Reader.{then_read, element, ends_bracket}
+use Rattle.typed.specs.bridge.Stream.{feed_range}
+use Rattle.typed.specs.bridge.Answers.{state_of}
 use Rattle.typed.proofs.Laws.Patterns.{element_strict}
-use Rattle.typed.proofs.Laws.Turns.{onward_turn, onward_end, onward_stop, fed_all, none_left, one_more, falls}
-use Rattle.typed.proofs.Laws.Brackets.{elements_fed, past_reads, past_ready}
+use Rattle.typed.proofs.Laws.Readings.{place_none, place_some, no_place, place, gets_as}
+use Rattle.typed.proofs.Laws.Turns.{onward_first, onward_turn, onward_refused, onward_end, fed_all, none_left, one_more, advances}
+use Rattle.typed.proofs.Laws.Brackets.{elements_fed, elements_refused, elements_none, past_closed}
 use Rattle.typed.proofs.pattern.feed_elements.Goals as goal
+use Rattle.typed.proofs.pattern.feed_elements.Goals.{In-loop-sink}
 
-pub loop-more-init : goal.loop-more-init
-loop-more-init c =
-    let f = c.feed_element-so_far.ensures in
-    (record { from = f.reads.from; to = f.reads.to; ready = f.ready; going = c.unclosed-more.ensures; same = refl }, refl, refl)
-
-pub feed_element-so_far-requires-in-loop-more : goal.feed_element-so_far-requires-in-loop-more
-feed_element-so_far-requires-in-loop-more c = record { at_in_bounds = c.loop-more.invariant.0.to; ready = c.loop-more.invariant.0.ready }
-
-pub loop-more-smaller : goal.loop-more-smaller
-loop-more-smaller c =
+pub returns-in_err-next : goal.returns-in_err-next
+returns-in_err-next c =
     let a = c.args in
-    let f = c.feed_element-so_far-in-loop-more.ensures in
-    rw c.loop-more-test.true (falls a.s.now element element_strict ends_bracket _ _ _ _ _ _ f.reads c.unclosed-more-in-loop-more.ensures)
+    rw c.from_residual.ensures (no_place (elements_none a.position (state_of a.sink.now) (drop a.at a.s.now) (place_none c.feed_element.ensures c.in_err-next.was)))
 
-pub loop-more-preserved : goal.loop-more-preserved
-loop-more-preserved c =
+pub loop-sink-init : goal.loop-sink-init
+loop-sink-init c = onward_first (fed_all element ends_bracket (feed_range c.args.position)) refl (place_some c.feed_element.ensures c.in_ok-next.was)
+
+-- a turn reads an element, and then what is left
+turn : (c : In-loop-sink) → (let i = c.loop-sink in let left = fed_all element ends_bracket (feed_range c.args.position) in
+    left (state_of i.sink) (drop i.next c.args.s.now) ≡ then_read (map_read (λ x. feed_range c.args.position x (state_of i.sink)) (element (drop i.next c.args.s.now))) left)
+turn c =
+    let i = c.loop-sink in
+    let t = drop i.next c.args.s.now in
+    one_more element ends_bracket (feed_range c.args.position) element_strict (state_of i.sink) t (ne_eqb (first t) 93 (λ z. c.loop-sink-test.true (c.code_at.ensures ∙ z)))
+
+pub returns-in_err-next-2 : goal.returns-in_err-next-2
+returns-in_err-next-2 c =
     let a = c.args in
-    let i = c.loop-more.invariant in
-    let f = c.feed_element-so_far-in-loop-more in (
-      onward_turn a.s.now ends_bracket (λ st t. map_read (λ x. feed_range a.position x st) (element t))
-          (one_more element ends_bracket (feed_range a.position) element_strict) _ _ _ _ i.0 c.loop-more-test.true f.ensures c.unclosed-more-in-loop-more.ensures,
-      f.auto.loaded ∙ i.1,
-      f.auto.buffer ∙ i.2,
-    )
+    rw c.from_residual-in_err-next-2.ensures
+    (no_place (elements_refused a.position (state_of a.sink.now) (drop a.at a.s.now)
+    (onward_refused _ c.loop-sink.invariant (turn (goal.at.returns-in_err-next-2 c).In-loop-sink) (place_none c.feed_element-in-loop-sink.ensures c.in_err-next-2.was))))
 
-pub past_bracket-requires : goal.past_bracket-requires
-past_bracket-requires c = let l = c.loop-more.invariant.0.to in let g = c.well_formed.0.1 in omega arith
+pub loop-sink-smaller : goal.loop-sink-smaller
+loop-sink-smaller c =
+    let g = place_some c.feed_element-in-loop-sink.ensures c.in_ok-next-2.was in
+    let l = advances element element_strict _ g in
+    let to = g.to in
+    omega arith
 
-pub shape_of-loaded : goal.shape_of-loaded
-shape_of-loaded c = c.loop-more.invariant.1 ∙ c.feed_element-so_far.auto.loaded
-
-pub shape_of-buffer : goal.shape_of-buffer
-shape_of-buffer c = c.loop-more.invariant.2 ∙ c.feed_element-so_far.auto.buffer
+pub loop-sink-preserved : goal.loop-sink-preserved
+loop-sink-preserved c =
+    onward_turn _ c.loop-sink.invariant (turn (goal.at.loop-sink-preserved c).In-loop-sink) (place_some c.feed_element-in-loop-sink.ensures c.in_ok-next-2.was)
 
 pub returns : goal.returns
 returns c =
     let a = c.args in
-    let s = a.s.now in
-    let st = state_of a.sink a.loaded.now a.buffer.now in
-    let i = c.loop-more in
-    let end = c.loop-more-test.false in
-    let f = c.feed_element-so_far.ensures in
-    let left = fed_all element ends_bracket (feed_range a.position) in
-    let r = past_reads s a.at i.so_far i.loaded i.buffer i.invariant.0.from i.invariant.0.to
-    (onward_stop s ends_bracket i.invariant.0 end)
-    (onward_end s ends_bracket (λ st. st) (λ _. none_left element ends_bracket (feed_range a.position)) i.invariant.0 end ∙ ap (λ d. then_read d left) f.reads.same) in
-    subst
-    (λ (x : Streamed). Streams s a.at (map_read (λ x. feed_ranges a.position x st) (elements (drop a.at s))) x i.loaded i.buffer)
-    (sym c.past_bracket.ensures)
-    (record {
-      reads = record { from = r.from; to = r.to; same = r.same ∙ sym (elements_fed a.position st (drop a.at s)) };
-      ready = past_ready s a.at i.so_far i.loaded i.buffer i.invariant.0.ready;
-    })
+    let i = c.loop-sink in
+    let t = drop i.next a.s.now in
+    let closes : first t ≡ 93 = sym c.code_at.ensures ∙ c.loop-sink-test.false in
+    let end = onward_end i.invariant (none_left element ends_bracket (feed_range a.position) (state_of i.sink) t (eq-eqb (first t) 93 closes)) in
+    place (gets_as (le_refl _) (λ e. elements_fed a.position (state_of a.sink.now) (drop a.at a.s.now) ∙ e) (past_closed closes end))

@@ -1,19 +1,16 @@
 -- `typed::pattern::feed_elements` meets its contract. The invariant: what is read so far, and then any number of elements, is the whole bracket.
--- The measure is what is unread, and whether the loop goes on. Assumes nothing.
-use mathlib.Core.Bool.{cond}
-use mathlib.Core.Path.{◌≡◌}
-use Prim.Native.Nat.{◌+◌, ◌-◌}
-use lib.ListN.{length}
-use Rattle.typed.specs.bridge.Reader.{then_read, element, ends_bracket}
+-- The measure is what is unread. Assumes nothing.
+use Prim.Native.Nat.{◌-◌}
+use lib.ListN.{length, drop}
+use Rattle.typed.specs.bridge.Reader.{element, ends_bracket}
 use Rattle.typed.specs.bridge.Stream.{feed_range}
-use Rattle.typed.specs.bridge.Answers.{read_state}
+use Rattle.typed.specs.bridge.Answers.{state_of}
+use Rattle.typed.proofs.Laws.Brackets.{fed_elements}
 use Rattle.typed.proofs.Laws.Turns.{Onward, fed_all}
 use Rattle.typed.proofs.pattern.feed_elements.Given as goal
 
-abbrev pub invariant-loop-more : goal.invariant-loop-more
-invariant-loop-more l = Onward l.s l.at ends_bracket (fed_all element ends_bracket (feed_range l.position))
-    (then_read (read_state l.s l.initial.so_far l.initial.loaded l.initial.buffer) (fed_all element ends_bracket (feed_range l.position))) l.so_far l.loaded l.buffer l.more
-    × (length l.loaded ≡ length l.initial.loaded) × (length l.buffer ≡ length l.initial.buffer)
+abbrev pub invariant-loop-sink : goal.invariant-loop-sink
+invariant-loop-sink l = Onward l.s l.at (fed_all element ends_bracket (feed_range l.position)) (fed_elements l.position (state_of l.fn.sink) (drop l.at l.s)) l.next l.sink
 
-abbrev pub decreases-loop-more : goal.decreases-loop-more
-decreases-loop-more l = (length l.s - l.so_far.next) + cond l.more 1 0
+abbrev pub decreases-loop-sink : goal.decreases-loop-sink
+decreases-loop-sink l = length l.s - l.next

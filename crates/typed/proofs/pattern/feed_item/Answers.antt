@@ -1,61 +1,43 @@
--- `typed::pattern::feed_item` meets its contract: behind `[` a bracket is fed, else a character.
+-- `typed::pattern::feed_item` meets its contract: behind `[` a bracket is fed, else a character, as a range of one.
 -- Assumes nothing.
-use mathlib.Core.List.{List}
-use mathlib.Core.Path.{◌≡◌, sym, ap, ◌∙◌}
-use Prim.Native.Nat.{ℕ}
+use mathlib.Core.Path.{refl, sym, ap, ◌∙◌}
 use native.Mathlib.Omega.{arith}
 use lib.ListN.{drop}
-use Rattle.meaning.specs.Table.{Range}
 use Rattle.expression.specs.bridge.Text.{map_read}
-use Rattle.expression.proofs.Laws.Places.{there, behind_at}
-use Rattle.expression.proofs.Laws.Folds.{map_map}
-use Rattle.typed.specs.Grammar.{in_quotes}
-use Rattle.typed.specs.bridge.Reader.{plain, elements, alone}
-use Rattle.typed.specs.bridge.Stream.{State, feed_ranges}
+use Rattle.expression.proofs.Laws.Places.{behind_at}
+use Rattle.typed.specs.bridge.Reader.{elements, alone}
+use Rattle.typed.specs.bridge.Stream.{feed, feed_ranges}
 use Rattle.typed.specs.bridge.Answers.{state_of}
+use Rattle.typed.proofs.Laws.Readings.{read_none, read_some, no_place, place, placed_as, fed_none, fed_one}
 use Rattle.typed.proofs.Laws.Ends.{item_bracket, item_character}
+use Rattle.typed.proofs.Laws.Words.{stands}
 use Rattle.typed.proofs.pattern.feed_item.Goals as goal
 
 pub feed_elements-requires : goal.feed_elements-requires
 feed_elements-requires c =
-    let a = c.args in
-    let e : ◌≡◌ {A = ℕ} _ 91 = sym c.code_at.ensures ∙ c.if-code_at-eq91.true in
-    let l = there a.s.now a.at (λ z. let w : ◌≡◌ {A = ℕ} 91 0 = sym e ∙ z in omega arith) in
-    record { at_in_bounds = omega arith; ready = c.requires.ready }
+    let l = stands c.args.s.now c.args.at 91 _ (λ z. omega arith) c.code_at.ensures c.if-code_at-eq-OPEN.true in
+    omega arith
 
-pub returns-then-code_at-eq91 : goal.returns-then-code_at-eq91
-returns-then-code_at-eq91 c =
+pub returns-then-code_at-eq-OPEN : goal.returns-then-code_at-eq-OPEN
+returns-then-code_at-eq-OPEN c =
     let a = c.args in
-    let s = a.s.now in
-    let feeding = map_read (λ x. feed_ranges a.position x (state_of a.sink a.loaded.now a.buffer.now)) in
-    let r = c.feed_elements.ensures in
-    let f = r.reads.from in
-    record {
-      reads = record {
-        from = omega arith;
-        to = r.reads.to;
-        same =
-            r.reads.same
-            ∙ ap (λ t. feeding (elements t)) (behind_at s a.at)
-            ∙ ap feeding (sym (item_bracket (drop a.at s) (sym c.code_at.ensures ∙ c.if-code_at-eq91.true)));
-      };
-      ready = r.ready;
-    }
+    let feeding = map_read (λ x. feed_ranges a.position x (state_of a.sink.now)) in
+    placed_as c.feed_elements.ensures (omega arith)
+    (ap (λ t. feeding (elements t)) (behind_at a.s.now a.at)
+    ∙ ap feeding (sym (item_bracket (drop a.at a.s.now) (sym c.code_at.ensures ∙ c.if-code_at-eq-OPEN.true))))
+
+pub returns-in_err-c : goal.returns-in_err-c
+returns-in_err-c c =
+    rw c.from_residual.ensures (no_place (fed_none _ (item_character (drop c.args.at c.args.s.now) (λ z. c.if-code_at-eq-OPEN.false (c.code_at.ensures ∙ z))
+    ∙ fed_none alone (read_none c.plain.ensures c.in_err-c.was))))
 
 pub returns : goal.returns
 returns c =
     let a = c.args in
-    let t = drop a.at a.s.now in
-    let feeding : List Range → State = λ x. feed_ranges a.position x (state_of a.sink a.loaded.now a.buffer.now) in
-    let r = c.feed_character.ensures in
-    record {
-      reads = record {
-        from = r.reads.from;
-        to = r.reads.to;
-        same =
-            r.reads.same
-            ∙ sym (map_map feeding alone (plain in_quotes t))
-            ∙ ap (map_read feeding) (sym (item_character t (λ z. c.if-code_at-eq91.false (c.code_at.ensures ∙ z))));
-      };
-      ready = r.ready;
-    }
+    let g = read_some c.plain.ensures c.in_ok-c.was in
+    place (record {
+      from = g.from;
+      to = g.to;
+      is = fed_one _ (item_character (drop a.at a.s.now) (λ z. c.if-code_at-eq-OPEN.false (c.code_at.ensures ∙ z)) ∙ fed_one alone g.is refl)
+          (c.feed.ensures ∙ ap (λ b. feed b (state_of a.sink.now)) c.range_record.ensures);
+    })

@@ -1,75 +1,62 @@
 -- `typed::pattern::feed_items` meets its contract. The invariant: what is read so far, and then the items that are left, is the whole of them.
--- The measure is how many may still come. Assumes nothing.
-use mathlib.Core.Path.{refl, sym, ◌∙◌}
-use Prim.Native.Nat.{◌-◌, ◌≤◌, ◌<◌}
+-- Assumes nothing.
+use mathlib.Core.Bool.{true}
+use mathlib.Core.List.{List}
+use mathlib.Core.Path.{◌≡◌, sym, subst, ◌∙◌}
+use Prim.Native.Nat.{ℕ, ◌-◌, ◌+◌, ◌≤◌}
 use native.Mathlib.Nat.{le_refl}
 use native.Mathlib.Omega.{arith}
 use lib.ListN.{drop}
-use Rattle.typed.specs.bridge.Reader.{ends_items}
-use Rattle.typed.specs.bridge.Answers.{state_of}
-use Rattle.typed.proofs.Laws.Turns.{onward_turn, onward_end, then_on, on_read}
-use Rattle.typed.proofs.Laws.Items.{items_left, one_item, items_none, items_turn, item_below, count_from}
+use Rattle.expression.specs.bridge.Text.{map_read}
+use Rattle.typed.specs.declared.sink.Sink.{Sink}
+use Rattle.typed.specs.bridge.Reader.{then_read, several, item, ends_items}
+use Rattle.typed.specs.bridge.Stream.{State}
+use Rattle.typed.specs.bridge.Answers.{state_of, counting}
+use Rattle.typed.proofs.Laws.Readings.{Gets, place_none, place_some, no_value, value, gets_as}
+use Rattle.typed.proofs.Laws.Turns.{Onward, onward_turn, onward_refused, onward_end}
+use Rattle.typed.proofs.Laws.Items.{items_left, one_item, items_none, items_turn, items_full, count_from}
 use Rattle.typed.proofs.pattern.feed_items.Goals as goal
-use Rattle.typed.proofs.pattern.feed_items.Goals.{In-loop-more}
+use Rattle.typed.proofs.pattern.feed_items.Goals.{Else-ends_items, After-loop-items}
 
-pub loop-more-init : goal.loop-more-init
-loop-more-init c = (
-  record { from = le_refl _; to = c.requires.at_in_bounds; ready = c.requires.ready; going = c.unended-more.ensures; same = refl },
-  λ _. omega arith,
-  omega arith,
-  refl,
-  refl,
-)
+-- the items end behind n of them
+ended : {s : List ℕ} {at next n : ℕ} (st : State) {k : Sink} → Onward s at (items_left (9 - n) n) (items_left 9 0 st (drop at s)) next k → n ≤ 8 → ends_items (drop next s) ≡ true →
+    Gets s at (map_read (counting st) (several item ends_items 9 (drop at s))) (state_of k, n) next
+ended {s} {at} {next} {n} st {k} on l e =
+    gets_as (le_refl _) (λ h. sym (count_from st (drop at s)) ∙ h) (onward_end on (items_none (9 - n) n (omega arith) (state_of k) (drop next s) e))
 
-pub feed_next-so_far-requires : goal.feed_next-so_far-requires
-feed_next-so_far-requires c = record { at_in_bounds = c.loop-more.invariant.0.to; ready = c.loop-more.invariant.0.ready }
+pub returns-then-ends_items : goal.returns-then-ends_items
+returns-then-ends_items c = value (ended _ c.loop-items.invariant (omega (arith, c.loop-items-test.true)) (sym c.ends_items.ensures ∙ c.if-ends_items.true))
 
--- a turn is made only where the last reading was not refused
-few : (c : In-loop-more) → c.loop-more.items ≤ 8
-few c = let i = c.loop-more in
-    i.invariant.1 (on_read ends_items i.so_far.refused (drop i.so_far.next c.args.s.now) (sym i.invariant.0.going ∙ c.loop-more-test.true))
+-- a turn reads an item, and then what is left
+turn : (c : Else-ends_items) → (let i = c.loop-items in let t = drop i.next c.args.s.now in
+    items_left (9 - i.items) i.items (state_of i.sink) t ≡ then_read (one_item i.items (state_of i.sink) t) (items_left (9 - (i.items + 1)) (i.items + 1)))
+turn c =
+    let i = c.loop-items in
+    items_turn i.items c.loop-items-test.true (state_of i.sink) (drop i.next c.args.s.now) (sym c.ends_items.ensures ∙ c.if-ends_items.false)
 
-pub overflow_add-items : goal.overflow_add-items
-overflow_add-items c = let l = few (goal.at.overflow_add-items c).In-loop-more in omega arith
-
-pub loop-more-smaller : goal.loop-more-smaller
-loop-more-smaller c = let l = few (goal.at.loop-more-smaller c).In-loop-more in omega arith
-
-pub loop-more-preserved : goal.loop-more-preserved
-loop-more-preserved c =
+pub returns-in_err-next : goal.returns-in_err-next
+returns-in_err-next c =
     let a = c.args in
-    let i = c.loop-more in
-    let f = c.feed_next-so_far in
-    let st = state_of i.so_far.sink i.loaded i.buffer in
-    let t = drop i.so_far.next a.s.now in
-    let l = few (goal.at.loop-more-preserved c).In-loop-more in (
-      onward_turn a.s.now ends_items (one_item i.items) (items_turn i.items l) _ _ _ _ i.invariant.0 c.loop-more-test.true f.ensures c.unended-more-in-loop-more.ensures,
-      (λ e. let b : i.items < 8 = item_below i.items st t f.ensures.reads e in omega arith),
-      omega arith,
-      f.auto.loaded ∙ i.invariant.3,
-      f.auto.buffer ∙ i.invariant.4,
-    )
+    rw c.from_residual.ensures
+    (no_value (sym (count_from (state_of a.sink.now) (drop a.at a.s.now))
+    ∙ onward_refused _ c.loop-items.invariant (turn (goal.at.returns-in_err-next c).Else-ends_items) (place_none c.feed_item.ensures c.in_err-next.was)))
 
-pub shape_of-loaded : goal.shape_of-loaded
-shape_of-loaded c = c.loop-more.invariant.3
+pub loop-items-preserved : goal.loop-items-preserved
+loop-items-preserved c = onward_turn _ c.loop-items.invariant (turn (goal.at.loop-items-preserved c).Else-ends_items) (place_some c.feed_item.ensures c.in_ok-next.was)
 
-pub shape_of-buffer : goal.shape_of-buffer
-shape_of-buffer c = c.loop-more.invariant.4
+-- behind the loop there are 8
+eight : (c : After-loop-items) → (let i = c.loop-items in Onward c.args.s.now c.args.at (items_left 1 8) (items_left 9 0 (state_of c.args.sink.now) (drop c.args.at c.args.s.now)) i.next i.sink)
+eight c =
+    let i = c.loop-items in
+    let e : i.items ≡ 8 = omega (arith, c.loop-items-test.false) in
+    subst (λ n. Onward c.args.s.now c.args.at (items_left (9 - n) n) (items_left 9 0 (state_of c.args.sink.now) (drop c.args.at c.args.s.now)) i.next i.sink) e i.invariant
 
-pub returns : goal.returns
-returns c =
+pub returns-then-ends_items-2 : goal.returns-then-ends_items-2
+returns-then-ends_items-2 c = value (ended _ (eight (goal.at.returns-then-ends_items-2 c).After-loop-items) (omega arith) (sym c.ends_items-2.ensures ∙ c.if-ends_items-2.true))
+
+pub returns-else-ends_items-2 : goal.returns-else-ends_items-2
+returns-else-ends_items-2 c =
     let a = c.args in
-    let s = a.s.now in
-    let st = state_of a.sink a.loaded.now a.buffer.now in
-    let i = c.loop-more in
-    record {
-      reads = record {
-        from = i.invariant.0.from;
-        to = i.invariant.0.to;
-        same =
-            onward_end s ends_items (λ x. (x, i.items)) (λ e. let l = i.invariant.1 e in items_none (9 - i.items) i.items (omega arith)) i.invariant.0 c.loop-more-test.false
-            ∙ then_on st (drop a.at s) (items_left 9 0)
-            ∙ count_from st (drop a.at s);
-      };
-      ready = i.invariant.0.ready;
-    }
+    let i = c.loop-items in
+    no_value (sym (count_from (state_of a.sink.now) (drop a.at a.s.now)) ∙ sym (eight (goal.at.returns-else-ends_items-2 c).After-loop-items).same
+    ∙ items_full (state_of i.sink) (drop i.next a.s.now) (sym c.ends_items-2.ensures ∙ c.if-ends_items-2.false))

@@ -1,103 +1,55 @@
--- `typed::pattern::feed_pattern` meets its contract: the first reading finds the items and leaves array and buffer, since an idle check takes no
--- record; the second feeds them behind the rule's record. Assumes nothing.
-use mathlib.Core.Path.{◌≡◌, refl, sym, ap, ◌∙◌}
-use mathlib.Core.Bool.{true}
-use mathlib.Core.List.{List}
-use Prim.Native.Nat.{ℕ}
+-- `typed::pattern::feed_pattern` meets its contract: the first reading finds the items and leaves the sink's array and buffer, since an idle check
+-- takes no record; the second feeds them behind the rule's record. Assumes nothing.
+use mathlib.Core.Path.{◌≡◌, refl, sym, ap, ap₂, subst, ◌∙◌}
 use native.Mathlib.Omega.{arith}
-use lib.ListN.{length, drop}
-use Rattle.meaning.specs.Refusal.{refused}
-use Rattle.meaning.proofs.Laws.Refusal.{accepted_not}
-use Rattle.typed.specs.bridge.Stream.{State, feed}
+use lib.ListN.{drop}
+use Rattle.meaning.specs.Refusal.{Outcome, refused}
+use Rattle.rules.specs.Answers.{outcome_of}
+use Rattle.rules.specs.declared.reader.Reader.{Reader}
+use Rattle.typed.specs.bridge.Stream.{State, Held, feed}
 use Rattle.typed.specs.bridge.Answers.{state_of}
-use Rattle.typed.specs.declared.sink.Sink.{Sink}
-use Rattle.typed.proofs.Laws.Readings.{read_none, read_some, refuses, gives, fed_none, fed_one}
+use Rattle.typed.proofs.Laws.Readings.{read_none, read_some, no_place, place, fed_none, fed_one}
 use Rattle.typed.proofs.Laws.Items.{Items, items_idle, items_read, items_again, pattern_none, pattern_unended, pattern_whole, pattern_fed, read_nothing}
 use Rattle.typed.proofs.pattern.feed_pattern.Goals as goal
+use Rattle.typed.proofs.pattern.feed_pattern.Goals.{In_ok-items}
 
--- the state of an idle check
-abbrev idle : List ℕ → List ℕ → State
-idle loaded buffer = record { fine = true; check = refused 0; loaded = loaded; count = 0; buffer = buffer }
+-- a state with another check
+abbrev checking : Outcome Reader → State → State
+checking o x = record { check = o; loaded = x.loaded; count = x.count; buffer = x.buffer; lent = x.lent }
 
--- reading into it leaves array and buffer
-left_alone : {t rest : List ℕ} {loaded buffer : List ℕ} {after : State} {count : ℕ} (first : Items t (idle loaded buffer) after count rest) → after ≡ idle loaded buffer
-left_alone {loaded = loaded} {buffer = buffer} first = sym first.fed ∙ items_idle 0 first.items (idle loaded buffer) 0 refl
+-- the items are read with an idle check, which leaves the rest as it was
+first : (c : In_ok-items) → Items (drop c.args.at c.args.s.now) (checking (refused 16) (state_of c.args.sink.now)) (state_of c.feed_items.new.sink) c.in_ok-items.items (drop c.in_ok-items.end c.args.s.now)
+first c = items_read (read_some c.feed_items.ensures c.in_ok-items.was)
 
--- so the rule's record is fed to the state as it was found
-begins : {t rest loaded buffer bytes rule : List ℕ} {after : State} {count : ℕ} {begun : State} → Items t (idle loaded buffer) after count rest →
-    (sink : Sink) → begun ≡ feed bytes (state_of sink after.loaded after.buffer) → bytes ≡ rule → begun ≡ feed rule (state_of sink loaded buffer)
-begins {rule = rule} {after = after} first sink e h =
-    e ∙ ap (λ c. feed c (state_of sink after.loaded after.buffer)) h ∙ ap (λ (x : State). feed rule (state_of sink x.loaded x.buffer)) (left_alone first)
+left_alone : (c : In_ok-items) → state_of c.feed_items.new.sink ≡ checking (refused 16) (state_of c.args.sink.now)
+left_alone c = sym (first c).fed ∙ items_idle 0 (first c).items (checking (refused 16) (state_of c.args.sink.now)) 16 refl
 
-pub feed_items-counted-requires : goal.feed_items-counted-requires
-feed_items-counted-requires c = record { at_in_bounds = c.requires.at_in_bounds; ready = record { sized = c.requires.ready.sized; reading = λ r e. absurd (accepted_not r 0 (sym e)) } }
+pub returns-in_err-items : goal.returns-in_err-items
+returns-in_err-items c =
+    rw c.from_residual.ensures (no_place (fed_none _ (pattern_none (drop c.args.at c.args.s.now) (read_nothing _ _ (read_none c.feed_items.ensures c.in_err-items.was)))))
 
-pub shape_of-loaded-then-first : goal.shape_of-loaded-then-first
-shape_of-loaded-then-first c = c.feed_items-counted.auto.loaded
+pub returns-in_err-anchored : goal.returns-in_err-anchored
+returns-in_err-anchored c =
+    rw c.from_residual-in_err-anchored.ensures
+    (no_place (fed_none _ (pattern_unended (drop c.args.at c.args.s.now) (first (goal.at.returns-in_err-anchored c).In_ok-items) (read_none c.ending.ensures c.in_err-anchored.was))))
 
-pub shape_of-buffer-then-first : goal.shape_of-buffer-then-first
-shape_of-buffer-then-first c = c.feed_items-counted.auto.buffer
-
-pub returns-then-first : goal.returns-then-first
-returns-then-first c =
-    let a = c.args in
-    let f = c.feed_items-counted.ensures in
-    record {
-      reads = refuses _ refl f.reads.from f.reads.to (fed_none _ (pattern_none (drop a.at a.s.now) (read_nothing _ _ (read_none f.reads c.if-first.true))));
-      ready = record { sized = f.ready.sized; reading = c.requires.ready.reading };
-    }
-
-pub ending-end-requires : goal.ending-end-requires
-ending-end-requires c = c.feed_items-counted.ensures.reads.to
-
-pub shape_of-loaded-then-end : goal.shape_of-loaded-then-end
-shape_of-loaded-then-end c = c.feed_items-counted.auto.loaded
-
-pub shape_of-buffer-then-end : goal.shape_of-buffer-then-end
-shape_of-buffer-then-end c = c.feed_items-counted.auto.buffer
-
-pub returns-then-end : goal.returns-then-end
-returns-then-end c =
-    let a = c.args in
-    let t = drop a.at a.s.now in
-    let f = c.feed_items-counted.ensures in
-    let first = items_read t (idle a.loaded.now a.buffer.now) f.reads c.if-first.false in
-    let e = c.ending-end.ensures in
-    let l = f.reads.from in
-    let m = e.from in
-    record {
-      reads = refuses _ refl (omega arith) e.to (fed_none _ (pattern_unended t first (read_none e c.if-end.true)));
-      ready = record { sized = f.ready.sized; reading = c.requires.ready.reading };
-    }
-
-pub feed-begun-requires : goal.feed-begun-requires
-feed-begun-requires c = record { bytes_len = ap length c.rule_record-record.ensures; ready_2 = record { sized = c.feed_items-counted.ensures.ready.sized; reading = c.requires.ready.reading } }
-
-pub feed_items-fed-requires : goal.feed_items-fed-requires
-feed_items-fed-requires c = record { at_in_bounds = c.requires.at_in_bounds; ready = c.feed-begun.ensures.ready }
-
-pub shape_of-loaded : goal.shape_of-loaded
-shape_of-loaded c = c.feed_items-fed.auto.loaded ∙ c.feed-begun.auto.loaded ∙ c.feed_items-counted.auto.loaded
-
-pub shape_of-buffer : goal.shape_of-buffer
-shape_of-buffer c = c.feed_items-fed.auto.buffer ∙ c.feed-begun.auto.buffer ∙ c.feed_items-counted.auto.buffer
+pub invariant_of-sink-2 : goal.invariant_of-sink-2
+invariant_of-sink-2 c =
+    record { ready = subst (λ n. Held (outcome_of c.args.sink.now.step) n) (sym (ap (λ (x : State). x.count) (left_alone (goal.at.invariant_of-sink-2 c).In_ok-items))) c.args.sink.now.ready }
 
 pub returns : goal.returns
 returns c =
     let a = c.args in
     let t = drop a.at a.s.now in
-    let found = idle a.loaded.now a.buffer.now in
-    let start = state_of a.sink a.loaded.now a.buffer.now in
-    let f = c.feed_items-counted.ensures in
-    let first = items_read t found f.reads c.if-first.false in
-    let e = c.ending-end in
-    let k = c.feed-begun.ensures in
-    let g = c.feed_items-fed.ensures in
-    let begun = begins first a.sink k.state c.rule_record-record.ensures in
-    let l = f.reads.from in
-    let m = e.ensures.from in
-    record {
-      reads = gives _ refl (omega arith) e.ensures.to
-          (fed_one _ (pattern_whole t first _ _ (read_some e.ensures c.if-end.false)) (pattern_fed t first start e.result.anchored begun (items_again t _ first.read g.reads)));
-      ready = g.ready;
-    }
+    let start = state_of a.sink.now in
+    let read = first (goal.at.returns c).In_ok-items in
+    let g = read_some c.feed_items.ensures c.in_ok-items.was in
+    let h = read_some c.ending.ensures c.in_ok-anchored.was in
+    let begun = c.feed.ensures ∙ ap₂ (λ b x. feed b (checking start.check x)) c.rule_record.ensures (left_alone (goal.at.returns c).In_ok-items) in
+    let f = g.from in
+    let l = h.from in
+    place (record {
+      from = omega arith;
+      to = h.to;
+      is = fed_one _ (pattern_whole t read _ _ h.is) (pattern_fed t read start c.in_ok-anchored.anchored begun (items_again c.feed_items-2.new.sink t _ c.feed_items-2.result read.read c.feed_items-2.ensures));
+    })

@@ -1,42 +1,39 @@
 -- `typed::pattern::plain` meets its contract: the ways through it are those through the definition.
 -- Assumes nothing.
-use mathlib.Core.Path.{refl, sym, ◌∙◌}
-use native.Mathlib.Omega.{arith}
-use Rattle.typed.specs.bridge.Answers.{special}
-use Rattle.typed.proofs.Laws.Readings.{read_none, read_some, refuses, gives, plain_none, plain_escaped, plain_special, plain_bare}
+use mathlib.Core.Bool.{Bool}
+use mathlib.Core.List.{List}
+use mathlib.Core.Path.{sym, ◌∙◌}
+use Prim.Native.Nat.{ℕ}
+use lib.Dec.{eqb}
+use Rattle.lists.specs.Lists.{any}
+use Rattle.expression.proofs.Laws.Steps.{further}
+use Rattle.typed.proofs.Laws.Readings.{read_none, read_some, no_value, value, contains_any, plain_none, plain_escaped, plain_special, plain_bare}
 use Rattle.typed.proofs.pattern.plain.Goals as goal
 
-pub returns-then-found : goal.returns-then-found
-returns-then-found c =
-    let a = c.args in
-    let f = c.any_character-found.ensures in
-    refuses _ c.if-found.true f.from f.to (plain_none (special a.bracket) _ (read_none f c.if-found.true))
+-- the test of a list of characters
+abbrev one_of : List ℕ → ℕ → Bool
+one_of w c = any (eqb c) w
 
-pub returns-then-found-eq92 : goal.returns-then-found-eq92
-returns-then-found-eq92 c =
-    let a = c.args in
-    let f = c.any_character-found.ensures in
-    let g = c.any_character.ensures in
-    let l = f.from in
-    let m = g.from in
-    record {
-      from = omega arith;
-      to = g.to;
-      same = g.same ∙ sym (plain_escaped (special a.bracket) _ _ _ (read_some f c.if-found.false) c.if-found-eq92.true);
-    }
+pub returns-in_err-c : goal.returns-in_err-c
+returns-in_err-c c = rw c.from_residual.ensures (no_value (plain_none (one_of c.args.special.now) _ (read_none c.any_character.ensures c.in_err-c.was)))
 
-pub returns-then-special : goal.returns-then-special
-returns-then-special c =
-    let a = c.args in
-    let f = c.any_character-found.ensures in
-    let e = c.special.ensures in
-    refuses _ refl f.from f.to
-    (plain_special (special a.bracket) _ _ _ (read_some f c.if-found.false) c.if-found-eq92.false (sym e ∙ c.if-special.true))
+pub returns-then-c-eq-BACKSLASH : goal.returns-then-c-eq-BACKSLASH
+returns-then-c-eq-BACKSLASH c =
+    let g = read_some c.any_character.ensures c.in_ok-c.was in
+    further g.from c.any_character-then-c-eq-BACKSLASH.ensures (sym (plain_escaped (one_of c.args.special.now) _ _ _ g.is c.if-c-eq-BACKSLASH.true))
+
+pub returns-then-contains : goal.returns-then-contains
+returns-then-contains c =
+    let g = read_some c.any_character.ensures c.in_ok-c.was in
+    no_value (plain_special (one_of c.args.special.now) _ _ _ g.is c.if-c-eq-BACKSLASH.false
+    (sym (contains_any c.args.special.now c.in_ok-c.c) ∙ sym c.contains.ensures.value ∙ c.if-contains.true))
 
 pub returns : goal.returns
 returns c =
-    let a = c.args in
-    let f = c.any_character-found.ensures in
-    let e = c.special.ensures in
-    gives _ c.if-found.false f.from f.to
-    (plain_bare (special a.bracket) _ _ _ (read_some f c.if-found.false) c.if-found-eq92.false (sym e ∙ c.if-special.false))
+    let g = read_some c.any_character.ensures c.in_ok-c.was in
+    value (record {
+      from = g.from;
+      to = g.to;
+      is = plain_bare (one_of c.args.special.now) _ _ _ g.is c.if-c-eq-BACKSLASH.false
+          (sym (contains_any c.args.special.now c.in_ok-c.c) ∙ sym c.contains.ensures.value ∙ c.if-contains.false);
+    })

@@ -8,6 +8,4 @@ use Rattle.typed.proofs.record.range_record.Goals as goal
 pub returns : goal.returns
 returns c =
     let a = c.args in
-    ap₂ (λ x y. 2 ∷ a.position ∷ 0 ∷ 0 ∷ (x ++ y))
-    (two_bytes a.lowest c.byte.ensures c.byte-2.ensures)
-    (two_bytes a.highest c.byte-3.ensures c.byte-4.ensures)
+    ap₂ (λ x y. 2 ∷ a.position ∷ 0 ∷ 0 ∷ (x ++ y)) (two_bytes a.lowest c.to_le_bytes-low.ensures) (two_bytes a.highest c.to_le_bytes-high.ensures)

@@ -1,72 +1,68 @@
 -- `text::survey` meets its contract: the lines are fed from an array of zeros on, and what is then held says what is answered.
 -- By what is known of a text read through. Assumes nothing.
-use mathlib.Core.Bool.{true}
+use mathlib.Core.Bool.{not}
 use mathlib.Core.List.{List, [], ◌∷◌}
-use mathlib.Core.Path.{◌≡◌, sym, ap, subst}
+use mathlib.Core.Path.{ap, ◌∙◌}
 use Prim.Native.Nat.{ℕ}
 use native.Mathlib.Omega.{arith}
-use borrow.Author.Tests.{not-true, not-false}
-use lib.ListN.{replicate}
+use Rattle.std.proofs.lemmas.Result.{err_from_is_err_and}
 use Rattle.meaning.specs.Table.{Characters}
-use Rattle.meaning.specs.bridge.Flat.{loaded_size}
-use Rattle.rules.specs.bridge.Readings.{step_of}
+use Rattle.rules.specs.Answers.{number_of, outcome_of}
 use Rattle.rules.proofs.Laws.Loading.{each_known}
-use Rattle.typed.specs.bridge.Stream.{State, Ready, nothing_read}
+use Rattle.typed.specs.bridge.Stream.{State}
 use Rattle.typed.specs.bridge.Answers.{state_of}
-use Rattle.typed.proofs.Laws.Surveyed.{start_ready, begun, Surveyed, outside, surveyed, beyond, unfit, end_fits, unfit_end, fit_end}
+use Rattle.typed.proofs.Laws.Surveyed.{zeros_lent, Surveyed, outside, surveyed, within, unfit, end_fits, unfit_end, fit_end}
 use Rattle.typed.proofs.Laws.Passes.{size_refused, size_accepted}
 use Rattle.typed.proofs.text.survey.Goals as goal
-use Rattle.typed.proofs.text.survey.Goals.{After-feed_lines-read, Else-not-sink, Else-read}
+use Rattle.typed.proofs.text.survey.Goals.{After-feed_lines, Else-is_none}
 
--- where the lines have been fed: the text, what is held, and that nothing was read before
-abbrev text : After-feed_lines-read → List ℕ
+-- where the lines have been fed: the text, and what is held
+abbrev text : After-feed_lines → List ℕ
 text l = l.args.text.now
 
-abbrev held : After-feed_lines-read → State
-held l = let fed = l.feed_lines-read in state_of fed.result.sink fed.new.loaded fed.new.buffer
+abbrev held : After-feed_lines → State
+held l = state_of l.feed_lines.new.sink
 
-characters : (l : After-feed_lines-read) → Characters (text l)
+characters : (l : After-feed_lines) → Characters (text l)
 characters l = each_known 65536 (text l) (λ i. omega (arith, l.shared_slice_known-1.given i))
 
-begins : (l : After-feed_lines-read) → state_of l.fresh.result (replicate loaded_size 0) (0 ∷ []) ≡ nothing_read (0 ∷ [])
-begins l = begun l.fresh.ensures (0 ∷ [])
+-- where 16 does not refuse them
+lines : (e : Else-is_none) → (lent : ℕ) × Surveyed (text (goal.at.Else-is_none e).After-feed_lines) (0 ∷ []) lent (held (goal.at.Else-is_none e).After-feed_lines)
+lines e = (_, surveyed e.feed_lines.new.sink (zeros_lent e.new-sink.ensures) e.feed_lines.ensures (e.is_none.ensures ∙ ap not e.if-is_none.false))
 
--- where 16 does not refuse them, and where 17 does not either
-lines : (e : Else-read) → Surveyed (text (goal.at.Else-read e).After-feed_lines-read) (0 ∷ []) (held (goal.at.Else-read e).After-feed_lines-read)
-lines e = surveyed (begins (goal.at.Else-read e).After-feed_lines-read) e.feed_lines-read.ensures e.if-read.false
+abbrev fed : Else-is_none → After-feed_lines
+fed d = (goal.at.Else-is_none d).After-feed_lines
 
-abbrev read : Else-not-sink → Else-read
-read d = (goal.at.Else-not-sink d).Else-read
+pub returns-then-is_none : goal.returns-then-is_none
+returns-then-is_none c = size_refused (outside c.feed_lines.new.sink (zeros_lent c.new-sink.ensures) c.feed_lines.ensures (c.is_none.ensures ∙ ap not c.if-is_none.true))
 
-abbrev fed : Else-not-sink → After-feed_lines-read
-fed d = (goal.at.Else-not-sink d).After-feed_lines-read
+pub returns-in_err-step : goal.returns-in_err-step
+returns-in_err-step c =
+    let p = err_from_is_err_and c.from_residual.result c.from_residual.ensures.1 in
+    let d = (goal.at.returns-in_err-step c).Else-is_none in
+    rw (p.1, p.2) (size_refused (unfit (lines d).1 (characters (fed d)) (number_of c.in_err-step.field-0.0) (ap outcome_of c.in_err-step.was)))
 
-fine : (d : Else-not-sink) → (held (fed d)).fine ≡ true
-fine d = not-false (held (fed d)).fine d.if-not-sink.false
+pub finish_load-requires-clause-rules_bound : goal.finish_load-requires-clause-rules_bound
+finish_load-requires-clause-rules_bound c =
+    let d = (goal.at.finish_load-requires-clause-rules_bound c).Else-is_none in
+    (end_fits (lines d).1 (within (lines d).1 c.in_ok-step.field-0 (ap outcome_of c.in_ok-step.was)) (characters (fed d)) c.in_ok-step.field-0 (ap outcome_of c.in_ok-step.was)).0
 
-pub feed_lines-read-requires : goal.feed_lines-read-requires
-feed_lines-read-requires c = subst Ready (sym (begun c.fresh.ensures (0 ∷ []))) (start_ready (0 ∷ []))
+pub finish_load-requires-clause-flat : goal.finish_load-requires-clause-flat
+finish_load-requires-clause-flat c =
+    let d = (goal.at.finish_load-requires-clause-flat c).Else-is_none in
+    (end_fits (lines d).1 (within (lines d).1 c.in_ok-step.field-0 (ap outcome_of c.in_ok-step.was)) (characters (fed d)) c.in_ok-step.field-0 (ap outcome_of c.in_ok-step.was)).1
 
-pub returns-then-read : goal.returns-then-read
-returns-then-read c = size_refused (outside (begins (goal.at.returns-then-read c).After-feed_lines-read) c.feed_lines-read.ensures c.if-read.true)
+pub returns-in_err-finish_load : goal.returns-in_err-finish_load
+returns-in_err-finish_load c =
+    let p = err_from_is_err_and c.from_residual-in_err-finish_load.result c.from_residual-in_err-finish_load.ensures.1 in
+    let d = (goal.at.returns-in_err-finish_load c).Else-is_none in
+    rw (p.1, p.2) (size_refused
+    (unfit_end (lines d).1 (within (lines d).1 c.in_ok-step.field-0 (ap outcome_of c.in_ok-step.was)) (characters (fed d)) c.in_ok-step.field-0 (ap outcome_of c.in_ok-step.was) (outcome_of c.finish_load.result) c.finish_load.ensures
+    (number_of c.in_err-finish_load.field-0.0) (ap outcome_of c.in_err-finish_load.was)))
 
-pub returns-then-not-sink : goal.returns-then-not-sink
-returns-then-not-sink c = size_refused (beyond (lines (goal.at.returns-then-not-sink c).Else-read) (not-true _ c.if-not-sink.true))
-
-pub finish_load-load-requires : goal.finish_load-load-requires
-finish_load-load-requires c =
-    let both = end_fits (lines (goal.at.finish_load-load-requires c).Else-read) (fine (goal.at.finish_load-load-requires c).Else-not-sink) (characters (fed (goal.at.finish_load-load-requires c).Else-not-sink)) c.in-Next.reader (ap step_of c.in-Next.is) in
-    record { rules_bound = both.0; flat = both.1 }
-
-pub returns-in-Refused : goal.returns-in-Refused
-returns-in-Refused c = size_refused (unfit (lines (goal.at.returns-in-Refused c).Else-read) (fine (goal.at.returns-in-Refused c).Else-not-sink) (characters (fed (goal.at.returns-in-Refused c).Else-not-sink)) c.in-Refused.number (ap step_of c.in-Refused.is))
-
-pub returns-in-Refused-load : goal.returns-in-Refused-load
-returns-in-Refused-load c =
-    size_refused
-    (unfit_end (lines (goal.at.returns-in-Refused-load c).Else-read) (fine (goal.at.returns-in-Refused-load c).Else-not-sink) (characters (fed (goal.at.returns-in-Refused-load c).Else-not-sink)) c.in-Next.reader (ap step_of c.in-Next.is) c.finish_load-load.result c.finish_load-load.ensures c.in-Refused-load.number c.in-Refused-load.is)
-
-pub returns-in-Accepted : goal.returns-in-Accepted
-returns-in-Accepted c =
-    let b = fit_end (lines (goal.at.returns-in-Accepted c).Else-read) (fine (goal.at.returns-in-Accepted c).Else-not-sink) (characters (fed (goal.at.returns-in-Accepted c).Else-not-sink)) c.in-Next.reader (ap step_of c.in-Next.is) c.finish_load-load.result c.finish_load-load.ensures c.in-Accepted.rules c.in-Accepted.mode c.in-Accepted.is in
+pub returns : goal.returns
+returns c =
+    let d = (goal.at.returns c).Else-is_none in
+    let b = fit_end (lines d).1 (within (lines d).1 c.in_ok-step.field-0 (ap outcome_of c.in_ok-step.was)) (characters (fed d)) c.in_ok-step.field-0 (ap outcome_of c.in_ok-step.was) (outcome_of c.finish_load.result) c.finish_load.ensures
+    c.in_ok-finish_load.field-0 (ap outcome_of c.in_ok-finish_load.was) in
     size_accepted b.1 b.2

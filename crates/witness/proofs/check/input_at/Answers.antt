@@ -34,12 +34,11 @@ input-is v places n false e f = λ i. record {
 
 pub word_to-length-requires : goal.word_to-length-requires
 unfolding pad
-word_to-length-requires c = (c.requires.0, c.requires.1, refl)
+word_to-length-requires c = (c.requires, refl)
 
-pub accept_at_end_word-requires : goal.accept_at_end_word-requires
-accept_at_end_word-requires c =
-    let h = sound_header_lem c.args.words.now c.requires.0 in
-    (h.long, omega (arith, h.few_states, c.requires.1))
+pub accept_at_end-requires : goal.accept_at_end-requires
+accept_at_end-requires c =
+    let few = (sound_header_lem c.args.machine.words.all.now c.args.machine.sound).few_states in omega arith
 
 pub overflow_add-length : goal.overflow_add-length
 overflow_add-length c = omega (arith, c.word_to-length.ensures.length.1)
@@ -65,8 +64,8 @@ pub returns : goal.returns
 returns c =
     let a = c.args in
     let t = c.word_to-length in
-    let v = word_to a.words.now a.state.0 in
-    let b : c.names.result ≡ eqb (accept_at_end_word a.words.now a.state.0) (suc a.rule) =
-    c.names.ensures ∙ ap (λ x. eqb x (suc a.rule)) c.accept_at_end_word.ensures in
+    let v = word_to a.machine.words.all.now a.state.0 in
+    let b : c.names.result ≡ eqb (accept_at_end_word a.machine.words.all.now a.state.0) (suc a.rule) =
+    c.names.ensures ∙ ap (λ x. eqb x (suc a.rule)) c.accept_at_end.ensures in
     input-is v _ c.if-not-names.length c.names.result t.ensures.places (counted (goal.at.returns c).Joined-not-names ∙ ap (λ m. m + cond c.names.result 0 1) t.ensures.length.0)
     ∙ ap (λ b. input_of (v ++ cond b [] (0 ∷ []))) b

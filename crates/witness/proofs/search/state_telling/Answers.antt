@@ -1,48 +1,26 @@
--- `search::state_telling` meets its contract. The invariant: the state looked for is that found from the state at hand on.
--- The measure is the states left. Assumes nothing.
-use mathlib.Core.Path.{◌≡◌, sym, ap, ◌∙◌}
-use Prim.Native.Nat.{suc, ◌+◌, ◌-◌}
-use native.Mathlib.Omega.{arith}
-use Rattle.automaton.specs.Sound.{state_count}
+-- `search::state_telling` meets its contract: the library's search of a range finds the first state that passes.
+-- Assumes nothing.
+use Rattle.std.proofs.Common.{rules, arith, ◌≡◌, ◌≤◌, ◌<◌, ℕ, Bool, true, false, ap, ◌∙◌}
+use borrow.Author.Tests.{tests}
+use Rattle.std.proofs.lemmas.Iterator.{first_from_Range, serves_from_Range}
+use Rattle.std.specs.Prelude.{option_map}
 use Rattle.automaton.proofs.Laws.Words.{sound_header_lem}
-use Rattle.witness.specs.bridge.Search.{first_from, telling}
-use Rattle.witness.proofs.Laws.Search.{first_here, first_on, first_end}
+use Rattle.witness.specs.bridge.Search.{telling, first_below}
+use Rattle.witness.proofs.Laws.Search.{first_is}
 use Rattle.witness.proofs.search.state_telling.Goals as goal
 
-pub state_count-states-requires : goal.state_count-states-requires
-state_count-states-requires c = (sound_header_lem c.args.words.now c.requires).long
+pub overflow_cast-states : goal.overflow_cast-states
+overflow_cast-states c = let few = (sound_header_lem c.args.machine.words.all.now c.args.machine.sound).few_states in omega arith
 
-pub loop-state-init : goal.loop-state-init
-loop-state-init c =
-    let w = c.args.words.now in
-    let h = sound_header_lem w c.requires in
-    let few = h.few_states in
-    let e : c.state_count-states.result ≡ state_count w = c.state_count-states.ensures in
-    let z : state_count w ≡ c.state_count-states.result - 0 = omega arith in
-    (h.long, omega arith, omega arith, ap (λ n. first_from 0 n (telling w c.args.rule)) z)
-
-pub tells-requires : goal.tells-requires
-tells-requires c = let i = c.loop-state.invariant in (i.0, omega arith)
-
-pub returns-then-tells : goal.returns-then-tells
-returns-then-tells c =
-    let a = c.args in
-    sym (c.loop-state.invariant.3 ∙ first_here (telling a.words.now a.rule) c.loop-state.state.0 c.state_count-states.result (omega arith) (sym c.tells.ensures ∙ c.if-tells.true))
-
-pub loop-state-preserved : goal.loop-state-preserved
-loop-state-preserved c =
-    let a = c.args in
-    let i = c.loop-state.invariant in
-    let n = c.state_count-states.result in
-    let s = c.loop-state.state.0 in
-    let z : suc s ≡ s + 1 = omega arith in (
-      i.0,
-      i.1,
-      omega arith,
-      i.3 ∙ first_on (telling a.words.now a.rule) s n (omega arith) (sym c.tells.ensures ∙ c.if-tells.false) ∙ ap (λ k. first_from k (n - k) (telling a.words.now a.rule)) z,
-    )
+pub find-requires-clause-callable : goal.find-requires-clause-callable
+find-requires-clause-callable c =
+    let few : c.state_count-states.result ≤ 256 = let h = (sound_header_lem c.args.machine.words.all.now c.args.machine.sound).few_states in omega arith in
+    serves_from_Range (λ x q k. search (rules, tests)) (λ x l h. let k : x < 256 = omega arith in λ y e _ _ _ _ _ _ _ _. omega (arith, k, e))
 
 pub returns : goal.returns
 returns c =
-    let a = c.args in
-    sym (c.loop-state.invariant.3 ∙ first_end (telling a.words.now a.rule) c.loop-state.state.0 c.state_count-states.result (omega arith))
+    let w = c.args.machine.words.all.now in
+    let p : ℕ → Bool = telling w c.args.rule in
+    let found = first_from_Range _ _ _ c.find.result (λ k. p k ≡ true) (λ k. p k ≡ false) c.find.ensures.ran (λ x q k. search (rules, tests)) (λ x q k. search (rules, tests)) in
+    let numbers : option_map (λ s. s.0) c.map.result ≡ c.find.result = search (rules, tests) in
+    numbers ∙ first_is p c.state_count-states.result c.find.result found ∙ ap (λ n. first_below n p) c.state_count-states.ensures

@@ -1,6 +1,5 @@
 -- `only_sums` meets its contract: the loop keeps that each entry before is a sum.
--- The measure is the number of the entries left.
-use Rattle.std.proofs.Common.{◌≡◌, ℕ, ◌+◌, ◌-◌, ◌*◌, ◌≤◌, Bool, true, eqb, List}
+use Rattle.std.proofs.Common.{◌≡◌, ℕ, ◌+◌, ◌*◌, Bool, true, eqb, List}
 use Rattle.lists.specs.Decide.{for_below}
 use Rattle.meaning.specs.Block.{at, entry_size}
 use Rattle.words.proofs.sound_words.only_sums.Given as goal
@@ -9,7 +8,4 @@ abbrev pub is_sum : List ℕ → ℕ → Bool
 is_sum b j = eqb (at b (3 + entry_size * j)) 0
 
 abbrev pub invariant-loop-entry : goal.invariant-loop-entry
-invariant-loop-entry l = (l.entry ≤ l.count) × (for_below l.entry (is_sum l.block) ≡ true)
-
-abbrev pub decreases-loop-entry : goal.decreases-loop-entry
-decreases-loop-entry l = l.count - l.entry
+invariant-loop-entry l = for_below l.entry (is_sum l.block) ≡ true
