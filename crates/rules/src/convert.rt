@@ -2,7 +2,7 @@
 ghost use Rattle.std.specs.Prelude.{◌≡◌, ◌+◌, ◌*◌, ◌<◌, ◌≤◌, max, ◌++◌, length, take, drop, if◌then◌else◌};
 ghost use Rattle.meaning.specs.Refusal.{accepted};
 ghost use Rattle.meaning.specs.Table.{present, least};
-ghost use Rattle.meaning.specs.Block.{at, block_size};
+ghost use Rattle.meaning.specs.Block.{at, block_size, blocks_size};
 ghost use Rattle.meaning.specs.Meaning.{covered};
 ghost use Rattle.meaning.specs.bridge.Flat.{size_at, count_at, expansion_at, flat_conversion, flat_write, flat_text, flat_direct};
 ghost use Rattle.meaning.specs.Direct.{over, checked, direct};
@@ -44,29 +44,38 @@ fn write_pair(rest: &[u16], output: &mut [u16], count: usize) -> usize
     count + 2
 }
 
-impl Loaded<'_> {
-    // The default's part of E: its output characters, and under the mark "E is then at least 1".
-    fn default_expansion(&self) -> usize
-        ensures { result ≡ max (least (the_mode self.now.mode))
-            (if present (the_mode self.now.mode) then at self.now.words.now (32 * block_size + 2) else 0) }
-    {
-        let count = usize::from(self.words[DEFAULT_OUTPUTS]);
-        match self.mode {
-            Mode::Absent => 0,
-            Mode::Single => count,
-            Mode::Paired => count.max(1),
-        }
+// The default's part of E: its output characters, and under the mark "E is then at least 1".
+fn default_expansion(blocks: &[u16], mode: Mode) -> usize
+    requires { blocks_size ≤ length blocks.now }
+    ensures { result ≡ max (least (the_mode mode)) (if present (the_mode mode) then at blocks.now (32 * block_size + 2) else 0) }
+{
+    let count = usize::from(blocks[DEFAULT_OUTPUTS]);
+    match mode {
+        Mode::Absent => 0,
+        Mode::Single => count,
+        Mode::Paired => count.max(1),
     }
+}
 
-    // E: the greatest number of output characters of the groups, and of the default where there is one.
+// E: the greatest number of output characters of the first `rules` groups, and of the default where there is one.
+pub fn expansion(blocks: &[u16], rules: usize, mode: Mode) -> usize
+    requires { (blocks_size ≤ length blocks.now) × (rules ≤ 32) }
+    ensures { result ≡ expansion_at blocks.now rules (the_mode mode) }
+{
+    let mut most = default_expansion(blocks, mode);
+    for group in 0..rules {
+        most = most.max(usize::from(blocks[BLOCK * group + 2]));
+    }
+    most
+}
+
+impl Loaded<'_> {
+    // E of a loaded table.
     pub fn expansion(&self) -> usize
         ensures { result ≡ expansion_at self.now.words.now self.now.rules (the_mode self.now.mode) }
     {
-        let mut most = self.default_expansion();
-        for group in 0..self.rules {
-            most = most.max(usize::from(self.words[BLOCK * group + 2]));
-        }
-        most
+        let words = self.words;
+        expansion(words, self.rules, self.mode)
     }
 
     // How many characters a group takes; a pair, which has no block, is two.

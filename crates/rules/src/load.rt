@@ -41,7 +41,7 @@ pub fn load_records(
 }
 
 // The refusals of the table's end, 4 and 5, and refusal 7 of the whole table.
-pub fn finish_load(reader: Reader, loaded: &[u16; LOADED]) -> Result<Load, Refusal>
+pub fn finish_load(reader: Reader, loaded: &[u16]) -> Result<Load, Refusal>
     requires rules_bound { reader.rules ≤ 32 }
     requires flat { gap reader ≡ false → 1 ≤ reader.rules → Flat loaded.now }
     ensures { outcome_of result ≡ end_of reader (safe_at loaded.now reader.rules (the_mode reader.mode)) }
@@ -54,11 +54,9 @@ pub fn finish_load(reader: Reader, loaded: &[u16; LOADED]) -> Result<Load, Refus
         return Err(Refusal::NoRule);
     }
     let mode = reader.mode;
-    let table = Loaded {
-        words: loaded,
-        rules,
-        mode,
-    };
+    // the array is one chunk of its length
+    let words = &loaded.as_chunks::<LOADED>().0[0];
+    let table = Loaded { words, rules, mode };
     if table.all_safe() {
         return Ok(Load { rules, mode });
     }

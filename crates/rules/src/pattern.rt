@@ -3,9 +3,10 @@ ghost use Rattle.std.specs.Prelude.{◌≡◌, ◌+◌, ◌*◌, ◌<◌, ◌≤
 ghost use Rattle.std.specs.Prelude.{None};
 ghost use Rattle.lists.specs.Lists.{tab_from};
 ghost use Rattle.meaning.specs.Table.{within, in_ranges};
+ghost use Rattle.meaning.specs.Block.{at};
 ghost use Rattle.meaning.specs.Value.{fits_word};
 ghost use Rattle.meaning.specs.Meaning.{fits, starts_pair, or_default, choose};
-ghost use Rattle.meaning.specs.bridge.Flat.{range_at, ranges_at, group_at, table_at};
+ghost use Rattle.meaning.specs.bridge.Flat.{slots_from, loaded_size, range_at, ranges_at, group_at, table_at};
 ghost use Rattle.rules.specs.bridge.Modes.{the_mode};
 
 use crate::layout::{BLOCK, DEFAULT_GROUP, PAIR_GROUP, RANGES_FROM, SLOTS_FROM};
@@ -38,27 +39,55 @@ pub struct Range {
     pub highest: u16,
 }
 
+// Range `k` of a place: position p of group g has place 8 g + p.
+fn range_of(loaded: &[u16], place: usize, k: usize) -> Range
+    requires { (place < 33 * 8) × (k < 4) × (length loaded.now ≡ loaded_size) }
+    ensures lowest { result.lowest ≡ (range_at loaded.now place k).lowest }
+    ensures highest { result.highest ≡ (range_at loaded.now place k).highest }
+{
+    let at = RANGES_FROM + 8 * place + 2 * k;
+    Range {
+        lowest: loaded[at],
+        highest: loaded[at + 1],
+    }
+}
+
+// The character lies in range `k` of a place.
+fn in_range(loaded: &[u16], place: usize, k: usize, c: u16) -> bool
+    requires { (place < 33 * 8) × (k < 4) × (length loaded.now ≡ loaded_size) }
+    ensures { result ≡ within c (range_at loaded.now place k) }
+{
+    let range = range_of(loaded, place, k);
+    range.lowest <= c && c <= range.highest
+}
+
+// The character lies in the ranges of a place of a loaded array.
+pub fn in_ranges(loaded: &[u16], place: usize, c: u16) -> bool
+    requires { (place < 33 * 8) × (length loaded.now ≡ loaded_size) × (at loaded.now (slots_from + place) ≤ 4) }
+    ensures { result ≡ in_ranges (ranges_at loaded.now place) c }
+{
+    let count = usize::from(loaded[SLOTS_FROM + place]);
+    // most positions have one range
+    if count == 1 {
+        return in_range(loaded, place, 0, c);
+    }
+    for k in 0..count {
+        if in_range(loaded, place, k, c) {
+            return true;
+        }
+    }
+    false
+}
+
 impl Loaded<'_> {
-    // Range `k` of a place: position p of group g has place 8 g + p.
+    // Range `k` of a place.
     pub fn range(&self, place: usize, k: usize) -> Range
         requires { (place < 33 * 8) × (k < 4) }
         ensures lowest { result.lowest ≡ (range_at self.now.words.now place k).lowest }
         ensures highest { result.highest ≡ (range_at self.now.words.now place k).highest }
     {
-        let at = RANGES_FROM + 8 * place + 2 * k;
-        Range {
-            lowest: self.words[at],
-            highest: self.words[at + 1],
-        }
-    }
-
-    // The character lies in range `k` of a place.
-    fn in_range(&self, place: usize, k: usize, c: u16) -> bool
-        requires { (place < 33 * 8) × (k < 4) }
-        ensures { result ≡ within c (range_at self.now.words.now place k) }
-    {
-        let range = self.range(place, k);
-        range.lowest <= c && c <= range.highest
+        let words = self.words;
+        range_of(words, place, k)
     }
 
     // The character lies in the ranges of a place.
@@ -66,17 +95,8 @@ impl Loaded<'_> {
         requires { place < 33 * 8 }
         ensures { result ≡ in_ranges (ranges_at self.now.words.now place) c }
     {
-        let count = usize::from(self.words[SLOTS_FROM + place]);
-        // most positions have one range
-        if count == 1 {
-            return self.in_range(place, 0, c);
-        }
-        for k in 0..count {
-            if self.in_range(place, k, c) {
-                return true;
-            }
-        }
-        false
+        let words = self.words;
+        in_ranges(words, place, c)
     }
 
     // Each character of the word lies in the ranges of its place; the first one's is `place`.

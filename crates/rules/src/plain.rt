@@ -1,5 +1,6 @@
 // Plain characters, which begin no rule: where one is next, no rule can fit, and the choice is the default, a pair or nothing.
-ghost use Rattle.std.specs.Prelude.{◌≡◌, ◌<◌, length};
+ghost use Rattle.std.specs.Prelude.{◌≡◌, ℕ, ◌*◌, ◌<◌, ◌≤◌, length};
+ghost use Rattle.meaning.specs.Block.{at, block_size};
 ghost use Rattle.meaning.specs.Meaning.{choose};
 ghost use Rattle.meaning.specs.bridge.Flat.{table_at};
 ghost use Rattle.rules.specs.bridge.Modes.{the_mode};
@@ -38,19 +39,29 @@ impl Loaded<'_> {
         }
         marks
     }
+
+    // The group chosen for the rest of an input, at once where the next character is marked.
+    pub fn choose_marked(&self, marks: &[bool; MARKS], rest: &[u16]) -> Option<usize>
+        requires by_index { (g : ℕ) → g < self.now.rules → 1 ≤ at self.now.words.now (block_size * g) }
+        requires rest_bound { 0 < length rest.now }
+        requires marked { Marked self.now.words.now self.now.rules marks.now }
+        ensures { result ≡ choose (table_at self.now.words.now self.now.rules (the_mode self.now.mode)) rest.now }
+    {
+        let c = usize::from(rest[0]);
+        if c < MARKS && marks[c] {
+            return fall(self.mode, rest);
+        }
+        self.choose_at(rest)
+    }
 }
 
 impl Accepted<'_> {
-    // The group chosen for the rest of an input, at once where the next character is marked.
+    // The same choice of an accepted table, whose rules all have characters.
     pub fn choose_marked(&self, marks: &[bool; MARKS], rest: &[u16]) -> Option<usize>
         requires rest_bound { 0 < length rest.now }
         requires marked { Marked self.now.table.words.now self.now.table.rules marks.now }
         ensures { result ≡ choose (table_at self.now.table.words.now self.now.table.rules (the_mode self.now.table.mode)) rest.now }
     {
-        let c = usize::from(rest[0]);
-        if c < MARKS && marks[c] {
-            return fall(self.table.mode, rest);
-        }
-        self.table.choose_at(rest)
+        self.table.choose_marked(marks, rest)
     }
 }

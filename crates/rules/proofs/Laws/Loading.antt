@@ -1,6 +1,6 @@
 -- Loading a table: how far its records have been taken, what the refusals of its end leave, and that the check's answer is the definition's.
 -- Each record that is taken leaves the same work before and after; at the end the array is that of the table that is read.
-use Rattle.std.proofs.Common.{◌≡◌, ℕ, zero, suc, ◌+◌, ◌*◌, ◌/◌, ◌%◌, ◌<◌, ◌≤◌, Bool, true, false, not, eqb, List, [], ◌∷◌, length, get_or, take, drop, sym, refl, ap, ◌∙◌, subst, arith, take-append-drop, drop-drop, eq-eqb, ne_eqb}
+use Rattle.std.proofs.Common.{◌≡◌, ℕ, zero, suc, ◌+◌, ◌*◌, ◌/◌, ◌%◌, ◌<◌, ◌≤◌, Bool, true, false, not, eqb, List, [], ◌∷◌, length, get_or, take, drop, sym, refl, ap, ◌∙◌, subst, arith, take-append-drop, drop-drop, take_all, eq-eqb, ne_eqb}
 use Rattle.std.specs.Prelude.{Option, None, Some}
 use Rattle.std.specs.Simd.{first_chunks}
 use Rattle.lists.specs.Lists.{Each, pad}
@@ -208,3 +208,9 @@ module _ (b : List ℕ) (bytes : Each (λ x. x < 256) b) {first : List ℕ} (zer
       pub end_loaded : (r : Outcome Load) → r ≡ end_of reader (safe_at m reader.rules (the_mode reader.mode)) →
           LoadedBy (read_table b) r m
       end_loaded r e = subst (λ x. LoadedBy (read_table b) x m) (sym e) (of_reading EndLoads loads_read)
+
+-- an array of a loaded table's length is its first chunk of that length
+pub only_chunk : (b : List ℕ) → length b ≡ loaded_size → get_or (first_chunks loaded_size (length b / loaded_size) b) 0 [] ≡ b
+only_chunk b e =
+    let one : length b / loaded_size ≡ 1 = omega (arith, e) in
+    rw one (take_all loaded_size b (omega (arith, e)))

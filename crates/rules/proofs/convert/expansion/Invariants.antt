@@ -2,7 +2,7 @@
 -- Assumes nothing.
 use Rattle.std.proofs.Common.{◌≡◌}
 use Rattle.meaning.specs.bridge.Flat.{expansion_from}
-use Rattle.rules.proofs.loaded.Loaded.expansion.Given as goal
+use Rattle.rules.proofs.convert.expansion.Given as goal
 
 abbrev pub invariant-loop-group : goal.invariant-loop-group
-invariant-loop-group l = l.most ≡ expansion_from l.self.words.now l.group l.initial.most
+invariant-loop-group l = l.most ≡ expansion_from l.blocks l.group l.initial.most

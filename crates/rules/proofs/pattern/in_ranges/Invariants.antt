@@ -4,7 +4,7 @@ use Rattle.std.proofs.Common.{◌≡◌}
 use Rattle.meaning.specs.Table.{in_ranges}
 use Rattle.meaning.specs.bridge.Flat.{ranges_at}
 use Rattle.meaning.proofs.Laws.Choosing.{in_from}
-use Rattle.rules.proofs.loaded.Loaded.in_ranges.Given as goal
+use Rattle.rules.proofs.pattern.in_ranges.Given as goal
 
 abbrev pub invariant-loop-k : goal.invariant-loop-k
-invariant-loop-k l = in_ranges (ranges_at l.self.words.now l.place) l.c ≡ in_from l.self.words.now l.place l.c l.k
+invariant-loop-k l = in_ranges (ranges_at l.loaded l.place) l.c ≡ in_from l.loaded l.place l.c l.k

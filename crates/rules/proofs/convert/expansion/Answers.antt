@@ -2,7 +2,7 @@
 -- Assumes nothing.
 use Rattle.std.proofs.Common.{refl, add-one}
 use Rattle.meaning.specs.bridge.Flat.{expansion_from}
-use Rattle.rules.proofs.loaded.Loaded.expansion.Goals as goal
+use Rattle.rules.proofs.convert.expansion.Goals as goal
 
 pub loop-group-init : goal.loop-group-init
 unfolding expansion_from
