@@ -3,6 +3,8 @@ ghost use Rattle.std.specs.Prelude.{◌≡◌, ◌+◌, ◌*◌};
 ghost use Rattle.meaning.specs.Record.{decode};
 ghost use Rattle.rules.specs.bridge.Readings.{record_of};
 
+use crate::layout::number_of_halves;
+
 #[derive(Clone, Copy, Debug, PartialEq, Eq)]
 pub enum Record {
     Rule {
@@ -56,7 +58,7 @@ impl Record {
                 })
             }
             [3, 0, 0, 0, a, b, c, d] => Some(Record::Output {
-                constant: u32::from(word(a, b)) + 65536 * u32::from(word(c, d)),
+                constant: number_of_halves(word(a, b), word(c, d)),
             }),
             [4, position @ 0..=7, 0, 0, a, b, 0, 0] if word(a, b) != 0 => Some(Record::Term {
                 position,
