@@ -22,7 +22,9 @@ pub struct Load {
     pub mode: Mode,
 }
 
-// Records in turn, "each by 2, 3, 4, 6", behind those that the summary is of.
+// Records in turn, "each by 2, 3, 4, 6", behind those that the summary is of. It is inlined, and in it what takes a record: as functions of their
+// own they pass the summary through memory at each record, which takes half as many instructions more.
+#[inline(always)]
 pub fn load_records(
     reader: Reader,
     table: &[u8],

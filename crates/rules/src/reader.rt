@@ -332,7 +332,8 @@ impl Reader {
         })
     }
 
-    // One record, by 2, 3, 4 and 6.
+    // One record, by 2, 3, 4 and 6. It is inlined with `load_records`.
+    #[inline(always)]
     pub fn take_record(
         self,
         record: Option<Record>,

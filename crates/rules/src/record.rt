@@ -40,7 +40,8 @@ fn word(low: u8, high: u8) -> u16
 }
 
 impl Record {
-    // The record of eight bytes: its kind first, and none where refusal 2 is due.
+    // The record of eight bytes: its kind first, and none where refusal 2 is due. It is inlined with `load_records`.
+    #[inline(always)]
     #[tactic(auto, using(crate::proofs::Laws::Records::records))]
     pub fn decode(bytes: &[u8; 8]) -> Option<Record>
         ensures { record_of result ≡ decode bytes.now }
