@@ -68,10 +68,11 @@ fn factor(s: &[u16], at: usize, depth: usize) -> Option<Reading>
     requires { at ≤ length s.now }
     ensures { Answers kept s.now at (factor_of parts (within parts depth) (drop at s.now)) result }
 {
-    let Some(inside) = behind(s, at, 40) else {
-        return atom_at(s, skip(s, at));
-    };
-    let (part, next) = sum(s, inside, depth.checked_sub(1)?)?;
+    let j = skip(s, at);
+    if code_at(s, j) != 40 {
+        return atom_at(s, j);
+    }
+    let (part, next) = sum(s, j + 1, depth.checked_sub(1)?)?;
     Some((part, behind(s, next, 41)?))
 }
 

@@ -53,13 +53,17 @@ pub fn behind(s: &[u16], at: usize, c: u16) -> Option<usize>
     }
 }
 
+// The `+` or `-` that comes next and the place behind it. The blanks before it are passed over once for both.
+#[tactic(auto, using(crate::proofs::Laws::Places::places))]
 pub fn sign(s: &[u16], at: usize) -> Option<(Operation, usize)>
     requires { at ≤ length s.now }
     ensures { Operates is_sign s.now at result }
 {
-    match behind(s, at, 43) {
-        Some(next) => Some((Operation::Plus, next)),
-        None => Some((Operation::Minus, behind(s, at, 45)?)),
+    let j = skip(s, at);
+    match code_at(s, j) {
+        43 => Some((Operation::Plus, j + 1)),
+        45 => Some((Operation::Minus, j + 1)),
+        _ => None,
     }
 }
 

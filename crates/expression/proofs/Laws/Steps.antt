@@ -16,7 +16,7 @@ use Rattle.expression.specs.Parts.{Part, parts, plus_part, minus_part, times_par
 use Rattle.expression.specs.bridge.Text.{Read, refused, got, map_read, skip, behind, closed, join, joined, chained, factor, sum, within}
 use Rattle.expression.specs.bridge.Answers.{kept, character, Follows, Operates, Answers}
 use Rattle.expression.proofs.Laws.Chains.{Shrinks, chained_step, chained_stop, chained_refused}
-use Rattle.expression.proofs.Laws.Places.{closed_refused, closed_yes, closed_no, factor_open, factor_other, within_none, within_deeper}
+use Rattle.expression.proofs.Laws.Places.{there, behind_at, closed_refused, closed_yes, closed_no, factor_open, factor_other, within_none, within_deeper}
 
 -- a reader that refuses where the definition does
 pub refuses : {T A : Type 0} {view : T → A} {s : List ℕ} {at : ℕ} {d : Read A} {r : Option (T × ℕ)} → r ≡ None → refused ≡ d → Answers view s at d r
@@ -118,4 +118,4 @@ module _ {s : List ℕ} {at depth inside d : ℕ} (is : Follows 40 s at (Some in
         }
 
 -- what the reader of a factor uses
-pub ruleset factors = (factor_unread, factor_unclosed, factor_closed, closed_refused, factor_open, factor_other, within_none)
+pub ruleset factors = (there, behind_at, factor_unread, factor_unclosed, factor_closed, closed_refused, factor_open, factor_other, within_none)
