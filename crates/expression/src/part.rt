@@ -2,6 +2,10 @@
 ghost use Rattle.std.specs.Prelude.{◌≡◌, ℕ, ◌<◌, List, ℤ, Some, length};
 ghost use Rattle.expression.specs.bridge.Forms.{Small};
 
+pub mod operations;
+
+pub use operations::{minus, plus, times};
+
 // The constant (the first number) and the coefficients by position, in signed 32 bits. Where refusal 17 is met there is no part.
 #[derive(Clone, Copy)]
 pub struct Part {

@@ -6,7 +6,7 @@ ghost use Rattle.expression.specs.bridge.Text.{digits as digits_of, map_read, pl
 ghost use Rattle.expression.specs.bridge.Answers.{Answers, character, kept};
 
 use crate::number::digits;
-use crate::part::Part;
+use crate::part::{Part, minus, plus, times};
 use crate::symbol::{Operation, behind, code_at, sign, skip, star};
 
 // The part that was read, None where refusal 17 is met, and the place behind it.
@@ -50,15 +50,13 @@ fn atom_at(s: &[u16], at: usize) -> Option<Reading>
 }
 
 // Two parts with an operator between them.
-#[tactic(auto, using(crate::proofs::Laws::Steps::joins))]
 fn joined(a: Option<Part>, operation: Operation, b: Option<Part>) -> Option<Part>
     ensures { kept result ≡ join parts (character operation) (kept a) (kept b) }
 {
-    let (a, b) = (a?, b?);
     match operation {
-        Operation::Plus => a.checked_add(&b),
-        Operation::Minus => a.checked_sub(&b),
-        Operation::Times => a.checked_mul(&b),
+        Operation::Plus => plus(a, b),
+        Operation::Minus => minus(a, b),
+        Operation::Times => times(a, b),
     }
 }
 

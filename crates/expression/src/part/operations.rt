@@ -1,0 +1,27 @@
+// Sums, differences and products of parts that may have met refusal 17: there is one where neither has met it, nor what they make.
+ghost use Rattle.std.specs.Prelude.{◌≡◌};
+ghost use Rattle.expression.specs.Parts.{plus_part, minus_part, times_part};
+ghost use Rattle.expression.specs.bridge.Answers.{kept};
+
+use crate::part::Part;
+
+#[tactic(auto, unfolding(crate::specs::Parts::plus_part, crate::specs::Parts::both))]
+pub fn plus(a: Option<Part>, b: Option<Part>) -> Option<Part>
+    ensures { kept result ≡ plus_part (kept a) (kept b) }
+{
+    a?.checked_add(&b?)
+}
+
+#[tactic(auto, unfolding(crate::specs::Parts::minus_part, crate::specs::Parts::both))]
+pub fn minus(a: Option<Part>, b: Option<Part>) -> Option<Part>
+    ensures { kept result ≡ minus_part (kept a) (kept b) }
+{
+    a?.checked_sub(&b?)
+}
+
+#[tactic(auto, unfolding(crate::specs::Parts::times_part, crate::specs::Parts::both))]
+pub fn times(a: Option<Part>, b: Option<Part>) -> Option<Part>
+    ensures { kept result ≡ times_part (kept a) (kept b) }
+{
+    a?.checked_mul(&b?)
+}
