@@ -32,7 +32,7 @@ pub and_right : (a b : Bool) → a && b ≡ true → b ≡ true
 and_right true b e = e
 and_right false b e = let z : ◌≡◌ {A = ℕ} 0 1 = ap (λ x. cond x 1 0) e in absurd (omega arith)
 
-zeros_each : (n i : ℕ) → get_or (replicate n (pos 0)) i (pos 0) ≡ pos 0
+pub zeros_each : (n i : ℕ) → get_or (replicate n (pos 0)) i (pos 0) ≡ pos 0
 zeros_each zero zero = refl
 zeros_each zero (suc i) = refl
 zeros_each (suc n) zero = refl
@@ -64,7 +64,7 @@ module _ (f : ℤ → ℤ → ℤ) where
   zip_length (x ∷ a) [] h = absurd (omega arith)
   zip_length (x ∷ a) (y ∷ b) h = ap suc (zip_length a b (omega arith))
 
-  zip_at : (a b : List ℤ) (k : ℕ) → k < length a → k < length b → get_or (zip f a b) k (pos 0) ≡ f (get_or a k (pos 0)) (get_or b k (pos 0))
+  pub zip_at : (a b : List ℤ) (k : ℕ) → k < length a → k < length b → get_or (zip f a b) k (pos 0) ≡ f (get_or a k (pos 0)) (get_or b k (pos 0))
   unfolding zip
   zip_at [] b k h l = absurd (omega arith)
   zip_at (x ∷ a) [] k h l = absurd (omega arith)
@@ -75,7 +75,7 @@ module _ (f : ℤ → ℤ → ℤ) where
 pub back : (z : ℤ) → mag z < 2147483648 → to_z w32 (of_z w32 z) ≡ z
 back z h = to_z-of_z {w = w32} {z = z} (record { sfits = h })
 
-all_small_no : (ns : List ℤ) (i : ℕ) → i < length ns → small (get_or ns i (pos 0)) ≡ false → all small ns ≡ false
+pub all_small_no : (ns : List ℤ) (i : ℕ) → i < length ns → small (get_or ns i (pos 0)) ≡ false → all small ns ≡ false
 all_small_no [] i h e = absurd (omega arith)
 all_small_no (z ∷ ns) zero h e = rw e
 all_small_no (z ∷ ns) (suc i) h e = by (small z) (all_small_no ns i (omega arith) e)
@@ -84,15 +84,15 @@ all_small_no (z ∷ ns) (suc i) h e = by (small z) (all_small_no ns i (omega ari
     by true k = k
     by false k = refl
 
-all_small_yes : (ns : List ℤ) → ((i : ℕ) → i < length ns → mag (get_or ns i (pos 0)) < 2147483648) → all small ns ≡ true
+pub all_small_yes : (ns : List ℤ) → ((i : ℕ) → i < length ns → mag (get_or ns i (pos 0)) < 2147483648) → all small ns ≡ true
 all_small_yes [] h = refl
 all_small_yes (z ∷ ns) h = rw (lt-ltb (mag z) 2147483648 (h 0 (omega arith))) (all_small_yes ns (λ i l. h (suc i) (omega arith)))
 
-checked_large : (ns : List ℤ) → all small ns ≡ false → None ≡ checked ns
+pub checked_large : (ns : List ℤ) → all small ns ≡ false → None ≡ checked ns
 unfolding checked
 checked_large ns e = rw e
 
-checked_fine : (ns : List ℤ) → all small ns ≡ true → Some ns ≡ checked ns
+pub checked_fine : (ns : List ℤ) → all small ns ≡ true → Some ns ≡ checked ns
 unfolding checked
 checked_fine ns e = rw e
 
@@ -109,7 +109,7 @@ zero_test (pos n) h = refl
 zero_test (negsuc n) h = ne_eqb _ 0 (λ e. absurd (omega arith))
 
 -- what is checked is small
-small_checked : (ns : List ℤ) → length ns ≡ 9 → Small (numbers (checked ns))
+pub small_checked : (ns : List ℤ) → length ns ≡ 9 → Small (numbers (checked ns))
 small_checked ns l = by (all small ns) refl
   where
     fits : (zs : List ℤ) → all small zs ≡ true → (i : ℕ) → mag (get_or zs i (pos 0)) < 2147483648

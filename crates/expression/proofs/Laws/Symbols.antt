@@ -52,7 +52,7 @@ module _ (s : List ℕ) (i : ℕ) where
   unfolding digits
   digits_over v h e l = rw (at-cons h, e, lt-leb (v * 10 + (get_or s i 0 - 48)) 65535 l)
 
-digit_high : (c : ℕ) → 57 < c → is_digit c ≡ false
+pub digit_high : (c : ℕ) → 57 < c → is_digit c ≡ false
 digit_high c h = rw (le-leb 48 c (omega arith), lt-leb c 57 h)
 
 module _ (t : List ℕ) where
