@@ -4,8 +4,8 @@ ghost use Rattle.rules.specs.Answers.{outcome_of};
 ghost use Rattle.typed.specs.bridge.Stream.{put as put_at, Held};
 
 use rules::layout::LOADED;
+use rules::load::load_records;
 use rules::reader::Reader;
-use rules::record::Record;
 use rules::refusal::Refusal;
 
 // What is kept while a text is read: the table check's summary or refusal, or 17 once that was met; the bytes of the records that the check took
@@ -52,7 +52,7 @@ impl<'a> Sink<'a> {
         let Ok(reader) = self.step else {
             return;
         };
-        self.step = reader.take_record(Record::decode(bytes), self.loaded);
+        self.step = load_records(reader, bytes, self.loaded);
         if self.step.is_ok() {
             put(self.buffer, self.count, bytes);
             self.count += 8;

@@ -4,13 +4,15 @@ use mathlib.Core.List.{List}
 use Rattle.std.specs.Prelude.{Option, None, Some, Result, Ok, Err, is_ok}
 use mathlib.Core.Bool.{true, false, cond}
 use mathlib.Core.Path.{◌≡◌, refl, sym, ap, ap₂, subst, ◌∙◌}
-use Prim.Native.Nat.{ℕ, suc, ◌+◌, ◌*◌, ◌≤◌, ◌<◌}
+use Prim.Native.Nat.{ℕ, suc, ◌+◌, ◌*◌, ◌/◌, ◌≤◌, ◌<◌}
 use native.Mathlib.Omega.{arith}
+use lib.ListN.{length, drop}
+use lib.Seq.{take_all}
 use Rattle.lists.specs.Lists.{Each}
 use Rattle.meaning.specs.Refusal.{Outcome, refused, accepted}
 use Rattle.meaning.specs.Record.{Record, decode}
 use Rattle.meaning.proofs.Laws.Refusal.{accepted_not}
-use Rattle.rules.specs.bridge.Summary.{admitted, if_taken, Fitting}
+use Rattle.rules.specs.bridge.Summary.{admitted, if_taken, take_on, take_records, Fitting}
 use Rattle.rules.specs.Answers.{number_of, outcome_of}
 use Rattle.rules.specs.declared.refusal.Refusal.{Refusal}
 use Rattle.rules.specs.declared.reader.Reader.{Reader}
@@ -51,6 +53,21 @@ feed_ready c s b h = by s.check refl
     by (refused k) e = h
     by (accepted r) e = let t = h.reading r e in on r t.0 t.1 (admitted r (decode c)) refl
 
+-- a record by itself
+one_record : (c : List ℕ) (r : Reader) (l : List ℕ) → length c ≡ 8 →
+    let all = take_records (length c / 8) c r l in (all.answer ≡ admitted r (decode c)) × (all.loaded ≡ if_taken r (decode c) l)
+unfolding take_records
+one_record c r l long =
+    rw (count, take_all 8 c (omega arith)) (by (admitted r (decode c)))
+  where
+    count : length c / 8 ≡ 1
+    count = omega arith
+
+    by : (o : Outcome Reader) →
+        let all = take_on o (if_taken r (decode c) l) (λ r' l'. take_records 0 (drop 8 c) r' l') in (all.answer ≡ o) × (all.loaded ≡ if_taken r (decode c) l)
+    by (refused n) = (refl, refl)
+    by (accepted r') = (refl, refl)
+
 module _ (s : State) (r : Reader) (h : Ready s) (e : s.check ≡ accepted r) where
   pub count_small : s.count ≤ 652312
   count_small =
@@ -59,11 +76,13 @@ module _ (s : State) (r : Reader) (h : Ready s) (e : s.check ≡ accepted r) whe
       let w = weight_small r t.0 in
       omega arith
 
-  -- what the check made of the record x, by its answer o
-  module _ (c : List ℕ) (bytes : Each (λ b. b < 256) c) {x : Option Record} {after : List ℕ} (o : Result Reader Refusal)
-      (q : x ≡ decode c) (p : outcome_of o ≡ admitted r x) (l : after ≡ if_taken r x s.loaded) where
+  -- what the check made of the record by itself, by its answer o
+  module _ (c : List ℕ) (long : length c ≡ 8) (bytes : Each (λ b. b < 256) c) {after : List ℕ} (o : Result Reader Refusal)
+      (p : outcome_of o ≡ (take_records (length c / 8) c r s.loaded).answer) (l : after ≡ (take_records (length c / 8) c r s.loaded).loaded) where
     same : tested (outcome_of o) c after s ≡ feed c s
-    same = ap₂ (λ a l. tested a c l s) (p ∙ ap (admitted r) q) (l ∙ ap (λ y. if_taken r y s.loaded) q) ∙ sym (feed_tested c s r e)
+    same =
+        let one = one_record c r s.loaded long in
+        ap₂ (λ a l. tested a c l s) (p ∙ one.0) (l ∙ one.1) ∙ sym (feed_tested c s r e)
 
     still : Ready (tested (outcome_of o) c after s)
     still = subst Ready (sym same) (feed_ready c s bytes h)

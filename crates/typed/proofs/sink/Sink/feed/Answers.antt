@@ -1,7 +1,7 @@
 -- `typed::sink::Sink::feed` meets its contract. A check that has refused stays; else the record is tested, and if it was taken in its bytes are put.
 -- By what the functions called ensure; the bytes put so far are few, by the weight of the summary. Assumes nothing.
 use mathlib.Core.Path.{sym, ap, ◌∙◌}
-use Prim.Native.Nat.{◌<◌, ◌≤◌}
+use Prim.Native.Nat.{◌<◌, ◌≤◌, ◌%◌}
 use native.Mathlib.Omega.{arith}
 use Rattle.lists.specs.Lists.{Each}
 use Rattle.rules.specs.Answers.{outcome_of}
@@ -9,7 +9,7 @@ use Rattle.rules.proofs.Laws.Loading.{each_known}
 use Rattle.typed.specs.bridge.Answers.{state_of}
 use Rattle.typed.proofs.Laws.Feeding.{feed_idle, count_small, taken_in, taken_held, left_out, held_still}
 use Rattle.typed.proofs.sink.Sink.feed.Goals as goal
-use Rattle.typed.proofs.sink.Sink.feed.Goals.{In-Ok, After-take_record-self}
+use Rattle.typed.proofs.sink.Sink.feed.Goals.{In-Ok, After-load_records-self}
 
 bytes : (c : In-Ok) → Each (λ b. b < 256) c.args.bytes.now
 bytes c = each_known 256 c.args.bytes.now (λ i. c.fits-bytes i)
@@ -20,15 +20,15 @@ few c = count_small (state_of c.args.self.now) c.in-Ok.reader c.args.self.now.re
 pub returns-in_default : goal.returns-in_default
 returns-in_default c = sym (feed_idle c.args.bytes.now (state_of c.args.self.now) _ (ap outcome_of c.in_default.is))
 
-pub take_record-self-requires : goal.take_record-self-requires
-take_record-self-requires c = record { fitting = (c.args.self.now.ready.reading _ (ap outcome_of c.in-Ok.is)).0 }
+pub load_records-self-requires : goal.load_records-self-requires
+load_records-self-requires c = record { table_len = ap (λ n. n % 8) c.told-bytes; fitting = (c.args.self.now.ready.reading _ (ap outcome_of c.in-Ok.is)).0 }
 
 pub invariant_of-self : goal.invariant_of-self
 invariant_of-self c =
-    let done = c.take_record-self.ensures in
+    let done = c.load_records-self.ensures in
     record {
       ready = held_still (state_of c.args.self.now) c.in-Ok.reader c.args.self.now.ready (ap outcome_of c.in-Ok.is)
-          c.args.bytes.now (bytes (goal.at.invariant_of-self c).In-Ok) c.take_record-self.result c.decode.ensures done.result_value done.loaded_after;
+          c.args.bytes.now c.told-bytes (bytes (goal.at.invariant_of-self c).In-Ok) c.load_records-self.result done.answer done.array;
     }
 
 pub put-requires : goal.put-requires
@@ -39,23 +39,23 @@ overflow_add-self c = let l = few (goal.at.overflow_add-self c).In-Ok in omega a
 
 pub invariant_of-self-then-is_ok : goal.invariant_of-self-then-is_ok
 invariant_of-self-then-is_ok c =
-    let done = c.take_record-self.ensures in
+    let done = c.load_records-self.ensures in
     record {
       ready = taken_held (state_of c.args.self.now) c.in-Ok.reader c.args.self.now.ready (ap outcome_of c.in-Ok.is)
-          c.args.bytes.now (bytes (goal.at.invariant_of-self-then-is_ok c).In-Ok) c.take_record-self.result c.decode.ensures done.result_value done.loaded_after
+          c.args.bytes.now c.told-bytes (bytes (goal.at.invariant_of-self-then-is_ok c).In-Ok) c.load_records-self.result done.answer done.array
           (sym c.is_ok.ensures.value ∙ c.if-is_ok.true);
     }
 
 pub returns-then-is_ok : goal.returns-then-is_ok
 returns-then-is_ok c =
-    let done = c.take_record-self.ensures in
+    let done = c.load_records-self.ensures in
     rw c.put.ensures (taken_in (state_of c.args.self.now) c.in-Ok.reader c.args.self.now.ready (ap outcome_of c.in-Ok.is)
-    c.args.bytes.now (bytes (goal.at.returns-then-is_ok c).In-Ok) c.take_record-self.result c.decode.ensures done.result_value done.loaded_after
+    c.args.bytes.now c.told-bytes (bytes (goal.at.returns-then-is_ok c).In-Ok) c.load_records-self.result done.answer done.array
     (sym c.is_ok.ensures.value ∙ c.if-is_ok.true))
 
 pub returns-else-is_ok : goal.returns-else-is_ok
 returns-else-is_ok c =
-    let done = c.take_record-self.ensures in
+    let done = c.load_records-self.ensures in
     left_out (state_of c.args.self.now) c.in-Ok.reader c.args.self.now.ready (ap outcome_of c.in-Ok.is)
-    c.args.bytes.now (bytes (goal.at.returns-else-is_ok c).In-Ok) c.take_record-self.result c.decode.ensures done.result_value done.loaded_after
+    c.args.bytes.now c.told-bytes (bytes (goal.at.returns-else-is_ok c).In-Ok) c.load_records-self.result done.answer done.array
     (sym c.is_ok.ensures.value ∙ c.if-is_ok.false)
