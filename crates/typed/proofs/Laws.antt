@@ -11,6 +11,7 @@ pub mod Bits
 pub mod Weights
 pub mod Feeding
 pub mod Checked
+pub mod Loans
 pub mod Turns
 pub mod Readings
 pub mod Words

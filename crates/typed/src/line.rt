@@ -3,7 +3,7 @@ ghost use Rattle.std.specs.Prelude.{◌≤◌, length, drop};
 ghost use Rattle.expression.specs.bridge.Text.{map_read};
 ghost use Rattle.typed.specs.bridge.Reader.{head_of, line_of, lines_of};
 ghost use Rattle.typed.specs.bridge.Stream.{feed_head, feed_line, feed_lines};
-ghost use Rattle.typed.specs.bridge.Answers.{state_of, Streams};
+ghost use Rattle.typed.specs.bridge.Answers.{state_of, Streams, SameLoans};
 
 use crate::output::feed_outputs;
 use crate::pattern::feed_pattern;
@@ -15,7 +15,8 @@ use expression::symbol::{behind, skip};
 // What stands before `==>`: a pattern, or "The default's pattern is the bare word `else`."
 fn feed_head(s: &[u16], at: usize, sink: &mut Sink<'_>) -> Option<usize>
     requires { at ≤ length s.now }
-    ensures { Streams s.now at result (map_read (λ h. feed_head h (state_of sink.old)) (head_of (drop at s.now))) sink.new }
+    ensures read { Streams s.now at result (map_read (λ h. feed_head h (state_of sink.old)) (head_of (drop at s.now))) sink.new }
+    ensures same_loans { SameLoans sink.old sink.new }
 {
     if let Some(inside) = behind(s, at, QUOTE) {
         return feed_pattern(s, inside, sink);
@@ -28,7 +29,8 @@ fn feed_head(s: &[u16], at: usize, sink: &mut Sink<'_>) -> Option<usize>
 // One line.
 fn feed_line(s: &[u16], at: usize, sink: &mut Sink<'_>) -> Option<usize>
     requires { at ≤ length s.now }
-    ensures { Streams s.now at result (map_read (λ l. feed_line l (state_of sink.old)) (line_of (drop at s.now))) sink.new }
+    ensures read { Streams s.now at result (map_read (λ l. feed_line l (state_of sink.old)) (line_of (drop at s.now))) sink.new }
+    ensures same_loans { SameLoans sink.old sink.new }
 {
     let head = feed_head(s, at, sink)?;
     let arrow = word(s, head, b"==>")?;
@@ -38,7 +40,8 @@ fn feed_line(s: &[u16], at: usize, sink: &mut Sink<'_>) -> Option<usize>
 
 // "A text is any number of lines."
 pub fn feed_lines(s: &[u16], sink: &mut Sink<'_>) -> Option<usize>
-    ensures { Streams s.now 0 result (map_read (λ ls. feed_lines ls (state_of sink.old)) (lines_of s.now)) sink.new }
+    ensures read { Streams s.now 0 result (map_read (λ ls. feed_lines ls (state_of sink.old)) (lines_of s.now)) sink.new }
+    ensures same_loans { SameLoans sink.old sink.new }
 {
     let mut at = 0;
     // no `for`, since what is left says whether there is one more

@@ -4,7 +4,7 @@ ghost use Rattle.expression.specs.bridge.Text.{map_read, expression_of, items, b
 ghost use Rattle.expression.specs.bridge.Answers.{kept};
 ghost use Rattle.typed.specs.Records.{within17 as is_within17};
 ghost use Rattle.typed.specs.bridge.Stream.{feed_terms, feed_part, feed_tree, feed_outputs};
-ghost use Rattle.typed.specs.bridge.Answers.{state_of, Streams};
+ghost use Rattle.typed.specs.bridge.Answers.{state_of, Streams, SameLoans};
 
 use crate::record::{output_record, term_record};
 use crate::sink::Sink;
@@ -31,7 +31,8 @@ fn within17(part: &Part) -> bool
 // The terms by position, of the coefficients that are not 0.
 fn feed_terms(part: &Part, sink: &mut Sink<'_>)
     requires { is_within17 (Some part.now.numbers) ≡ true }
-    ensures { state_of sink.new ≡ feed_terms 0 (drop 1 part.now.numbers) (state_of sink.old) }
+    ensures state { state_of sink.new ≡ feed_terms 0 (drop 1 part.now.numbers) (state_of sink.old) }
+    ensures same_loans { SameLoans sink.old sink.new }
 {
     for position in 0..8u8 {
         let coefficient = part.numbers[usize::from(position) + 1];
@@ -43,7 +44,8 @@ fn feed_terms(part: &Part, sink: &mut Sink<'_>)
 
 // The records of an output character: its constant, then its terms; or refusal 17, which goes before the table check's.
 fn feed_part(part: &Option<Part>, sink: &mut Sink<'_>)
-    ensures { state_of sink.new ≡ feed_part (kept part.now) (state_of sink.old) }
+    ensures state { state_of sink.new ≡ feed_part (kept part.now) (state_of sink.old) }
+    ensures same_loans { SameLoans sink.old sink.new }
 {
     match part {
         Some(part) if within17(part) => {
@@ -57,7 +59,8 @@ fn feed_part(part: &Option<Part>, sink: &mut Sink<'_>)
 // One expression.
 fn feed_expression(s: &[u16], at: usize, sink: &mut Sink<'_>) -> Option<usize>
     requires { at ≤ length s.now }
-    ensures { Streams s.now at result (map_read (λ t. feed_tree t (state_of sink.old)) (expression_of (drop at s.now))) sink.new }
+    ensures read { Streams s.now at result (map_read (λ t. feed_tree t (state_of sink.old)) (expression_of (drop at s.now))) sink.new }
+    ensures same_loans { SameLoans sink.old sink.new }
 {
     let (part, next) = expression(s, at)?;
     feed_part(&part, sink);
@@ -67,7 +70,8 @@ fn feed_expression(s: &[u16], at: usize, sink: &mut Sink<'_>) -> Option<usize>
 // Expressions with commas between.
 fn feed_list(s: &[u16], at: usize, sink: &mut Sink<'_>) -> Option<usize>
     requires { at ≤ length s.now }
-    ensures { Streams s.now at result (map_read (λ ts. feed_outputs ts (state_of sink.old)) (items expression_of (drop at s.now))) sink.new }
+    ensures read { Streams s.now at result (map_read (λ ts. feed_outputs ts (state_of sink.old)) (items expression_of (drop at s.now))) sink.new }
+    ensures same_loans { SameLoans sink.old sink.new }
 {
     let mut next = feed_expression(s, at, sink)?;
     // no `for`, since a comma says whether there is one more
@@ -80,7 +84,8 @@ fn feed_list(s: &[u16], at: usize, sink: &mut Sink<'_>) -> Option<usize>
 // "output expressions in square brackets with commas between (or none, as `[]`)"
 pub fn feed_outputs(s: &[u16], at: usize, sink: &mut Sink<'_>) -> Option<usize>
     requires { at ≤ length s.now }
-    ensures { Streams s.now at result (map_read (λ ts. feed_outputs ts (state_of sink.old)) (bracketed expression_of (drop at s.now))) sink.new }
+    ensures read { Streams s.now at result (map_read (λ ts. feed_outputs ts (state_of sink.old)) (bracketed expression_of (drop at s.now))) sink.new }
+    ensures same_loans { SameLoans sink.old sink.new }
 {
     let inside = behind(s, at, OPEN)?;
     if let Some(end) = behind(s, inside, CLOSE) {

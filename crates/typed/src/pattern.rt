@@ -4,7 +4,7 @@ ghost use Rattle.lists.specs.Lists.{any};
 ghost use Rattle.expression.specs.bridge.Text.{map_read};
 ghost use Rattle.typed.specs.bridge.Reader.{any_character as any_character_of, plain as plain_of, element as element_of, elements as elements_of, item as item_of, ends_items as items_end, pattern_of};
 ghost use Rattle.typed.specs.bridge.Stream.{feed_range, feed_ranges, feed_pattern};
-ghost use Rattle.typed.specs.bridge.Answers.{state_of, closing_of, ending_of, Finds, Bounds, Streams, CountsItems};
+ghost use Rattle.typed.specs.bridge.Answers.{state_of, closing_of, ending_of, Finds, Bounds, Streams, CountsItems, SameLoans};
 
 use crate::record::{range_record, rule_record};
 use crate::sink::Sink;
@@ -70,7 +70,8 @@ fn element(s: &[u16], at: usize) -> Option<(Between, usize)>
 // An element, and its range's record.
 fn feed_element(s: &[u16], at: usize, position: u8, sink: &mut Sink<'_>) -> Option<usize>
     requires { at ≤ length s.now }
-    ensures { Streams s.now at result (map_read (λ x. feed_range position x (state_of sink.old)) (element_of (drop at s.now))) sink.new }
+    ensures read { Streams s.now at result (map_read (λ x. feed_range position x (state_of sink.old)) (element_of (drop at s.now))) sink.new }
+    ensures same_loans { SameLoans sink.old sink.new }
 {
     let (between, next) = element(s, at)?;
     sink.feed(&range_record(position, between.lowest, between.highest));
@@ -80,7 +81,8 @@ fn feed_element(s: &[u16], at: usize, position: u8, sink: &mut Sink<'_>) -> Opti
 // The elements of a bracket, and what closes it.
 fn feed_elements(s: &[u16], at: usize, position: u8, sink: &mut Sink<'_>) -> Option<usize>
     requires { at ≤ length s.now }
-    ensures { Streams s.now at result (map_read (λ x. feed_ranges position x (state_of sink.old)) (elements_of (drop at s.now))) sink.new }
+    ensures read { Streams s.now at result (map_read (λ x. feed_ranges position x (state_of sink.old)) (elements_of (drop at s.now))) sink.new }
+    ensures same_loans { SameLoans sink.old sink.new }
 {
     let mut next = feed_element(s, at, position, sink)?;
     // no `for`, since what comes next says whether there is one more
@@ -93,7 +95,8 @@ fn feed_elements(s: &[u16], at: usize, position: u8, sink: &mut Sink<'_>) -> Opt
 // "each one character (a blank too) or, in square brackets, one or more single characters or ranges"
 fn feed_item(s: &[u16], at: usize, position: u8, sink: &mut Sink<'_>) -> Option<usize>
     requires { at ≤ length s.now }
-    ensures { Streams s.now at result (map_read (λ x. feed_ranges position x (state_of sink.old)) (item_of (drop at s.now))) sink.new }
+    ensures read { Streams s.now at result (map_read (λ x. feed_ranges position x (state_of sink.old)) (item_of (drop at s.now))) sink.new }
+    ensures same_loans { SameLoans sink.old sink.new }
 {
     if code_at(s, at) == OPEN {
         return feed_elements(s, at + 1, position, sink);
@@ -116,7 +119,8 @@ const MOST_ITEMS: u8 = 8;
 // The items of a pattern, at most 8: how many, and the place behind them.
 fn feed_items(s: &[u16], at: usize, sink: &mut Sink<'_>) -> Option<(u8, usize)>
     requires { at ≤ length s.now }
-    ensures { CountsItems s.now at (state_of sink.old) result sink.new }
+    ensures read { CountsItems s.now at (state_of sink.old) result sink.new }
+    ensures same_loans { SameLoans sink.old sink.new }
 {
     let mut next = at;
     for items in 0..MOST_ITEMS {
@@ -158,7 +162,8 @@ fn ending(s: &[u16], items: u8, at: usize) -> Option<(bool, usize)>
 // whether it is anchored, which its first record has; then its ranges are fed.
 pub fn feed_pattern(s: &[u16], at: usize, sink: &mut Sink<'_>) -> Option<usize>
     requires { at ≤ length s.now }
-    ensures { Streams s.now at result (map_read (λ q. feed_pattern q (state_of sink.old)) (pattern_of (drop at s.now))) sink.new }
+    ensures read { Streams s.now at result (map_read (λ q. feed_pattern q (state_of sink.old)) (pattern_of (drop at s.now))) sink.new }
+    ensures same_loans { SameLoans sink.old sink.new }
 {
     let step = sink.step;
     sink.step = Err(Refusal::Grammar);

@@ -31,11 +31,12 @@ fn put(buffer: &mut [u8], place: usize, bytes: &[u8; 8])
 
 impl<'a> Sink<'a> {
     ghost use Rattle.typed.specs.bridge.Stream.{feed as fed, beginning};
-    ghost use Rattle.typed.specs.bridge.Answers.{state_of};
+    ghost use Rattle.typed.specs.bridge.Answers.{state_of, SameLoans};
 
     // Nothing read yet.
     pub fn new(loaded: &'a mut [u16; LOADED], buffer: &'a mut [u8]) -> Sink<'a>
-        ensures { state_of result ≡ beginning loaded.old buffer.old buffer.entry.ghost_name }
+        ensures state { state_of result ≡ beginning loaded.old buffer.old buffer.entry.ghost_name }
+        ensures same_array { result.loaded.ghost_name ≡ loaded.entry.ghost_name }
     {
         Sink {
             step: Ok(Reader::start()),
@@ -47,7 +48,8 @@ impl<'a> Sink<'a> {
 
     // One record. A check that has refused takes no more.
     pub fn feed(&mut self, bytes: &[u8; 8])
-        ensures { state_of self.new ≡ fed bytes.now (state_of self.old) }
+        ensures state { state_of self.new ≡ fed bytes.now (state_of self.old) }
+        ensures same_loans { SameLoans self.old self.new }
     {
         let Ok(reader) = self.step else {
             return;

@@ -40,6 +40,12 @@ Marks s at r d = Places s at tt r d
 abbrev pub state_of : Sink → State
 state_of k = record { check = outcome_of k.step; loaded = k.loaded.now; count = k.count; buffer = k.buffer.now; lent = k.buffer.ghost_name }
 
+-- a sink still has what it was lent: the same array, and the same buffer with its length
+pub record SameLoans (k k' : Sink) : Type 0 where
+  pub array : k'.loaded.ghost_name ≡ k.loaded.ghost_name
+  pub buffer : k'.buffer.ghost_name ≡ k.buffer.ghost_name
+  pub size : length k'.buffer.now ≡ length k.buffer.now
+
 -- what was read into a state, which the sink then holds
 abbrev pub Streams : List ℕ → ℕ → Option ℕ → Read State → Sink → Type 0
 Streams s at r d k = Places s at (state_of k) r d

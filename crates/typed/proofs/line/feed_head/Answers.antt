@@ -11,28 +11,28 @@ use Rattle.typed.proofs.Laws.Readings.{place_none, place_some, no_place, place, 
 use Rattle.typed.proofs.Laws.Stages.{head_pattern, head_default}
 use Rattle.typed.proofs.line.feed_head.Goals as goal
 
-pub returns-in-Some : goal.returns-in-Some
-returns-in-Some c =
+pub returns-in-Some-clause-read : goal.returns-in-Some-clause-read
+returns-in-Some-clause-read c =
     let a = c.args in
     let st = state_of a.sink.now in
     let p = c.in-Some.ensures in
     let f = p.1.from in
-    placed_as c.feed_pattern.ensures (omega arith)
+    placed_as c.feed_pattern.ensures.read (omega arith)
     (ap (λ u. map_read (λ q. feed_pattern q st) (pattern_of u)) p.1.same ∙ sym (head_pattern st (drop a.at a.s.now) _ refl p.0))
 
-pub returns-in_err-next : goal.returns-in_err-next
-returns-in_err-next c =
+pub returns-in_err-next-clause-read : goal.returns-in_err-next-clause-read
+returns-in_err-next-clause-read c =
     let a = c.args in
     rw c.from_residual.ensures
     (no_place (head_default (state_of a.sink.now) (drop a.at a.s.now) _ refl c.in_default.ensures ∙ fed_none _ (place_none c.word.ensures c.in_err-next.was)))
 
-pub returns : goal.returns
-returns c =
+pub returns-clause-read : goal.returns-clause-read
+returns-clause-read c =
     let a = c.args in
     let st = state_of a.sink.now in
     let g = place_some c.word.ensures c.in_ok-next.was in
     place (record {
       from = g.from;
       to = g.to;
-      is = head_default st (drop a.at a.s.now) _ refl c.in_default.ensures ∙ fed_one _ g.is (c.feed.ensures ∙ ap (λ b. feed b st) c.default_record.ensures);
+      is = head_default st (drop a.at a.s.now) _ refl c.in_default.ensures ∙ fed_one _ g.is (c.feed.ensures.state ∙ ap (λ b. feed b st) c.default_record.ensures);
     })

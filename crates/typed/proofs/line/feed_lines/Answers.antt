@@ -9,6 +9,7 @@ use Rattle.typed.specs.bridge.Reader.{then_read, line_of, ends_text, lines_of}
 use Rattle.typed.specs.bridge.Stream.{feed_line}
 use Rattle.typed.specs.bridge.Answers.{state_of}
 use Rattle.typed.proofs.Laws.Lines.{line_strict}
+use Rattle.typed.proofs.Laws.Loans.{loans_kept, loans_on}
 use Rattle.typed.proofs.Laws.Readings.{place_none, place_some, no_place, place}
 use Rattle.typed.proofs.Laws.Stages.{text_left, text_done}
 use Rattle.typed.proofs.Laws.Turns.{onward_turn, onward_refused, onward_end, fed_all, none_left, one_more, advances}
@@ -21,25 +22,29 @@ turn : (c : In-loop-sink) → (let i = c.loop-sink in let left = fed_all line_of
 turn c = one_more line_of ends_text feed_line line_strict (state_of c.loop-sink.sink) (drop c.loop-sink.at c.args.s.now) (text_left c.skip.ensures c.loop-sink-test.true)
 
 pub loop-sink-init : goal.loop-sink-init
-loop-sink-init c = record { from = zero-le; to = zero-le; same = refl }
+loop-sink-init c = record { read = record { from = zero-le; to = zero-le; same = refl }; same_loans = loans_kept _ }
 
-pub returns-in_err-at : goal.returns-in_err-at
+pub returns-in_err-at-clause-read : goal.returns-in_err-at-clause-read
 unfolding lines_of
-returns-in_err-at c =
-    rw c.from_residual.ensures (no_place (onward_refused _ c.loop-sink.invariant (turn (goal.at.returns-in_err-at c).In-loop-sink) (place_none c.feed_line.ensures c.in_err-at.was)))
+returns-in_err-at-clause-read c =
+    rw c.from_residual.ensures (no_place (onward_refused _ c.loop-sink.invariant.read (turn (goal.at.returns-in_err-at-clause-read c).In-loop-sink) (place_none c.feed_line.ensures.read c.in_err-at.was)))
 
 pub loop-sink-smaller : goal.loop-sink-smaller
 loop-sink-smaller c =
-    let g = place_some c.feed_line.ensures c.in_ok-at.was in
+    let g = place_some c.feed_line.ensures.read c.in_ok-at.was in
     let l = advances line_of line_strict _ g in
     let to = g.to in
     omega arith
 
 pub loop-sink-preserved : goal.loop-sink-preserved
-loop-sink-preserved c = onward_turn _ c.loop-sink.invariant (turn (goal.at.loop-sink-preserved c).In-loop-sink) (place_some c.feed_line.ensures c.in_ok-at.was)
+loop-sink-preserved c =
+    record {
+      read = onward_turn _ c.loop-sink.invariant.read (turn (goal.at.loop-sink-preserved c).In-loop-sink) (place_some c.feed_line.ensures.read c.in_ok-at.was);
+      same_loans = loans_on c.loop-sink.invariant.same_loans c.feed_line.ensures.same_loans;
+    }
 
-pub returns : goal.returns
+pub returns-clause-read : goal.returns-clause-read
 unfolding lines_of
-returns c =
+returns-clause-read c =
     let i = c.loop-sink in
-    place (onward_end i.invariant (none_left line_of ends_text feed_line (state_of i.sink) (drop i.at c.args.s.now) (text_done c.skip.ensures c.loop-sink-test.false)))
+    place (onward_end i.invariant.read (none_left line_of ends_text feed_line (state_of i.sink) (drop i.at c.args.s.now) (text_done c.skip.ensures c.loop-sink-test.false)))

@@ -4,12 +4,12 @@ use Prim.Native.Nat.{◌-◌}
 use lib.ListN.{length}
 use Rattle.typed.specs.bridge.Reader.{line_of, ends_text}
 use Rattle.typed.specs.bridge.Stream.{feed_line}
-use Rattle.typed.specs.bridge.Answers.{state_of}
+use Rattle.typed.specs.bridge.Answers.{state_of, SameLoans}
 use Rattle.typed.proofs.Laws.Turns.{Onward, fed_all}
 use Rattle.typed.proofs.line.feed_lines.Given as goal
 
 abbrev pub invariant-loop-sink : goal.invariant-loop-sink
-invariant-loop-sink l = Onward l.s 0 (fed_all line_of ends_text feed_line) (fed_all line_of ends_text feed_line (state_of l.initial.sink) l.s) l.at l.sink
+invariant-loop-sink l = record { read : Onward l.s 0 (fed_all line_of ends_text feed_line) (fed_all line_of ends_text feed_line (state_of l.initial.sink) l.s) l.at l.sink; same_loans : SameLoans l.fn.sink l.sink }
 
 abbrev pub decreases-loop-sink : goal.decreases-loop-sink
 decreases-loop-sink l = length l.s - l.at

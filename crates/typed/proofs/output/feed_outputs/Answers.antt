@@ -13,13 +13,13 @@ use Rattle.typed.proofs.Laws.Words.{closed_follows}
 use Rattle.typed.proofs.output.feed_outputs.Goals as goal
 use Rattle.typed.proofs.output.feed_outputs.Goals.{After-feed_list}
 
-pub returns-in_err-inside : goal.returns-in_err-inside
-returns-in_err-inside c =
+pub returns-in_err-inside-clause-read : goal.returns-in_err-inside-clause-read
+returns-in_err-inside-clause-read c =
     let a = c.args in
     rw c.from_residual.ensures (no_place (brackets_not (state_of a.sink.now) (drop a.at a.s.now) _ refl c.in_err-inside.ensures))
 
-pub returns-in-Some : goal.returns-in-Some
-returns-in-Some c =
+pub returns-in-Some-clause-read : goal.returns-in-Some-clause-read
+returns-in-Some-clause-read c =
     let a = c.args in
     let p = c.in_ok-inside.ensures in
     let q = c.in-Some.ensures in
@@ -42,12 +42,12 @@ listed c =
     brackets_some st (drop a.at a.s.now) _ refl _ p.0 (ap skip (sym p.1.same)) c.in_default.ensures
     ∙ ap (λ u. closed_by 93 (map_read (λ ts. feed_outputs ts st) (items expression_of u))) (sym p.1.same)
 
-pub returns-in_err-listed : goal.returns-in_err-listed
-returns-in_err-listed c =
+pub returns-in_err-listed-clause-read : goal.returns-in_err-listed-clause-read
+returns-in_err-listed-clause-read c =
     rw c.from_residual-in_err-listed.ensures
-    (no_place (listed (goal.at.returns-in_err-listed c).After-feed_list ∙ ap (closed_by 93) (place_none c.feed_list.ensures c.in_err-listed.was) ∙ closed_refused 93))
+    (no_place (listed (goal.at.returns-in_err-listed-clause-read c).After-feed_list ∙ ap (closed_by 93) (place_none c.feed_list.ensures.read c.in_err-listed.was) ∙ closed_refused 93))
 
-pub returns : goal.returns
-returns c =
+pub returns-clause-read : goal.returns-clause-read
+returns-clause-read c =
     let f = c.in_ok-inside.ensures.1.from in
-    placed_as (closed_follows 93 c.behind-3.result (place_some c.feed_list.ensures c.in_ok-listed.was) c.behind-3.ensures) (omega arith) (sym (listed (goal.at.returns c).After-feed_list))
+    placed_as (closed_follows 93 c.behind-3.result (place_some c.feed_list.ensures.read c.in_ok-listed.was) c.behind-3.ensures) (omega arith) (sym (listed (goal.at.returns-clause-read c).After-feed_list))

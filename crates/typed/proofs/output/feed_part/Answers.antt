@@ -17,16 +17,16 @@ use Rattle.typed.proofs.output.feed_part.Goals.{in_default-via-in-Some+else-with
 pub feed_terms-requires : goal.feed_terms-requires
 feed_terms-requires c = sym c.within17.ensures ∙ c.if-within17.true
 
-pub returns-in-Some : goal.returns-in-Some
-returns-in-Some c =
+pub returns-in-Some-clause-state : goal.returns-in-Some-clause-state
+returns-in-Some-clause-state c =
     let st = state_of c.args.sink.now in
     let part = c.in-Some.part in
     let h = part.small.each 0 in
-    part_fed (Some part.numbers) st (sym c.within17.ensures ∙ c.if-within17.true) (back (get_or part.numbers 0 (pos 0)) h) c.output_record.ensures c.feed.ensures c.feed_terms.ensures
+    part_fed (Some part.numbers) st (sym c.within17.ensures ∙ c.if-within17.true) (back (get_or part.numbers 0 (pos 0)) h) c.output_record.ensures c.feed.ensures.state c.feed_terms.ensures.state
     ∙ sym (ap (λ p. feed_part (kept p) st) c.in-Some.is)
 
-pub returns-in_default : goal.returns-in_default
-returns-in_default c =
+pub returns-in_default-clause-state : goal.returns-in_default-clause-state
+returns-in_default-clause-state c =
     part_beyond (kept c.args.part.now) (state_of c.args.sink.now) (elim c.in_default.branch [
       | in_default-via-in-Some+else-within17 w ↦ ap (λ p. within17 (kept p)) w.in-Some.is ∙ sym w.within17.ensures ∙ w.if-within17.false
       | in_default-via-in_default w ↦ ap (λ p. within17 (kept p)) w.in_default.is ∙ within_none

@@ -9,6 +9,7 @@ use Rattle.expression.specs.bridge.Text.{map_read, first}
 use Rattle.typed.specs.bridge.Reader.{then_read, element, ends_bracket}
 use Rattle.typed.specs.bridge.Stream.{feed_range}
 use Rattle.typed.specs.bridge.Answers.{state_of}
+use Rattle.typed.proofs.Laws.Loans.{loans_on}
 use Rattle.typed.proofs.Laws.Patterns.{element_strict}
 use Rattle.typed.proofs.Laws.Readings.{place_none, place_some, no_place, place, gets_as}
 use Rattle.typed.proofs.Laws.Turns.{onward_first, onward_turn, onward_refused, onward_end, fed_all, none_left, one_more, advances}
@@ -16,13 +17,17 @@ use Rattle.typed.proofs.Laws.Brackets.{elements_fed, elements_refused, elements_
 use Rattle.typed.proofs.pattern.feed_elements.Goals as goal
 use Rattle.typed.proofs.pattern.feed_elements.Goals.{In-loop-sink}
 
-pub returns-in_err-next : goal.returns-in_err-next
-returns-in_err-next c =
+pub returns-in_err-next-clause-read : goal.returns-in_err-next-clause-read
+returns-in_err-next-clause-read c =
     let a = c.args in
-    rw c.from_residual.ensures (no_place (elements_none a.position (state_of a.sink.now) (drop a.at a.s.now) (place_none c.feed_element.ensures c.in_err-next.was)))
+    rw c.from_residual.ensures (no_place (elements_none a.position (state_of a.sink.now) (drop a.at a.s.now) (place_none c.feed_element.ensures.read c.in_err-next.was)))
 
 pub loop-sink-init : goal.loop-sink-init
-loop-sink-init c = onward_first (fed_all element ends_bracket (feed_range c.args.position)) refl (place_some c.feed_element.ensures c.in_ok-next.was)
+loop-sink-init c =
+    record {
+      read = onward_first (fed_all element ends_bracket (feed_range c.args.position)) refl (place_some c.feed_element.ensures.read c.in_ok-next.was);
+      same_loans = c.feed_element.ensures.same_loans;
+    }
 
 -- a turn reads an element, and then what is left
 turn : (c : In-loop-sink) → (let i = c.loop-sink in let left = fed_all element ends_bracket (feed_range c.args.position) in
@@ -32,29 +37,32 @@ turn c =
     let t = drop i.next c.args.s.now in
     one_more element ends_bracket (feed_range c.args.position) element_strict (state_of i.sink) t (ne_eqb (first t) 93 (λ z. c.loop-sink-test.true (c.code_at.ensures ∙ z)))
 
-pub returns-in_err-next-2 : goal.returns-in_err-next-2
-returns-in_err-next-2 c =
+pub returns-in_err-next-2-clause-read : goal.returns-in_err-next-2-clause-read
+returns-in_err-next-2-clause-read c =
     let a = c.args in
     rw c.from_residual-in_err-next-2.ensures
     (no_place (elements_refused a.position (state_of a.sink.now) (drop a.at a.s.now)
-    (onward_refused _ c.loop-sink.invariant (turn (goal.at.returns-in_err-next-2 c).In-loop-sink) (place_none c.feed_element-in-loop-sink.ensures c.in_err-next-2.was))))
+    (onward_refused _ c.loop-sink.invariant.read (turn (goal.at.returns-in_err-next-2-clause-read c).In-loop-sink) (place_none c.feed_element-in-loop-sink.ensures.read c.in_err-next-2.was))))
 
 pub loop-sink-smaller : goal.loop-sink-smaller
 loop-sink-smaller c =
-    let g = place_some c.feed_element-in-loop-sink.ensures c.in_ok-next-2.was in
+    let g = place_some c.feed_element-in-loop-sink.ensures.read c.in_ok-next-2.was in
     let l = advances element element_strict _ g in
     let to = g.to in
     omega arith
 
 pub loop-sink-preserved : goal.loop-sink-preserved
 loop-sink-preserved c =
-    onward_turn _ c.loop-sink.invariant (turn (goal.at.loop-sink-preserved c).In-loop-sink) (place_some c.feed_element-in-loop-sink.ensures c.in_ok-next-2.was)
+    record {
+      read = onward_turn _ c.loop-sink.invariant.read (turn (goal.at.loop-sink-preserved c).In-loop-sink) (place_some c.feed_element-in-loop-sink.ensures.read c.in_ok-next-2.was);
+      same_loans = loans_on c.loop-sink.invariant.same_loans c.feed_element-in-loop-sink.ensures.same_loans;
+    }
 
-pub returns : goal.returns
-returns c =
+pub returns-clause-read : goal.returns-clause-read
+returns-clause-read c =
     let a = c.args in
     let i = c.loop-sink in
     let t = drop i.next a.s.now in
     let closes : first t ≡ 93 = sym c.code_at.ensures ∙ c.loop-sink-test.false in
-    let end = onward_end i.invariant (none_left element ends_bracket (feed_range a.position) (state_of i.sink) t (eq-eqb (first t) 93 closes)) in
+    let end = onward_end i.invariant.read (none_left element ends_bracket (feed_range a.position) (state_of i.sink) t (eq-eqb (first t) 93 closes)) in
     place (gets_as (le_refl _) (λ e. elements_fed a.position (state_of a.sink.now) (drop a.at a.s.now) ∙ e) (past_closed closes end))

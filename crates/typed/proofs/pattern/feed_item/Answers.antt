@@ -18,26 +18,26 @@ feed_elements-requires c =
     let l = stands c.args.s.now c.args.at 91 _ (λ z. omega arith) c.code_at.ensures c.if-code_at-eq-OPEN.true in
     omega arith
 
-pub returns-then-code_at-eq-OPEN : goal.returns-then-code_at-eq-OPEN
-returns-then-code_at-eq-OPEN c =
+pub returns-then-code_at-eq-OPEN-clause-read : goal.returns-then-code_at-eq-OPEN-clause-read
+returns-then-code_at-eq-OPEN-clause-read c =
     let a = c.args in
     let feeding = map_read (λ x. feed_ranges a.position x (state_of a.sink.now)) in
-    placed_as c.feed_elements.ensures (omega arith)
+    placed_as c.feed_elements.ensures.read (omega arith)
     (ap (λ t. feeding (elements t)) (behind_at a.s.now a.at)
     ∙ ap feeding (sym (item_bracket (drop a.at a.s.now) (sym c.code_at.ensures ∙ c.if-code_at-eq-OPEN.true))))
 
-pub returns-in_err-c : goal.returns-in_err-c
-returns-in_err-c c =
+pub returns-in_err-c-clause-read : goal.returns-in_err-c-clause-read
+returns-in_err-c-clause-read c =
     rw c.from_residual.ensures (no_place (fed_none _ (item_character (drop c.args.at c.args.s.now) (λ z. c.if-code_at-eq-OPEN.false (c.code_at.ensures ∙ z))
     ∙ fed_none alone (read_none c.plain.ensures c.in_err-c.was))))
 
-pub returns : goal.returns
-returns c =
+pub returns-clause-read : goal.returns-clause-read
+returns-clause-read c =
     let a = c.args in
     let g = read_some c.plain.ensures c.in_ok-c.was in
     place (record {
       from = g.from;
       to = g.to;
       is = fed_one _ (item_character (drop a.at a.s.now) (λ z. c.if-code_at-eq-OPEN.false (c.code_at.ensures ∙ z)) ∙ fed_one alone g.is refl)
-          (c.feed.ensures ∙ ap (λ b. feed b (state_of a.sink.now)) c.range_record.ensures);
+          (c.feed.ensures.state ∙ ap (λ b. feed b (state_of a.sink.now)) c.range_record.ensures);
     })

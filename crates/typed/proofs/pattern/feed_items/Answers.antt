@@ -12,6 +12,7 @@ use Rattle.typed.specs.declared.sink.Sink.{Sink}
 use Rattle.typed.specs.bridge.Reader.{then_read, several, item, ends_items}
 use Rattle.typed.specs.bridge.Stream.{State}
 use Rattle.typed.specs.bridge.Answers.{state_of, counting}
+use Rattle.typed.proofs.Laws.Loans.{loans_on}
 use Rattle.typed.proofs.Laws.Readings.{Gets, place_none, place_some, no_value, value, gets_as}
 use Rattle.typed.proofs.Laws.Turns.{Onward, onward_turn, onward_refused, onward_end}
 use Rattle.typed.proofs.Laws.Items.{items_left, one_item, items_none, items_turn, items_full, count_from}
@@ -24,8 +25,8 @@ ended : {s : List ℕ} {at next n : ℕ} (st : State) {k : Sink} → Onward s at
 ended {s} {at} {next} {n} st {k} on l e =
     gets_as (le_refl _) (λ h. sym (count_from st (drop at s)) ∙ h) (onward_end on (items_none (9 - n) n (omega arith) (state_of k) (drop next s) e))
 
-pub returns-then-ends_items : goal.returns-then-ends_items
-returns-then-ends_items c = value (ended _ c.loop-items.invariant (omega (arith, c.loop-items-test.true)) (sym c.ends_items.ensures ∙ c.if-ends_items.true))
+pub returns-then-ends_items-clause-read : goal.returns-then-ends_items-clause-read
+returns-then-ends_items-clause-read c = value (ended _ c.loop-items.invariant.read (omega (arith, c.loop-items-test.true)) (sym c.ends_items.ensures ∙ c.if-ends_items.true))
 
 -- a turn reads an item, and then what is left
 turn : (c : Else-ends_items) → (let i = c.loop-items in let t = drop i.next c.args.s.now in
@@ -34,29 +35,33 @@ turn c =
     let i = c.loop-items in
     items_turn i.items c.loop-items-test.true (state_of i.sink) (drop i.next c.args.s.now) (sym c.ends_items.ensures ∙ c.if-ends_items.false)
 
-pub returns-in_err-next : goal.returns-in_err-next
-returns-in_err-next c =
+pub returns-in_err-next-clause-read : goal.returns-in_err-next-clause-read
+returns-in_err-next-clause-read c =
     let a = c.args in
     rw c.from_residual.ensures
     (no_value (sym (count_from (state_of a.sink.now) (drop a.at a.s.now))
-    ∙ onward_refused _ c.loop-items.invariant (turn (goal.at.returns-in_err-next c).Else-ends_items) (place_none c.feed_item.ensures c.in_err-next.was)))
+    ∙ onward_refused _ c.loop-items.invariant.read (turn (goal.at.returns-in_err-next-clause-read c).Else-ends_items) (place_none c.feed_item.ensures.read c.in_err-next.was)))
 
 pub loop-items-preserved : goal.loop-items-preserved
-loop-items-preserved c = onward_turn _ c.loop-items.invariant (turn (goal.at.loop-items-preserved c).Else-ends_items) (place_some c.feed_item.ensures c.in_ok-next.was)
+loop-items-preserved c =
+    record {
+      read = onward_turn _ c.loop-items.invariant.read (turn (goal.at.loop-items-preserved c).Else-ends_items) (place_some c.feed_item.ensures.read c.in_ok-next.was);
+      same_loans = loans_on c.loop-items.invariant.same_loans c.feed_item.ensures.same_loans;
+    }
 
 -- behind the loop there are 8
 eight : (c : After-loop-items) → (let i = c.loop-items in Onward c.args.s.now c.args.at (items_left 1 8) (items_left 9 0 (state_of c.args.sink.now) (drop c.args.at c.args.s.now)) i.next i.sink)
 eight c =
     let i = c.loop-items in
     let e : i.items ≡ 8 = omega (arith, c.loop-items-test.false) in
-    subst (λ n. Onward c.args.s.now c.args.at (items_left (9 - n) n) (items_left 9 0 (state_of c.args.sink.now) (drop c.args.at c.args.s.now)) i.next i.sink) e i.invariant
+    subst (λ n. Onward c.args.s.now c.args.at (items_left (9 - n) n) (items_left 9 0 (state_of c.args.sink.now) (drop c.args.at c.args.s.now)) i.next i.sink) e i.invariant.read
 
-pub returns-then-ends_items-2 : goal.returns-then-ends_items-2
-returns-then-ends_items-2 c = value (ended _ (eight (goal.at.returns-then-ends_items-2 c).After-loop-items) (omega arith) (sym c.ends_items-2.ensures ∙ c.if-ends_items-2.true))
+pub returns-then-ends_items-2-clause-read : goal.returns-then-ends_items-2-clause-read
+returns-then-ends_items-2-clause-read c = value (ended _ (eight (goal.at.returns-then-ends_items-2-clause-read c).After-loop-items) (omega arith) (sym c.ends_items-2.ensures ∙ c.if-ends_items-2.true))
 
-pub returns-else-ends_items-2 : goal.returns-else-ends_items-2
-returns-else-ends_items-2 c =
+pub returns-else-ends_items-2-clause-read : goal.returns-else-ends_items-2-clause-read
+returns-else-ends_items-2-clause-read c =
     let a = c.args in
     let i = c.loop-items in
-    no_value (sym (count_from (state_of a.sink.now) (drop a.at a.s.now)) ∙ sym (eight (goal.at.returns-else-ends_items-2 c).After-loop-items).same
+    no_value (sym (count_from (state_of a.sink.now) (drop a.at a.s.now)) ∙ sym (eight (goal.at.returns-else-ends_items-2-clause-read c).After-loop-items).same
     ∙ items_full (state_of i.sink) (drop i.next a.s.now) (sym c.ends_items-2.ensures ∙ c.if-ends_items-2.false))

@@ -19,37 +19,37 @@ checking o x = record { check = o; loaded = x.loaded; count = x.count; buffer = 
 
 -- the items are read with an idle check, which leaves the rest as it was
 first : (c : In_ok-items) → Items (drop c.args.at c.args.s.now) (checking (refused 16) (state_of c.args.sink.now)) (state_of c.feed_items.new.sink) c.in_ok-items.items (drop c.in_ok-items.end c.args.s.now)
-first c = items_read (read_some c.feed_items.ensures c.in_ok-items.was)
+first c = items_read (read_some c.feed_items.ensures.read c.in_ok-items.was)
 
 left_alone : (c : In_ok-items) → state_of c.feed_items.new.sink ≡ checking (refused 16) (state_of c.args.sink.now)
 left_alone c = sym (first c).fed ∙ items_idle 0 (first c).items (checking (refused 16) (state_of c.args.sink.now)) 16 refl
 
-pub returns-in_err-items : goal.returns-in_err-items
-returns-in_err-items c =
-    rw c.from_residual.ensures (no_place (fed_none _ (pattern_none (drop c.args.at c.args.s.now) (read_nothing _ _ (read_none c.feed_items.ensures c.in_err-items.was)))))
+pub returns-in_err-items-clause-read : goal.returns-in_err-items-clause-read
+returns-in_err-items-clause-read c =
+    rw c.from_residual.ensures (no_place (fed_none _ (pattern_none (drop c.args.at c.args.s.now) (read_nothing _ _ (read_none c.feed_items.ensures.read c.in_err-items.was)))))
 
-pub returns-in_err-anchored : goal.returns-in_err-anchored
-returns-in_err-anchored c =
+pub returns-in_err-anchored-clause-read : goal.returns-in_err-anchored-clause-read
+returns-in_err-anchored-clause-read c =
     rw c.from_residual-in_err-anchored.ensures
-    (no_place (fed_none _ (pattern_unended (drop c.args.at c.args.s.now) (first (goal.at.returns-in_err-anchored c).In_ok-items) (read_none c.ending.ensures c.in_err-anchored.was))))
+    (no_place (fed_none _ (pattern_unended (drop c.args.at c.args.s.now) (first (goal.at.returns-in_err-anchored-clause-read c).In_ok-items) (read_none c.ending.ensures c.in_err-anchored.was))))
 
 pub invariant_of-sink-2 : goal.invariant_of-sink-2
 invariant_of-sink-2 c =
     record { ready = subst (λ n. Held (outcome_of c.args.sink.now.step) n) (sym (ap (λ (x : State). x.count) (left_alone (goal.at.invariant_of-sink-2 c).In_ok-items))) c.args.sink.now.ready }
 
-pub returns : goal.returns
-returns c =
+pub returns-clause-read : goal.returns-clause-read
+returns-clause-read c =
     let a = c.args in
     let t = drop a.at a.s.now in
     let start = state_of a.sink.now in
-    let read = first (goal.at.returns c).In_ok-items in
-    let g = read_some c.feed_items.ensures c.in_ok-items.was in
+    let read = first (goal.at.returns-clause-read c).In_ok-items in
+    let g = read_some c.feed_items.ensures.read c.in_ok-items.was in
     let h = read_some c.ending.ensures c.in_ok-anchored.was in
-    let begun = c.feed.ensures ∙ ap₂ (λ b x. feed b (checking start.check x)) c.rule_record.ensures (left_alone (goal.at.returns c).In_ok-items) in
+    let begun = c.feed.ensures.state ∙ ap₂ (λ b x. feed b (checking start.check x)) c.rule_record.ensures (left_alone (goal.at.returns-clause-read c).In_ok-items) in
     let f = g.from in
     let l = h.from in
     place (record {
       from = omega arith;
       to = h.to;
-      is = fed_one _ (pattern_whole t read _ _ h.is) (pattern_fed t read start c.in_ok-anchored.anchored begun (items_again c.feed_items-2.new.sink t _ c.feed_items-2.result read.read c.feed_items-2.ensures));
+      is = fed_one _ (pattern_whole t read _ _ h.is) (pattern_fed t read start c.in_ok-anchored.anchored begun (items_again c.feed_items-2.new.sink t _ c.feed_items-2.result read.read c.feed_items-2.ensures.read));
     })

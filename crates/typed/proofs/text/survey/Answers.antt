@@ -28,13 +28,13 @@ characters l = each_known 65536 (text l) (λ i. omega (arith, l.shared_slice_kno
 
 -- where 16 does not refuse them
 lines : (e : Else-is_none) → (lent : ℕ) × Surveyed (text (goal.at.Else-is_none e).After-feed_lines) (0 ∷ []) lent (held (goal.at.Else-is_none e).After-feed_lines)
-lines e = (_, surveyed e.feed_lines.new.sink (zeros_lent e.new-sink.ensures) e.feed_lines.ensures (e.is_none.ensures ∙ ap not e.if-is_none.false))
+lines e = (_, surveyed e.feed_lines.new.sink (zeros_lent e.new-sink.ensures.state) e.feed_lines.ensures.read (e.is_none.ensures ∙ ap not e.if-is_none.false))
 
 abbrev fed : Else-is_none → After-feed_lines
 fed d = (goal.at.Else-is_none d).After-feed_lines
 
 pub returns-then-is_none : goal.returns-then-is_none
-returns-then-is_none c = size_refused (outside c.feed_lines.new.sink (zeros_lent c.new-sink.ensures) c.feed_lines.ensures (c.is_none.ensures ∙ ap not c.if-is_none.true))
+returns-then-is_none c = size_refused (outside c.feed_lines.new.sink (zeros_lent c.new-sink.ensures.state) c.feed_lines.ensures.read (c.is_none.ensures ∙ ap not c.if-is_none.true))
 
 pub returns-in_err-step : goal.returns-in_err-step
 returns-in_err-step c =

@@ -17,8 +17,8 @@ bytes c = each_known 256 c.args.bytes.now (λ i. c.fits-bytes i)
 few : (c : In-Ok) → c.args.self.now.count ≤ 652312
 few c = count_small (state_of c.args.self.now) c.in-Ok.reader c.args.self.now.ready (ap outcome_of c.in-Ok.is)
 
-pub returns-in_default : goal.returns-in_default
-returns-in_default c = sym (feed_idle c.args.bytes.now (state_of c.args.self.now) _ (ap outcome_of c.in_default.is))
+pub returns-in_default-clause-state : goal.returns-in_default-clause-state
+returns-in_default-clause-state c = sym (feed_idle c.args.bytes.now (state_of c.args.self.now) _ (ap outcome_of c.in_default.is))
 
 pub load_records-self-requires : goal.load_records-self-requires
 load_records-self-requires c = record { table_len = ap (λ n. n % 8) c.told-bytes; fitting = (c.args.self.now.ready.reading _ (ap outcome_of c.in-Ok.is)).0 }
@@ -46,16 +46,16 @@ invariant_of-self-then-is_ok c =
           (sym c.is_ok.ensures.value ∙ c.if-is_ok.true);
     }
 
-pub returns-then-is_ok : goal.returns-then-is_ok
-returns-then-is_ok c =
+pub returns-then-is_ok-clause-state : goal.returns-then-is_ok-clause-state
+returns-then-is_ok-clause-state c =
     let done = c.load_records-self.ensures in
     rw c.put.ensures (taken_in (state_of c.args.self.now) c.in-Ok.reader c.args.self.now.ready (ap outcome_of c.in-Ok.is)
-    c.args.bytes.now c.told-bytes (bytes (goal.at.returns-then-is_ok c).In-Ok) c.load_records-self.result done.answer done.array
+    c.args.bytes.now c.told-bytes (bytes (goal.at.returns-then-is_ok-clause-state c).In-Ok) c.load_records-self.result done.answer done.array
     (sym c.is_ok.ensures.value ∙ c.if-is_ok.true))
 
-pub returns-else-is_ok : goal.returns-else-is_ok
-returns-else-is_ok c =
+pub returns-else-is_ok-clause-state : goal.returns-else-is_ok-clause-state
+returns-else-is_ok-clause-state c =
     let done = c.load_records-self.ensures in
     left_out (state_of c.args.self.now) c.in-Ok.reader c.args.self.now.ready (ap outcome_of c.in-Ok.is)
-    c.args.bytes.now c.told-bytes (bytes (goal.at.returns-else-is_ok c).In-Ok) c.load_records-self.result done.answer done.array
+    c.args.bytes.now c.told-bytes (bytes (goal.at.returns-else-is_ok-clause-state c).In-Ok) c.load_records-self.result done.answer done.array
     (sym c.is_ok.ensures.value ∙ c.if-is_ok.false)
