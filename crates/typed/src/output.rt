@@ -7,12 +7,11 @@ ghost use Rattle.typed.specs.bridge.Stream.{feed_terms, feed_part, feed_tree, fe
 ghost use Rattle.typed.specs.bridge.Answers.{state_of, Streams, SameLoans};
 
 use crate::record::{output_record, term_record};
-use crate::sink::Sink;
+use crate::sink::Records;
 use crate::symbol::{CLOSE, COMMA, OPEN};
 use expression::part::Part;
 use expression::reader::expression;
 use expression::symbol::behind;
-use rules::refusal::Refusal;
 
 // The least and the greatest coefficient of signed 16 bits.
 const LEAST: i32 = -32768;
@@ -29,68 +28,68 @@ fn within17(part: &Part) -> bool
 }
 
 // The terms by position, of the coefficients that are not 0.
-fn feed_terms(part: &Part, sink: &mut Sink<'_>)
+fn feed_terms(part: &Part, records: &mut Records<'_>)
     requires { is_within17 (Some part.now.numbers) ≡ true }
-    ensures state { state_of sink.new ≡ feed_terms 0 (drop 1 part.now.numbers) (state_of sink.old) }
-    ensures same_loans { SameLoans sink.old sink.new }
+    ensures state { state_of records.new ≡ feed_terms 0 (drop 1 part.now.numbers) (state_of records.old) }
+    ensures same_loans { SameLoans records.old records.new }
 {
     for position in 0..8u8 {
         let coefficient = part.numbers[usize::from(position) + 1];
         if coefficient != 0 {
-            sink.feed(&term_record(position, coefficient as i16));
+            records.feed(&term_record(position, coefficient as i16));
         }
     }
 }
 
-// The records of an output character: its constant, then its terms; or refusal 17, which goes before the table check's.
-fn feed_part(part: &Option<Part>, sink: &mut Sink<'_>)
-    ensures state { state_of sink.new ≡ feed_part (kept part.now) (state_of sink.old) }
-    ensures same_loans { SameLoans sink.old sink.new }
+// The records of an output character: its constant, then its terms; or refusal 17 is noted, which goes before the table check's.
+fn feed_part(part: &Option<Part>, records: &mut Records<'_>)
+    ensures state { state_of records.new ≡ feed_part (kept part.now) (state_of records.old) }
+    ensures same_loans { SameLoans records.old records.new }
 {
     match part {
         Some(part) if within17(part) => {
-            sink.feed(&output_record(part.numbers[0]));
-            feed_terms(part, sink);
+            records.feed(&output_record(part.numbers[0]));
+            feed_terms(part, records);
         }
-        _ => sink.step = Err(Refusal::Expression),
+        _ => records.sink.fine = false,
     }
 }
 
 // One expression.
-fn feed_expression(s: &[u16], at: usize, sink: &mut Sink<'_>) -> Option<usize>
+fn feed_expression(s: &[u16], at: usize, records: &mut Records<'_>) -> Option<usize>
     requires { at ≤ length s.now }
-    ensures read { Streams s.now at result (map_read (λ t. feed_tree t (state_of sink.old)) (expression_of (drop at s.now))) sink.new }
-    ensures same_loans { SameLoans sink.old sink.new }
+    ensures read { Streams s.now at result (map_read (λ t. feed_tree t (state_of records.old)) (expression_of (drop at s.now))) records.new }
+    ensures same_loans { SameLoans records.old records.new }
 {
     let (part, next) = expression(s, at)?;
-    feed_part(&part, sink);
+    feed_part(&part, records);
     Some(next)
 }
 
 // Expressions with commas between.
-fn feed_list(s: &[u16], at: usize, sink: &mut Sink<'_>) -> Option<usize>
+fn feed_list(s: &[u16], at: usize, records: &mut Records<'_>) -> Option<usize>
     requires { at ≤ length s.now }
-    ensures read { Streams s.now at result (map_read (λ ts. feed_outputs ts (state_of sink.old)) (items expression_of (drop at s.now))) sink.new }
-    ensures same_loans { SameLoans sink.old sink.new }
+    ensures read { Streams s.now at result (map_read (λ ts. feed_outputs ts (state_of records.old)) (items expression_of (drop at s.now))) records.new }
+    ensures same_loans { SameLoans records.old records.new }
 {
-    let mut next = feed_expression(s, at, sink)?;
+    let mut next = feed_expression(s, at, records)?;
     // no `for`, since a comma says whether there is one more
     while let Some(more) = behind(s, next, COMMA) {
-        next = feed_expression(s, more, sink)?;
+        next = feed_expression(s, more, records)?;
     }
     Some(next)
 }
 
 // "output expressions in square brackets with commas between (or none, as `[]`)"
-pub fn feed_outputs(s: &[u16], at: usize, sink: &mut Sink<'_>) -> Option<usize>
+pub fn feed_outputs(s: &[u16], at: usize, records: &mut Records<'_>) -> Option<usize>
     requires { at ≤ length s.now }
-    ensures read { Streams s.now at result (map_read (λ ts. feed_outputs ts (state_of sink.old)) (bracketed expression_of (drop at s.now))) sink.new }
-    ensures same_loans { SameLoans sink.old sink.new }
+    ensures read { Streams s.now at result (map_read (λ ts. feed_outputs ts (state_of records.old)) (bracketed expression_of (drop at s.now))) records.new }
+    ensures same_loans { SameLoans records.old records.new }
 {
     let inside = behind(s, at, OPEN)?;
     if let Some(end) = behind(s, inside, CLOSE) {
         return Some(end);
     }
-    let listed = feed_list(s, inside, sink)?;
+    let listed = feed_list(s, inside, records)?;
     behind(s, listed, CLOSE)
 }

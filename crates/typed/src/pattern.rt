@@ -7,7 +7,7 @@ ghost use Rattle.typed.specs.bridge.Stream.{feed_range, feed_ranges, feed_patter
 ghost use Rattle.typed.specs.bridge.Answers.{state_of, closing_of, ending_of, Finds, Bounds, Streams, CountsItems, SameLoans};
 
 use crate::record::{range_record, rule_record};
-use crate::sink::Sink;
+use crate::sink::Records;
 use crate::symbol::{BACKSLASH, CLOSE, DASH, DOLLAR, OPEN, QUOTE};
 use expression::symbol::code_at;
 use rules::refusal::Refusal;
@@ -68,41 +68,41 @@ fn element(s: &[u16], at: usize) -> Option<(Between, usize)>
 }
 
 // An element, and its range's record.
-fn feed_element(s: &[u16], at: usize, position: u8, sink: &mut Sink<'_>) -> Option<usize>
+fn feed_element(s: &[u16], at: usize, position: u8, records: &mut Records<'_>) -> Option<usize>
     requires { at ≤ length s.now }
-    ensures read { Streams s.now at result (map_read (λ x. feed_range position x (state_of sink.old)) (element_of (drop at s.now))) sink.new }
-    ensures same_loans { SameLoans sink.old sink.new }
+    ensures read { Streams s.now at result (map_read (λ x. feed_range position x (state_of records.old)) (element_of (drop at s.now))) records.new }
+    ensures same_loans { SameLoans records.old records.new }
 {
     let (between, next) = element(s, at)?;
-    sink.feed(&range_record(position, between.lowest, between.highest));
+    records.feed(&range_record(position, between.lowest, between.highest));
     Some(next)
 }
 
 // The elements of a bracket, and what closes it.
-fn feed_elements(s: &[u16], at: usize, position: u8, sink: &mut Sink<'_>) -> Option<usize>
+fn feed_elements(s: &[u16], at: usize, position: u8, records: &mut Records<'_>) -> Option<usize>
     requires { at ≤ length s.now }
-    ensures read { Streams s.now at result (map_read (λ x. feed_ranges position x (state_of sink.old)) (elements_of (drop at s.now))) sink.new }
-    ensures same_loans { SameLoans sink.old sink.new }
+    ensures read { Streams s.now at result (map_read (λ x. feed_ranges position x (state_of records.old)) (elements_of (drop at s.now))) records.new }
+    ensures same_loans { SameLoans records.old records.new }
 {
-    let mut next = feed_element(s, at, position, sink)?;
+    let mut next = feed_element(s, at, position, records)?;
     // no `for`, since what comes next says whether there is one more
     while code_at(s, next) != CLOSE {
-        next = feed_element(s, next, position, sink)?;
+        next = feed_element(s, next, position, records)?;
     }
     Some(next + 1)
 }
 
 // "each one character (a blank too) or, in square brackets, one or more single characters or ranges"
-fn feed_item(s: &[u16], at: usize, position: u8, sink: &mut Sink<'_>) -> Option<usize>
+fn feed_item(s: &[u16], at: usize, position: u8, records: &mut Records<'_>) -> Option<usize>
     requires { at ≤ length s.now }
-    ensures read { Streams s.now at result (map_read (λ x. feed_ranges position x (state_of sink.old)) (item_of (drop at s.now))) sink.new }
-    ensures same_loans { SameLoans sink.old sink.new }
+    ensures read { Streams s.now at result (map_read (λ x. feed_ranges position x (state_of records.old)) (item_of (drop at s.now))) records.new }
+    ensures same_loans { SameLoans records.old records.new }
 {
     if code_at(s, at) == OPEN {
-        return feed_elements(s, at + 1, position, sink);
+        return feed_elements(s, at + 1, position, records);
     }
     let (c, next) = plain(s, at, &IN_QUOTES)?;
-    sink.feed(&range_record(position, c, c));
+    records.feed(&range_record(position, c, c));
     Some(next)
 }
 
@@ -117,17 +117,17 @@ fn ends_items(s: &[u16], at: usize) -> bool
 const MOST_ITEMS: u8 = 8;
 
 // The items of a pattern, at most 8: how many, and the place behind them.
-fn feed_items(s: &[u16], at: usize, sink: &mut Sink<'_>) -> Option<(u8, usize)>
+fn feed_items(s: &[u16], at: usize, records: &mut Records<'_>) -> Option<(u8, usize)>
     requires { at ≤ length s.now }
-    ensures read { CountsItems s.now at (state_of sink.old) result sink.new }
-    ensures same_loans { SameLoans sink.old sink.new }
+    ensures read { CountsItems s.now at (state_of records.old) result records.new }
+    ensures same_loans { SameLoans records.old records.new }
 {
     let mut next = at;
     for items in 0..MOST_ITEMS {
         if ends_items(s, next) {
             return Some((items, next));
         }
-        next = feed_item(s, next, items, sink)?;
+        next = feed_item(s, next, items, records)?;
     }
     if ends_items(s, next) {
         Some((MOST_ITEMS, next))
@@ -160,17 +160,17 @@ fn ending(s: &[u16], items: u8, at: usize) -> Option<(bool, usize)>
 
 // A pattern, from behind its opening quotation mark. It is read twice: first with an idle check, which takes no record, for its length and
 // whether it is anchored, which its first record has; then its ranges are fed.
-pub fn feed_pattern(s: &[u16], at: usize, sink: &mut Sink<'_>) -> Option<usize>
+pub fn feed_pattern(s: &[u16], at: usize, records: &mut Records<'_>) -> Option<usize>
     requires { at ≤ length s.now }
-    ensures read { Streams s.now at result (map_read (λ q. feed_pattern q (state_of sink.old)) (pattern_of (drop at s.now))) sink.new }
-    ensures same_loans { SameLoans sink.old sink.new }
+    ensures read { Streams s.now at result (map_read (λ q. feed_pattern q (state_of records.old)) (pattern_of (drop at s.now))) records.new }
+    ensures same_loans { SameLoans records.old records.new }
 {
-    let step = sink.step;
-    sink.step = Err(Refusal::Grammar);
-    let (items, end) = feed_items(s, at, sink)?;
+    let step = records.sink.step;
+    records.sink.step = Err(Refusal::Grammar);
+    let (items, end) = feed_items(s, at, records)?;
     let (anchored, next) = ending(s, items, end)?;
-    sink.step = step;
-    sink.feed(&rule_record(items, anchored));
-    feed_items(s, at, sink);
+    records.sink.step = step;
+    records.feed(&rule_record(items, anchored));
+    feed_items(s, at, records);
     Some(next)
 }

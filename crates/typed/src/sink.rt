@@ -8,15 +8,22 @@ use rules::load::load_records;
 use rules::reader::Reader;
 use rules::refusal::Refusal;
 
-// What is kept while a text is read: the table check's summary or refusal, or 17 once that was met; the bytes of the records that the check took
-// (counted where they don't fit, too, so this is no length of the buffer); its array; and the lent buffer.
-#[derive(Drop)]
-pub struct Sink<'a> {
+// What is kept by value while a text is read: whether refusal 17 met nothing so far, the table check's summary or refusal, and the bytes of the
+// records that the check took (counted where they don't fit, too, so this is no length of the buffer).
+#[derive(Clone, Copy)]
+pub struct Sink {
+    pub fine: bool,
     pub step: Result<Reader, Refusal>,
     pub count: usize,
+    pub ghost ready: { Held (outcome_of step) count },
+}
+
+// Where the records go: what is kept, with the table check's array and the buffer that are lent.
+#[derive(Drop)]
+pub struct Records<'a> {
+    pub sink: Sink,
     pub loaded: &'a mut [u16; LOADED],
     pub buffer: &'a mut [u8],
-    pub ghost ready: { Held (outcome_of step) count },
 }
 
 // A record's bytes at a place of the buffer, if they fit.
@@ -29,18 +36,21 @@ fn put(buffer: &mut [u8], place: usize, bytes: &[u8; 8])
     }
 }
 
-impl<'a> Sink<'a> {
+impl<'a> Records<'a> {
     ghost use Rattle.typed.specs.bridge.Stream.{feed as fed, beginning};
     ghost use Rattle.typed.specs.bridge.Answers.{state_of, SameLoans};
 
     // Nothing read yet.
-    pub fn new(loaded: &'a mut [u16; LOADED], buffer: &'a mut [u8]) -> Sink<'a>
+    pub fn new(loaded: &'a mut [u16; LOADED], buffer: &'a mut [u8]) -> Records<'a>
         ensures state { state_of result ≡ beginning loaded.old buffer.old buffer.entry.ghost_name }
         ensures same_array { result.loaded.ghost_name ≡ loaded.entry.ghost_name }
     {
-        Sink {
-            step: Ok(Reader::start()),
-            count: 0,
+        Records {
+            sink: Sink {
+                fine: true,
+                step: Ok(Reader::start()),
+                count: 0,
+            },
             loaded,
             buffer,
         }
@@ -51,13 +61,13 @@ impl<'a> Sink<'a> {
         ensures state { state_of self.new ≡ fed bytes.now (state_of self.old) }
         ensures same_loans { SameLoans self.old self.new }
     {
-        let Ok(reader) = self.step else {
+        let Ok(reader) = self.sink.step else {
             return;
         };
-        self.step = load_records(reader, bytes, self.loaded);
-        if self.step.is_ok() {
-            put(self.buffer, self.count, bytes);
-            self.count += 8;
+        self.sink.step = load_records(reader, bytes, self.loaded);
+        if self.sink.step.is_ok() {
+            put(self.buffer, self.sink.count, bytes);
+            self.sink.count += 8;
         }
     }
 }

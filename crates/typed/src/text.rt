@@ -7,7 +7,7 @@ ghost use Rattle.typed.specs.bridge.Outcome.{text_records};
 ghost use Rattle.typed.specs.bridge.Answers.{Written};
 
 use crate::line::feed_lines;
-use crate::sink::Sink;
+use crate::sink::Records;
 use rules::layout::LOADED;
 use rules::load::finish_load;
 use rules::refusal::Refusal;
@@ -18,18 +18,17 @@ fn survey(text: &[u16]) -> Result<usize, Refusal>
 {
     let mut loaded = [0u16; LOADED];
     let mut nothing = [0u8; 1];
-    let mut sink = Sink::new(&mut loaded, &mut nothing);
-    if feed_lines(text, &mut sink).is_none() {
+    let mut records = Records::new(&mut loaded, &mut nothing);
+    if feed_lines(text, &mut records).is_none() {
         return Err(Refusal::Grammar);
     }
-    let Sink {
-        step,
-        count,
-        loaded,
-        ..
-    } = sink;
-    finish_load(step?, loaded)?;
-    Ok(count)
+    let Records { sink, loaded, .. } = records;
+    if !sink.fine {
+        return Err(Refusal::Expression);
+    }
+    let reader = sink.step?;
+    finish_load(reader, loaded)?;
+    Ok(sink.count)
 }
 
 // The second pass: the records of a text that is accepted and fits.
@@ -37,7 +36,7 @@ fn write(text: &[u16], table: &mut [u8])
     ensures { Written text.now table.old table.new }
 {
     let mut loaded = [0u16; LOADED];
-    feed_lines(text, &mut Sink::new(&mut loaded, table));
+    feed_lines(text, &mut Records::new(&mut loaded, table));
 }
 
 // A text's table records at the start of the lent buffer, and their length in bytes; or the refusal, and nothing is written.

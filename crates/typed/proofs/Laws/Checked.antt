@@ -35,6 +35,24 @@ pub fold_idle : (cs : List (List ℕ)) (s : State) (n : ℕ) → s.check ≡ ref
 fold_idle [] s n e = refl
 fold_idle (c ∷ cs) s n e = ap (fold_left feed cs) (feed_idle c s n e) ∙ fold_idle cs s n e
 
+-- whether refusal 17 was met does not change
+
+feed_fine : (c : List ℕ) (s : State) → (feed c s).fine ≡ s.fine
+unfolding feed
+feed_fine c s = by s.check
+  where
+    on : (o : Outcome Reader) (l : List ℕ) → (tested o c l s).fine ≡ s.fine
+    on (refused n) l = refl
+    on (accepted r) l = refl
+
+    by : (o : Outcome Reader) → (feed_to o c s).fine ≡ s.fine
+    by (refused n) = refl
+    by (accepted r) = on (admitted r (decode c)) (if_taken r (decode c) s.loaded)
+
+pub fold_fine : (cs : List (List ℕ)) (s : State) → (fold_left feed cs s).fine ≡ s.fine
+fold_fine [] s = refl
+fold_fine (c ∷ cs) s = fold_fine cs (feed c s) ∙ feed_fine c s
+
 -- the loan does not change
 
 feed_lent : (c : List ℕ) (s : State) → (feed c s).lent ≡ s.lent

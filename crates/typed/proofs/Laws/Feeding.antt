@@ -88,11 +88,11 @@ module _ (s : State) (r : Reader) (h : Ready s) (e : s.check ≡ accepted r) whe
     still = subst Ready (sym same) (feed_ready c s bytes h)
 
     -- it was taken in, and its bytes are put
-    pub taken_in : is_ok o ≡ true → record { check = outcome_of o; loaded = after; count = s.count + 8; buffer = put s.count c s.buffer; lent = s.lent } ≡ feed c s
+    pub taken_in : is_ok o ≡ true → record { fine = s.fine; check = outcome_of o; loaded = after; count = s.count + 8; buffer = put s.count c s.buffer; lent = s.lent } ≡ feed c s
     taken_in y = by o y ∙ same
       where
         by : (o : Result Reader Refusal) → is_ok o ≡ true →
-            record { check = outcome_of o; loaded = after; count = s.count + 8; buffer = put s.count c s.buffer; lent = s.lent } ≡ tested (outcome_of o) c after s
+            record { fine = s.fine; check = outcome_of o; loaded = after; count = s.count + 8; buffer = put s.count c s.buffer; lent = s.lent } ≡ tested (outcome_of o) c after s
         by (Ok r') y = refl
         by (Err n) y = let z : ◌≡◌ {A = ℕ} 0 1 = ap (λ b. cond b 1 0) y in absurd (omega arith)
 
@@ -104,11 +104,11 @@ module _ (s : State) (r : Reader) (h : Ready s) (e : s.check ≡ accepted r) whe
         by (Err n) y k = record { reading = λ r' z. absurd (accepted_not r' (number_of n) (sym z)) }
 
     -- it was refused
-    pub left_out : is_ok o ≡ false → record { check = outcome_of o; loaded = after; count = s.count; buffer = s.buffer; lent = s.lent } ≡ feed c s
+    pub left_out : is_ok o ≡ false → record { fine = s.fine; check = outcome_of o; loaded = after; count = s.count; buffer = s.buffer; lent = s.lent } ≡ feed c s
     left_out y = by o y ∙ same
       where
         by : (o : Result Reader Refusal) → is_ok o ≡ false →
-            record { check = outcome_of o; loaded = after; count = s.count; buffer = s.buffer; lent = s.lent } ≡ tested (outcome_of o) c after s
+            record { fine = s.fine; check = outcome_of o; loaded = after; count = s.count; buffer = s.buffer; lent = s.lent } ≡ tested (outcome_of o) c after s
         by (Ok r') y = let z : ◌≡◌ {A = ℕ} 1 0 = ap (λ b. cond b 1 0) y in absurd (omega arith)
         by (Err n) y = refl
 

@@ -17,7 +17,7 @@ use Rattle.expression.proofs.Laws.Sound.{map_got}
 use Rattle.typed.specs.bridge.Reader.{then_read, several, item, ends_items, closing, pattern_of}
 use Rattle.typed.specs.bridge.Stream.{State, feed, feed_ranges, feed_items, feed_pattern}
 use Rattle.typed.specs.bridge.Answers.{counting, ending_of, state_of}
-use Rattle.typed.specs.declared.sink.Sink.{Sink}
+use Rattle.typed.specs.declared.sink.Records.{Records}
 use Rattle.typed.proofs.Laws.Feeding.{feed_idle}
 use Rattle.typed.proofs.Laws.Readings.{Gets, fed_one, fed_none}
 use Rattle.typed.proofs.Laws.Ends.{ended, pattern_end}
@@ -125,7 +125,7 @@ unfolding pattern_of then_read
 pattern_read t ps u e = ap (λ d. then_read d closing) e ∙ pattern_end ps u
 
 -- items that were read once are fed again from another state
-pub items_again : {s : List ℕ} {at : ℕ} (k : Sink) (t : List ℕ) (st : State) {ps : List (List Range)} {u : List ℕ} (r : Option (ℕ × ℕ)) →
+pub items_again : {s : List ℕ} {at : ℕ} (k : Records) (t : List ℕ) (st : State) {ps : List (List Range)} {u : List ℕ} (r : Option (ℕ × ℕ)) →
     several item ends_items 9 t ≡ got ps u → Answers (λ n. (state_of k, n)) s at (map_read (counting st) (several item ends_items 9 t)) r → state_of k ≡ feed_items 0 ps st
 items_again {s} k t st {ps} {u} r e x = by r (x.same ∙ fed_one (counting st) e refl)
   where

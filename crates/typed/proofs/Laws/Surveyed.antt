@@ -14,7 +14,7 @@ use Rattle.meaning.specs.Records.{Bytes}
 use Rattle.meaning.specs.Reader.{read_table}
 use Rattle.meaning.specs.Direct.{over}
 use Rattle.meaning.specs.bridge.Flat.{loaded_size, safe_at, Flat}
-use Rattle.meaning.proofs.Laws.Refusal.{accepted_not, accepted_same, refused_same}
+use Rattle.meaning.proofs.Laws.Refusal.{accepted_not, accepted_same}
 use Rattle.rules.specs.declared.reader.Reader.{Reader}
 use Rattle.rules.specs.declared.load.Load.{Load}
 use Rattle.rules.specs.bridge.Modes.{the_mode}
@@ -29,7 +29,7 @@ use Rattle.expression.specs.bridge.Text as Text
 use Rattle.expression.proofs.Laws.Sound.{map_got}
 use Rattle.typed.specs.Grammar.{Line, TypedText}
 use Rattle.typed.specs.Records.{lines_within17, records}
-use Rattle.typed.specs.declared.sink.Sink.{Sink}
+use Rattle.typed.specs.declared.sink.Records.{Records}
 use Rattle.typed.specs.bridge.Reader.{lines_of}
 use Rattle.typed.specs.bridge.Outcome.{checked_records, text_records}
 use Rattle.typed.specs.bridge.Stream.{State, feed_lines, beginning, nothing_read, weight, Held}
@@ -40,7 +40,7 @@ use Rattle.typed.proofs.Laws.Decided.{text_checked}
 use Rattle.typed.proofs.Laws.Proper.{text_proper}
 use Rattle.typed.proofs.Laws.Readings.{place_none, place_some}
 use Rattle.typed.proofs.Laws.Checked.{fed_all, check_of, checked_answer, checked_loaded, checked_count, checked_buffer, fold_lent}
-use Rattle.typed.proofs.Laws.Streamed.{Feeds, lines_meet, lines_feed}
+use Rattle.typed.proofs.Laws.Streamed.{Feeds, lines_note, lines_feed}
 
 -- what holds of every state on the way holds at the start
 pub start_ready : Held (accepted started) 0
@@ -66,7 +66,7 @@ some_is : {A : Type 0} (o : Option A) → is_some o ≡ true → (x : A) × (o �
 some_is None e = let z : ◌≡◌ {A = ℕ} 0 1 = ap (λ b. cond b 1 0) e in absurd (omega arith)
 some_is (Some x) e = (x, refl)
 
-module _ {text before : List ℕ} {lent at : ℕ} {first : State} {r : Option ℕ} (k : Sink) (begins : first ≡ nothing_read before lent)
+module _ {text before : List ℕ} {lent at : ℕ} {first : State} {r : Option ℕ} (k : Records) (begins : first ≡ nothing_read before lent)
     (x : Streams text at r (map_read (λ ls. feed_lines ls first) (lines_of text)) k) where
   -- "16: text outside this grammar"
   pub outside : is_some r ≡ false → text_records text ≡ refused 16
@@ -89,22 +89,18 @@ module _ {text buffer : List ℕ} {lent : ℕ} {s : State} (x : Surveyed text bu
   typed : TypedText text x.lines
   typed = lines_sound text x.lines x.rest x.read
 
-  -- where 17 meets an expression, the check says so
-  beyond : lines_within17 x.lines ≡ false → (s.check ≡ refused 17) × (text_records text ≡ refused 17)
+  noted : s.fine ≡ lines_within17 x.lines
+  noted = ap (λ t. t.fine) x.state ∙ lines_note x.lines (nothing_read buffer lent)
+
+  -- an expression that 17 refuses
+  pub beyond : s.fine ≡ false → text_records text ≡ refused 17
   unfolding checked_records select
-  beyond e = (ap (λ t. t.check) x.state ∙ lines_meet x.lines (nothing_read buffer lent) e, text_checked typed ∙ rw e)
+  beyond e = text_checked typed ∙ rw (sym noted ∙ e)
 
-  pub within : (reader : Reader) → s.check ≡ accepted reader → lines_within17 x.lines ≡ true
-  within reader a = by (lines_within17 x.lines) refl
-    where
-      by : (b : Bool) → lines_within17 x.lines ≡ b → lines_within17 x.lines ≡ true
-      by true e = e
-      by false e = absurd (accepted_not reader 17 (sym a ∙ (beyond e).0))
-
-  module _ (e : lines_within17 x.lines ≡ true) where
+  module _ (e : s.fine ≡ true) where
     records_checked : text_records text ≡ and_then (read_table bytes_of) (λ t. accepted bytes_of)
     unfolding checked_records select
-    records_checked = text_checked typed ∙ rw e
+    records_checked = text_checked typed ∙ rw (sym noted ∙ e)
 
     records_accepted : (b : List ℕ) → text_records text ≡ accepted b → b ≡ bytes_of
     unfolding and_then
@@ -115,7 +111,7 @@ module _ {text buffer : List ℕ} {lent : ℕ} {s : State} (x : Surveyed text bu
         by (accepted t) p = accepted_same b bytes_of p
 
     feeds : Feeds (feed_lines x.lines) bytes_of
-    feeds = lines_feed x.lines e
+    feeds = lines_feed x.lines (sym noted ∙ e)
 
     held : s ≡ fed_all feeds.chunks buffer lent
     held = x.state ∙ feeds.fed (nothing_read buffer lent)
@@ -151,8 +147,8 @@ module _ {text buffer : List ℕ} {lent : ℕ} {s : State} (x : Surveyed text bu
       table_refused n q = records_checked ∙ rw q
 
       -- a record that the table check refuses
-      check_unfit : (n : ℕ) → s.check ≡ refused n → text_records text ≡ refused n
-      check_unfit n q =
+      pub unfit : (n : ℕ) → s.check ≡ refused n → text_records text ≡ refused n
+      unfit n q =
           let l = records_loaded bytes_of bytes refl (records_whole x.lines) n s.loaded (sym q ∙ answered) in
           table_refused n (is_refused bytes_of (refused n) s.loaded l n refl)
 
@@ -182,26 +178,18 @@ module _ {text buffer : List ℕ} {lent : ℕ} {s : State} (x : Surveyed text bu
         same = records_accepted b q
 
         by : (o : Outcome Reader) → s.check ≡ o → s.buffer ≡ over b buffer
-        by (refused n) p = absurd (accepted_not b n (sym q ∙ check_unfit characters n p))
+        by (refused n) p = absurd (accepted_not b n (sym q ∙ unfit characters n p))
         by (accepted r) p = stored r p (subst (λ c. length c ≤ length buffer) same fits) ∙ ap (λ c. over c buffer) (sym same)
 
-  -- a refusal that is held, 17 or the table check's
-  pub unfit : Characters text → (n : ℕ) → s.check ≡ refused n → text_records text ≡ refused n
-  unfit characters n q = by (lines_within17 x.lines) refl
-    where
-      by : (b : Bool) → lines_within17 x.lines ≡ b → text_records text ≡ refused n
-      by true e = check_unfit e characters n q
-      by false e = let m = beyond e in m.1 ∙ ap refused (refused_same 17 n (sym m.0 ∙ q))
-
--- what the second pass leaves: what is behind the sink's loan, if that is the one that was lent
-pub written : {text before after : List ℕ} {lent at : ℕ} {first : State} {r : Option ℕ} (k : Sink) → first ≡ nothing_read before lent →
+-- what the second pass leaves: what is behind the loan, if that is the one that was lent
+pub written : {text before after : List ℕ} {lent at : ℕ} {first : State} {r : Option ℕ} (k : Records) → first ≡ nothing_read before lent →
     Streams text at r (map_read (λ ls. feed_lines ls first) (lines_of text)) k → (k.buffer.ghost_name ≡ lent → after ≡ k.buffer.now) → Characters text → Written text before after
 written {text} {before} {after} {lent} {at} {first} {r} k begins x back characters b q fits = by (is_some r) refl
   where
-    on : (y : Surveyed text before lent (state_of k)) → (f : Bool) → lines_within17 y.lines ≡ f → after ≡ over b before
+    on : (y : Surveyed text before lent (state_of k)) → (f : Bool) → k.sink.fine ≡ f → after ≡ over b before
     on y true e = back (still_lent y e) ∙ left y e characters b q fits
-    on y false e = absurd (accepted_not b 17 (sym q ∙ (beyond y e).1))
+    on y false e = absurd (accepted_not b 17 (sym q ∙ beyond y e))
 
     by : (f : Bool) → is_some r ≡ f → after ≡ over b before
     by false e = absurd (accepted_not b 16 (sym q ∙ outside k begins x e))
-    by true e = on (surveyed k begins x e) (lines_within17 (surveyed k begins x e).lines) refl
+    by true e = on (surveyed k begins x e) k.sink.fine refl

@@ -9,7 +9,7 @@ use native.Mathlib.Omega.{arith}
 use lib.ListN.{length, drop, length-drop}
 use Rattle.lists.specs.Lists.{fold_left}
 use Rattle.expression.specs.bridge.Text.{Read, refused, got, map_read}
-use Rattle.typed.specs.declared.sink.Sink.{Sink}
+use Rattle.typed.specs.declared.sink.Records.{Records}
 use Rattle.typed.specs.bridge.Reader.{then_read, any_number}
 use Rattle.typed.specs.bridge.Stream.{State}
 use Rattle.typed.specs.bridge.Answers.{state_of}
@@ -25,21 +25,21 @@ unfolding then_read
 then_on a t f = refl
 
 -- what holds at the head of a loop: what is left, by `left`, is what is left of the whole reading
-pub record Onward {B : Type 0} (s : List ℕ) (at : ℕ) (left : State → List ℕ → Read B) (whole : Read B) (next : ℕ) (k : Sink) : Type 0 where
+pub record Onward {B : Type 0} (s : List ℕ) (at : ℕ) (left : State → List ℕ → Read B) (whole : Read B) (next : ℕ) (k : Records) : Type 0 where
   pub from : at ≤ next
   pub to : next ≤ length s
   pub same : left (state_of k) (drop next s) ≡ whole
 
 -- it holds behind the first reading
-pub onward_first : {B : Type 0} {s : List ℕ} {at next : ℕ} (left : State → List ℕ → Read B) {whole : Read B} {k : Sink} {d : Read State} →
+pub onward_first : {B : Type 0} {s : List ℕ} {at next : ℕ} (left : State → List ℕ → Read B) {whole : Read B} {k : Records} {d : Read State} →
     whole ≡ then_read d left → Gets s at d (state_of k) next → Onward s at left whole next k
 onward_first {s = s} {next = next} left {k = k} e g =
     record { from = g.from; to = g.to; same = sym (then_on (state_of k) (drop next s) left) ∙ ap (λ d. then_read d left) (sym g.is) ∙ sym e }
 
 -- an item is read and fed, and then what is left; or it is refused, and so is the whole
-module _ {B : Type 0} {s : List ℕ} {at next : ℕ} {left : State → List ℕ → Read B} (left' : State → List ℕ → Read B) {whole : Read B} {k : Sink} {d : Read State}
+module _ {B : Type 0} {s : List ℕ} {at next : ℕ} {left : State → List ℕ → Read B} (left' : State → List ℕ → Read B) {whole : Read B} {k : Records} {d : Read State}
     (on : Onward s at left whole next k) (step : left (state_of k) (drop next s) ≡ then_read d left') where
-  pub onward_turn : {next' : ℕ} {k' : Sink} → Gets s next d (state_of k') next' → Onward s at left' whole next' k'
+  pub onward_turn : {next' : ℕ} {k' : Records} → Gets s next d (state_of k') next' → Onward s at left' whole next' k'
   onward_turn {next'} {k'} g =
       record {
         from = le_trans on.from g.from;
@@ -51,7 +51,7 @@ module _ {B : Type 0} {s : List ℕ} {at next : ℕ} {left : State → List ℕ 
   onward_refused e = sym on.same ∙ step ∙ ap (λ d. then_read d left') e ∙ then_refused left'
 
 -- nothing is left where the loop ends
-pub onward_end : {B : Type 0} {s : List ℕ} {at next : ℕ} {left : State → List ℕ → Read B} {whole : Read B} {k : Sink} {b : B} →
+pub onward_end : {B : Type 0} {s : List ℕ} {at next : ℕ} {left : State → List ℕ → Read B} {whole : Read B} {k : Records} {b : B} →
     Onward s at left whole next k → left (state_of k) (drop next s) ≡ got b (drop next s) → Gets s at whole b next
 onward_end on end = record { from = on.from; to = on.to; is = sym on.same ∙ end }
 

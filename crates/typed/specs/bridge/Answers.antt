@@ -9,7 +9,7 @@ use Rattle.expression.specs.bridge.Text.{Read, refused, got, map_read, first, be
 use Rattle.expression.specs.bridge.Answers.{Answers}
 use Rattle.typed.specs.Grammar.{range}
 use Rattle.typed.specs.declared.pattern.Between.{Between}
-use Rattle.typed.specs.declared.sink.Sink.{Sink}
+use Rattle.typed.specs.declared.sink.Records.{Records}
 use Rattle.typed.specs.bridge.Reader.{several, item, ends_items}
 use Rattle.typed.specs.bridge.Outcome.{text_records}
 use Rattle.typed.specs.bridge.Stream.{State, feed_items}
@@ -37,24 +37,25 @@ Bounds s at r d = Answers range_of s at d r
 abbrev pub Marks : List ℕ → ℕ → Option ℕ → Read (Unit {0}) → Type 0
 Marks s at r d = Places s at tt r d
 
-abbrev pub state_of : Sink → State
-state_of k = record { check = outcome_of k.step; loaded = k.loaded.now; count = k.count; buffer = k.buffer.now; lent = k.buffer.ghost_name }
+-- what is kept by value, with the array and the buffer that are lent
+abbrev pub state_of : Records → State
+state_of k = record { fine = k.sink.fine; check = outcome_of k.sink.step; loaded = k.loaded.now; count = k.sink.count; buffer = k.buffer.now; lent = k.buffer.ghost_name }
 
--- a sink still has what it was lent: the same array, and the same buffer with its length
-pub record SameLoans (k k' : Sink) : Type 0 where
+-- the array and the buffer are still the same loans, and the buffer has its length
+pub record SameLoans (k k' : Records) : Type 0 where
   pub array : k'.loaded.ghost_name ≡ k.loaded.ghost_name
   pub buffer : k'.buffer.ghost_name ≡ k.buffer.ghost_name
   pub size : length k'.buffer.now ≡ length k.buffer.now
 
--- what was read into a state, which the sink then holds
-abbrev pub Streams : List ℕ → ℕ → Option ℕ → Read State → Sink → Type 0
+-- what was read into a state, which is then held
+abbrev pub Streams : List ℕ → ℕ → Option ℕ → Read State → Records → Type 0
 Streams s at r d k = Places s at (state_of k) r d
 
 -- the items of a pattern, fed from position 0, and their number
 abbrev pub counting : State → List (List Range) → State × ℕ
 counting st ps = (feed_items 0 ps st, length ps)
 
-abbrev pub CountsItems : List ℕ → ℕ → State → Option (ℕ × ℕ) → Sink → Type 0
+abbrev pub CountsItems : List ℕ → ℕ → State → Option (ℕ × ℕ) → Records → Type 0
 CountsItems s at st r k = Answers (λ n. (state_of k, n)) s at (map_read (counting st) (several item ends_items 9 (drop at s))) r
 
 -- the second pass over a text that is accepted leaves its records at the buffer's start, if they fit

@@ -1,5 +1,5 @@
 -- What the code keeps while it reads a text, and how each record that comes out changes it: the table check's summary and array, and the buffer.
-use Rattle.std.specs.Prelude.{cond, List, [], ◌∷◌, ◌≡◌, ℕ, suc, ◌+◌, ◌*◌, ◌≤◌, leb, ℤ, length}
+use Rattle.std.specs.Prelude.{Bool, true, false, cond, List, [], ◌∷◌, ◌≡◌, ℕ, suc, ◌+◌, ◌*◌, ◌≤◌, leb, ℤ, length}
 use Rattle.std.proofs.Math.Seq.{paste}
 use Rattle.lists.specs.Lists.{fold_left, pad}
 use Rattle.meaning.specs.Refusal.{Outcome, refused, accepted}
@@ -16,9 +16,10 @@ use Rattle.expression.specs.Parts.{Part}
 use Rattle.typed.specs.Grammar.{Pattern, Head, pattern, otherwise, Line}
 use Rattle.typed.specs.Records.{part_of, constant, coefficients, within17}
 
--- the table check of the records so far, or 17 once that was met, and its array; the bytes of those that it took in, the buffer, and which loan it is
--- (no reader changes that)
+-- whether 17 met nothing so far; the table check of the records so far, and its array; the bytes of those that it took in, the buffer, and which loan
+-- it is (no reader changes that)
 pub record State : Type 0 where
+  pub fine : Bool
   pub check : Outcome Reader
   pub loaded : List ℕ
   pub count : ℕ
@@ -31,8 +32,8 @@ put place c buffer = cond (leb (place + 8) (length buffer)) (paste buffer place 
 
 -- after a record's test: taken in, or refused
 abbrev pub tested : Outcome Reader → List ℕ → List ℕ → State → State
-tested (refused n) c loaded s = record { check = refused n; loaded = loaded; count = s.count; buffer = s.buffer; lent = s.lent }
-tested (accepted r) c loaded s = record { check = accepted r; loaded = loaded; count = s.count + 8; buffer = put s.count c s.buffer; lent = s.lent }
+tested (refused n) c loaded s = record { fine = s.fine; check = refused n; loaded = loaded; count = s.count; buffer = s.buffer; lent = s.lent }
+tested (accepted r) c loaded s = record { fine = s.fine; check = accepted r; loaded = loaded; count = s.count + 8; buffer = put s.count c s.buffer; lent = s.lent }
 
 -- a record's bytes, of which a check that has refused takes no more
 abbrev pub feed_to : Outcome Reader → List ℕ → State → State
@@ -42,9 +43,9 @@ feed_to (accepted r) c s = let x = decode c in tested (admitted r x) c (if_taken
 unfoldable pub feed : List ℕ → State → State
 feed c s = feed_to s.check c s
 
--- an expression that 17 refuses, whatever the check says
+-- an expression that 17 refuses
 abbrev pub beyond17 : State → State
-beyond17 s = record { check = refused 17; loaded = s.loaded; count = s.count; buffer = s.buffer; lent = s.lent }
+beyond17 s = record { fine = false; check = s.check; loaded = s.loaded; count = s.count; buffer = s.buffer; lent = s.lent }
 
 -- the terms of coefficients from a position on
 abbrev pub feed_terms : ℕ → List ℤ → State → State
@@ -85,7 +86,7 @@ feed_lines ls s = fold_left feed_line ls s
 
 -- nothing read yet, into an array that is lent, and into one of zeros
 abbrev pub beginning : List ℕ → List ℕ → ℕ → State
-beginning loaded buffer lent = record { check = accepted started; loaded = loaded; count = 0; buffer = buffer; lent = lent }
+beginning loaded buffer lent = record { fine = true; check = accepted started; loaded = loaded; count = 0; buffer = buffer; lent = lent }
 
 abbrev pub nothing_read : List ℕ → ℕ → State
 nothing_read buffer lent = beginning (pad loaded_size []) buffer lent

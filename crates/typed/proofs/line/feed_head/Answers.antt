@@ -14,7 +14,7 @@ use Rattle.typed.proofs.line.feed_head.Goals as goal
 pub returns-in-Some-clause-read : goal.returns-in-Some-clause-read
 returns-in-Some-clause-read c =
     let a = c.args in
-    let st = state_of a.sink.now in
+    let st = state_of a.records.now in
     let p = c.in-Some.ensures in
     let f = p.1.from in
     placed_as c.feed_pattern.ensures.read (omega arith)
@@ -24,12 +24,12 @@ pub returns-in_err-next-clause-read : goal.returns-in_err-next-clause-read
 returns-in_err-next-clause-read c =
     let a = c.args in
     rw c.from_residual.ensures
-    (no_place (head_default (state_of a.sink.now) (drop a.at a.s.now) _ refl c.in_default.ensures ∙ fed_none _ (place_none c.word.ensures c.in_err-next.was)))
+    (no_place (head_default (state_of a.records.now) (drop a.at a.s.now) _ refl c.in_default.ensures ∙ fed_none _ (place_none c.word.ensures c.in_err-next.was)))
 
 pub returns-clause-read : goal.returns-clause-read
 returns-clause-read c =
     let a = c.args in
-    let st = state_of a.sink.now in
+    let st = state_of a.records.now in
     let g = place_some c.word.ensures c.in_ok-next.was in
     place (record {
       from = g.from;

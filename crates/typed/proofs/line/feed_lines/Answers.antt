@@ -14,37 +14,37 @@ use Rattle.typed.proofs.Laws.Readings.{place_none, place_some, no_place, place}
 use Rattle.typed.proofs.Laws.Stages.{text_left, text_done}
 use Rattle.typed.proofs.Laws.Turns.{onward_turn, onward_refused, onward_end, fed_all, none_left, one_more, advances}
 use Rattle.typed.proofs.line.feed_lines.Goals as goal
-use Rattle.typed.proofs.line.feed_lines.Goals.{In-loop-sink}
+use Rattle.typed.proofs.line.feed_lines.Goals.{In-loop-records}
 
 -- a turn reads a line, and then what is left
-turn : (c : In-loop-sink) → (let i = c.loop-sink in let left = fed_all line_of ends_text feed_line in
-    left (state_of i.sink) (drop i.at c.args.s.now) ≡ then_read (map_read (λ x. feed_line x (state_of i.sink)) (line_of (drop i.at c.args.s.now))) left)
-turn c = one_more line_of ends_text feed_line line_strict (state_of c.loop-sink.sink) (drop c.loop-sink.at c.args.s.now) (text_left c.skip.ensures c.loop-sink-test.true)
+turn : (c : In-loop-records) → (let i = c.loop-records in let left = fed_all line_of ends_text feed_line in
+    left (state_of i.records) (drop i.at c.args.s.now) ≡ then_read (map_read (λ x. feed_line x (state_of i.records)) (line_of (drop i.at c.args.s.now))) left)
+turn c = one_more line_of ends_text feed_line line_strict (state_of c.loop-records.records) (drop c.loop-records.at c.args.s.now) (text_left c.skip.ensures c.loop-records-test.true)
 
-pub loop-sink-init : goal.loop-sink-init
-loop-sink-init c = record { read = record { from = zero-le; to = zero-le; same = refl }; same_loans = loans_kept _ }
+pub loop-records-init : goal.loop-records-init
+loop-records-init c = record { read = record { from = zero-le; to = zero-le; same = refl }; same_loans = loans_kept _ }
 
 pub returns-in_err-at-clause-read : goal.returns-in_err-at-clause-read
 unfolding lines_of
 returns-in_err-at-clause-read c =
-    rw c.from_residual.ensures (no_place (onward_refused _ c.loop-sink.invariant.read (turn (goal.at.returns-in_err-at-clause-read c).In-loop-sink) (place_none c.feed_line.ensures.read c.in_err-at.was)))
+    rw c.from_residual.ensures (no_place (onward_refused _ c.loop-records.invariant.read (turn (goal.at.returns-in_err-at-clause-read c).In-loop-records) (place_none c.feed_line.ensures.read c.in_err-at.was)))
 
-pub loop-sink-smaller : goal.loop-sink-smaller
-loop-sink-smaller c =
+pub loop-records-smaller : goal.loop-records-smaller
+loop-records-smaller c =
     let g = place_some c.feed_line.ensures.read c.in_ok-at.was in
     let l = advances line_of line_strict _ g in
     let to = g.to in
     omega arith
 
-pub loop-sink-preserved : goal.loop-sink-preserved
-loop-sink-preserved c =
+pub loop-records-preserved : goal.loop-records-preserved
+loop-records-preserved c =
     record {
-      read = onward_turn _ c.loop-sink.invariant.read (turn (goal.at.loop-sink-preserved c).In-loop-sink) (place_some c.feed_line.ensures.read c.in_ok-at.was);
-      same_loans = loans_on c.loop-sink.invariant.same_loans c.feed_line.ensures.same_loans;
+      read = onward_turn _ c.loop-records.invariant.read (turn (goal.at.loop-records-preserved c).In-loop-records) (place_some c.feed_line.ensures.read c.in_ok-at.was);
+      same_loans = loans_on c.loop-records.invariant.same_loans c.feed_line.ensures.same_loans;
     }
 
 pub returns-clause-read : goal.returns-clause-read
 unfolding lines_of
 returns-clause-read c =
-    let i = c.loop-sink in
-    place (onward_end i.invariant.read (none_left line_of ends_text feed_line (state_of i.sink) (drop i.at c.args.s.now) (text_done c.skip.ensures c.loop-sink-test.false)))
+    let i = c.loop-records in
+    place (onward_end i.invariant.read (none_left line_of ends_text feed_line (state_of i.records) (drop i.at c.args.s.now) (text_done c.skip.ensures c.loop-records-test.false)))

@@ -8,8 +8,8 @@ use Rattle.typed.specs.bridge.Answers.{state_of, SameLoans}
 use Rattle.typed.proofs.Laws.Turns.{Onward, fed_all}
 use Rattle.typed.proofs.line.feed_lines.Given as goal
 
-abbrev pub invariant-loop-sink : goal.invariant-loop-sink
-invariant-loop-sink l = record { read : Onward l.s 0 (fed_all line_of ends_text feed_line) (fed_all line_of ends_text feed_line (state_of l.initial.sink) l.s) l.at l.sink; same_loans : SameLoans l.fn.sink l.sink }
+abbrev pub invariant-loop-records : goal.invariant-loop-records
+invariant-loop-records l = record { read : Onward l.s 0 (fed_all line_of ends_text feed_line) (fed_all line_of ends_text feed_line (state_of l.initial.records) l.s) l.at l.records; same_loans : SameLoans l.fn.records l.records }
 
-abbrev pub decreases-loop-sink : goal.decreases-loop-sink
-decreases-loop-sink l = length l.s - l.at
+abbrev pub decreases-loop-records : goal.decreases-loop-records
+decreases-loop-records l = length l.s - l.at

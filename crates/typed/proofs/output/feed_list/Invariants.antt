@@ -10,7 +10,7 @@ use Rattle.typed.proofs.Laws.Turns.{Onward}
 use Rattle.typed.proofs.output.feed_list.Given as goal
 
 abbrev pub invariant-loop-more : goal.invariant-loop-more
-invariant-loop-more l = record { read : Onward l.s l.at left_more (map_read (λ ts. feed_outputs ts (state_of l.fn.sink)) (items expression_of (drop l.at l.s))) l.next l.sink; same_loans : SameLoans l.fn.sink l.sink }
+invariant-loop-more l = record { read : Onward l.s l.at left_more (map_read (λ ts. feed_outputs ts (state_of l.fn.records)) (items expression_of (drop l.at l.s))) l.next l.records; same_loans : SameLoans l.fn.records l.records }
 
 abbrev pub decreases-loop-more : goal.decreases-loop-more
 decreases-loop-more l = length l.s - l.next

@@ -16,7 +16,7 @@ use Rattle.typed.proofs.output.feed_outputs.Goals.{After-feed_list}
 pub returns-in_err-inside-clause-read : goal.returns-in_err-inside-clause-read
 returns-in_err-inside-clause-read c =
     let a = c.args in
-    rw c.from_residual.ensures (no_place (brackets_not (state_of a.sink.now) (drop a.at a.s.now) _ refl c.in_err-inside.ensures))
+    rw c.from_residual.ensures (no_place (brackets_not (state_of a.records.now) (drop a.at a.s.now) _ refl c.in_err-inside.ensures))
 
 pub returns-in-Some-clause-read : goal.returns-in-Some-clause-read
 returns-in-Some-clause-read c =
@@ -28,16 +28,16 @@ returns-in-Some-clause-read c =
     place (record {
       from = omega arith;
       to = q.1.to;
-      is = brackets_none (state_of a.sink.now) (drop a.at a.s.now) _ refl _ p.0 (ap skip (sym p.1.same)) q.0 ∙ ap (got (state_of a.sink.now)) (sym q.1.same);
+      is = brackets_none (state_of a.records.now) (drop a.at a.s.now) _ refl _ p.0 (ap skip (sym p.1.same)) q.0 ∙ ap (got (state_of a.records.now)) (sym q.1.same);
     })
 
 -- there is an expression, and what closes the list behind them
-listed : (c : After-feed_list) → (let st = state_of c.args.sink.now in
+listed : (c : After-feed_list) → (let st = state_of c.args.records.now in
     map_read (λ ts. feed_outputs ts st) (bracketed expression_of (drop c.args.at c.args.s.now))
     ≡ closed_by 93 (map_read (λ ts. feed_outputs ts st) (items expression_of (drop c.in_ok-inside.inside c.args.s.now))))
 listed c =
     let a = c.args in
-    let st = state_of a.sink.now in
+    let st = state_of a.records.now in
     let p = c.in_ok-inside.ensures in
     brackets_some st (drop a.at a.s.now) _ refl _ p.0 (ap skip (sym p.1.same)) c.in_default.ensures
     ∙ ap (λ u. closed_by 93 (map_read (λ ts. feed_outputs ts st) (items expression_of u))) (sym p.1.same)

@@ -19,7 +19,7 @@ feed_terms-requires c = sym c.within17.ensures ∙ c.if-within17.true
 
 pub returns-in-Some-clause-state : goal.returns-in-Some-clause-state
 returns-in-Some-clause-state c =
-    let st = state_of c.args.sink.now in
+    let st = state_of c.args.records.now in
     let part = c.in-Some.part in
     let h = part.small.each 0 in
     part_fed (Some part.numbers) st (sym c.within17.ensures ∙ c.if-within17.true) (back (get_or part.numbers 0 (pos 0)) h) c.output_record.ensures c.feed.ensures.state c.feed_terms.ensures.state
@@ -27,7 +27,7 @@ returns-in-Some-clause-state c =
 
 pub returns-in_default-clause-state : goal.returns-in_default-clause-state
 returns-in_default-clause-state c =
-    part_beyond (kept c.args.part.now) (state_of c.args.sink.now) (elim c.in_default.branch [
+    part_beyond (kept c.args.part.now) (state_of c.args.records.now) (elim c.in_default.branch [
       | in_default-via-in-Some+else-within17 w ↦ ap (λ p. within17 (kept p)) w.in-Some.is ∙ sym w.within17.ensures ∙ w.if-within17.false
       | in_default-via-in_default w ↦ ap (λ p. within17 (kept p)) w.in_default.is ∙ within_none
     ])

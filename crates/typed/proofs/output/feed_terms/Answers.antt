@@ -27,20 +27,20 @@ loop-position-preserved c =
     let ns = c.args.part.now.numbers in
     let p = c.loop-position.position in
     let k = get_or ns (p + 1) (pos 0) in
-    let st = state_of c.loop-position.sink in
+    let st = state_of c.loop-position.records in
     let n = c.args.part.now.small.count in
     let l = c.loop-position-test.true in
     let at = c.from.ensures in
     let h = short_at ns p (within_each ns c.requires) in
     record {
       state = terms_step ns p st (omega arith) refl (elim c.if-coefficient-ne0.branch [
-        | then-coefficient-ne0 w ↦ ap state_of w.sink-is ∙ term_fed p k st (other_bits k (λ z. w.if-coefficient-ne0.true (ap (λ q. of_z w32 (get_or ns (q + 1) (pos 0))) at ∙ z))) (ap (λ q. to_z w16 (of_z w16 (to_z w32 (of_z w32 (get_or ns (q + 1) (pos 0)))))) at ∙ cut k h) w.term_record.ensures w.feed.ensures.state
-        | else-coefficient-ne0 w ↦ ap state_of w.sink-is ∙ no_term p k st (zero_bits k (omega arith) (ap (λ q. of_z w32 (get_or ns (q + 1) (pos 0))) (sym at) ∙ w.if-coefficient-ne0.false))
+        | then-coefficient-ne0 w ↦ ap state_of w.records-is ∙ term_fed p k st (other_bits k (λ z. w.if-coefficient-ne0.true (ap (λ q. of_z w32 (get_or ns (q + 1) (pos 0))) at ∙ z))) (ap (λ q. to_z w16 (of_z w16 (to_z w32 (of_z w32 (get_or ns (q + 1) (pos 0)))))) at ∙ cut k h) w.term_record.ensures w.feed.ensures.state
+        | else-coefficient-ne0 w ↦ ap state_of w.records-is ∙ no_term p k st (zero_bits k (omega arith) (ap (λ q. of_z w32 (get_or ns (q + 1) (pos 0))) (sym at) ∙ w.if-coefficient-ne0.false))
       ])
           ∙ c.loop-position.invariant.state;
       same_loans = elim c.if-coefficient-ne0.branch [
-        | then-coefficient-ne0 w ↦ subst (SameLoans c.args.sink.now) (sym w.sink-is) (loans_on c.loop-position.invariant.same_loans w.feed.ensures.same_loans)
-        | else-coefficient-ne0 w ↦ subst (SameLoans c.args.sink.now) (sym w.sink-is) c.loop-position.invariant.same_loans
+        | then-coefficient-ne0 w ↦ subst (SameLoans c.args.records.now) (sym w.records-is) (loans_on c.loop-position.invariant.same_loans w.feed.ensures.same_loans)
+        | else-coefficient-ne0 w ↦ subst (SameLoans c.args.records.now) (sym w.records-is) c.loop-position.invariant.same_loans
       ];
     }
 
@@ -48,4 +48,4 @@ pub returns-clause-state : goal.returns-clause-state
 returns-clause-state c =
     let n = c.args.part.now.small.count in
     let l = c.loop-position-test.false in
-    terms_end c.args.part.now.numbers c.loop-position.position (c.loop-position.position + 1) (state_of c.loop-position.sink) (omega arith) ∙ c.loop-position.invariant.state
+    terms_end c.args.part.now.numbers c.loop-position.position (c.loop-position.position + 1) (state_of c.loop-position.records) (omega arith) ∙ c.loop-position.invariant.state

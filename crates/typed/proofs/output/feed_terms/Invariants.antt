@@ -8,4 +8,4 @@ use Rattle.typed.specs.bridge.Answers.{state_of, SameLoans}
 use Rattle.typed.proofs.output.feed_terms.Given as goal
 
 abbrev pub invariant-loop-position : goal.invariant-loop-position
-invariant-loop-position l = record { state : feed_terms l.position (drop (l.position + 1) l.part.numbers) (state_of l.sink) ≡ feed_terms 0 (drop 1 l.part.numbers) (state_of l.initial.sink); same_loans : SameLoans l.fn.sink l.sink }
+invariant-loop-position l = record { state : feed_terms l.position (drop (l.position + 1) l.part.numbers) (state_of l.records) ≡ feed_terms 0 (drop 1 l.part.numbers) (state_of l.initial.records); same_loans : SameLoans l.fn.records l.records }

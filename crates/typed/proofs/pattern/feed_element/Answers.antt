@@ -12,4 +12,4 @@ returns-in_err-between-clause-read c = rw c.from_residual.ensures (no_place (fed
 pub returns-clause-read : goal.returns-clause-read
 returns-clause-read c =
     let g = read_some c.element.ensures c.in_ok-between.was in
-    place (record { from = g.from; to = g.to; is = fed_one _ g.is (c.feed.ensures.state ∙ ap (λ b. feed b (state_of c.args.sink.now)) c.range_record.ensures) })
+    place (record { from = g.from; to = g.to; is = fed_one _ g.is (c.feed.ensures.state ∙ ap (λ b. feed b (state_of c.args.records.now)) c.range_record.ensures) })

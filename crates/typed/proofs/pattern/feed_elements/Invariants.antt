@@ -9,8 +9,8 @@ use Rattle.typed.proofs.Laws.Brackets.{fed_elements}
 use Rattle.typed.proofs.Laws.Turns.{Onward, fed_all}
 use Rattle.typed.proofs.pattern.feed_elements.Given as goal
 
-abbrev pub invariant-loop-sink : goal.invariant-loop-sink
-invariant-loop-sink l = record { read : Onward l.s l.at (fed_all element ends_bracket (feed_range l.position)) (fed_elements l.position (state_of l.fn.sink) (drop l.at l.s)) l.next l.sink; same_loans : SameLoans l.fn.sink l.sink }
+abbrev pub invariant-loop-records : goal.invariant-loop-records
+invariant-loop-records l = record { read : Onward l.s l.at (fed_all element ends_bracket (feed_range l.position)) (fed_elements l.position (state_of l.fn.records) (drop l.at l.s)) l.next l.records; same_loans : SameLoans l.fn.records l.records }
 
-abbrev pub decreases-loop-sink : goal.decreases-loop-sink
-decreases-loop-sink l = length l.s - l.next
+abbrev pub decreases-loop-records : goal.decreases-loop-records
+decreases-loop-records l = length l.s - l.next

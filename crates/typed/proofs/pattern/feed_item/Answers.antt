@@ -21,7 +21,7 @@ feed_elements-requires c =
 pub returns-then-code_at-eq-OPEN-clause-read : goal.returns-then-code_at-eq-OPEN-clause-read
 returns-then-code_at-eq-OPEN-clause-read c =
     let a = c.args in
-    let feeding = map_read (λ x. feed_ranges a.position x (state_of a.sink.now)) in
+    let feeding = map_read (λ x. feed_ranges a.position x (state_of a.records.now)) in
     placed_as c.feed_elements.ensures.read (omega arith)
     (ap (λ t. feeding (elements t)) (behind_at a.s.now a.at)
     ∙ ap feeding (sym (item_bracket (drop a.at a.s.now) (sym c.code_at.ensures ∙ c.if-code_at-eq-OPEN.true))))
@@ -39,5 +39,5 @@ returns-clause-read c =
       from = g.from;
       to = g.to;
       is = fed_one _ (item_character (drop a.at a.s.now) (λ z. c.if-code_at-eq-OPEN.false (c.code_at.ensures ∙ z)) ∙ fed_one alone g.is refl)
-          (c.feed.ensures.state ∙ ap (λ b. feed b (state_of a.sink.now)) c.range_record.ensures);
+          (c.feed.ensures.state ∙ ap (λ b. feed b (state_of a.records.now)) c.range_record.ensures);
     })

@@ -8,4 +8,4 @@ use Rattle.typed.proofs.Laws.Items.{items_left}
 use Rattle.typed.proofs.pattern.feed_items.Given as goal
 
 abbrev pub invariant-loop-items : goal.invariant-loop-items
-invariant-loop-items l = record { read : Onward l.s l.at (items_left (9 - l.items) l.items) (items_left 9 0 (state_of l.initial.sink) (drop l.at l.s)) l.next l.sink; same_loans : SameLoans l.fn.sink l.sink }
+invariant-loop-items l = record { read : Onward l.s l.at (items_left (9 - l.items) l.items) (items_left 9 0 (state_of l.initial.records) (drop l.at l.s)) l.next l.records; same_loans : SameLoans l.fn.records l.records }
