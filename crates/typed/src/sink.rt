@@ -56,7 +56,8 @@ impl<'a> Records<'a> {
         }
     }
 
-    // One record. A check that has refused takes no more.
+    // One record. A check that has refused takes no more. It stands by itself, since six readers call it, and each would take the stack for it.
+    #[inline(never)]
     pub fn feed(&mut self, bytes: &[u8; 8])
         ensures state { state_of self.new ≡ fed bytes.now (state_of self.old) }
         ensures same_loans { SameLoans self.old self.new }
