@@ -58,14 +58,14 @@ impl<'a> Headed<'a> {
         requires above { Above self.words.all.now state.0 low high × (sound_depth self.words.all.now state.0 ≡ true) }
         ensures { result ≡ true → sound_state self.entry.words.all.now state.0 ≡ true }
     {
-        if !self.accept_at_end_sound(state) {
+        if !self.words.accept_at_end_sound(state) {
             return false;
         }
         if self.words.accept_word(state) == 0 {
             return self.row_within(state, wide, low, high);
         }
         // a state with a go has no targets
-        self.accept_sound(state) && self.row_within(state, wide, low, low)
+        self.words.accept_sound(state) && self.row_within(state, wide, low, low)
     }
 
     // The states from `from` on and below `low` pass, if the states one deeper than each of them are those from `low` on and below `high`.
@@ -80,7 +80,7 @@ impl<'a> Headed<'a> {
     }
 
     // The states are in levels and pass, a level after the other.
-    pub(crate) fn pass_in_levels(self) -> bool
+    pub fn pass_in_levels(self) -> bool
         ensures { result ≡ true → for_below (state_count self.entry.words.all.now) (sound_state self.entry.words.all.now) ≡ true }
     {
         let wide = (self.words.class_count() + 15) / 16 * 16;

@@ -11,14 +11,13 @@ use crate::numbers::{ClassNo, DEFAULT_RULE, RuleNo, StateNo};
 use crate::read::Words;
 use rules::layout::{BLOCK, ENTRY};
 
-// Words whose header is within its limits, on which the tests of the other parts stand.
+// Words whose counts and L are within their limits, on which the tests of the other parts stand.
 #[derive(Clone, Copy)]
-pub(crate) struct Headed<'a> {
+pub struct Headed<'a> {
     pub words: Words<'a>,
     ghost states: { state_count words.all.now ≤ 256 },
     ghost classes: { class_count words.all.now ≤ 64 },
     ghost longest: { longest_word words.all.now ≤ 8 },
-    ghost expansion: { expansion_word words.all.now ≤ 8 },
     ghost rules: { rule_count words.all.now ≤ 32 },
 }
 
@@ -106,12 +105,54 @@ impl<'a> Words<'a> {
             && self.default_word() <= 2
             && self.default_mode().least_expansion() <= self.expansion()
     }
+
+    // The rule is "below the count" and its "K is the depth".
+    #[tactic(auto, unfolding(lists::specs::Decide::all_of, automaton::specs::Sound::names_rule))]
+    fn names_rule(self, depth: u16, rule: RuleNo) -> bool
+        requires { rule_count self.all.now ≤ 32 }
+        ensures { result ≡ names_rule self.entry.all.now depth (suc rule.0) }
+    {
+        usize::from(rule.0) < self.rule_count() && self.group_size(rule) == usize::from(depth)
+    }
+
+    // The state's "end", if it has one, names a rule. It is read as a word, since an option of it takes three steps more for each state.
+    pub fn accept_at_end_sound(self, state: StateNo) -> bool
+        requires { (rule_count self.all.now ≤ 32) × (state.0 < 256) }
+        ensures { result ≡ implies (used (accept_at_end_word self.entry.all.now state.0))
+            (names_rule self.entry.all.now (depth_word self.entry.all.now state.0) (accept_at_end_word self.entry.all.now state.0)) }
+    {
+        match self.accept_at_end_word(state) {
+            0 => true,
+            word => self.names_rule(self.depth_word(state), RuleNo(word - 1)),
+        }
+    }
+
+    // The state's "go", if it has one, names an unanchored rule, and "a go comes with an end".
+    #[tactic(auto, using(automaton::proofs::Laws::Checking::names_small), unfolding(lists::specs::Decide::all_of))]
+    pub fn accept_sound(self, state: StateNo) -> bool
+        requires { (rule_count self.all.now ≤ 32) × (state.0 < 256) }
+        ensures { result ≡ implies (used (accept_word self.entry.all.now state.0))
+            (all_of (names_rule self.entry.all.now (depth_word self.entry.all.now state.0) (accept_word self.entry.all.now state.0)
+            ∷ ((at (block_at self.entry.all.now (pred (accept_word self.entry.all.now state.0))) 1) == 0)
+            ∷ used (accept_at_end_word self.entry.all.now state.0)
+            ∷ [])) }
+    {
+        // by case, as the clause is an implication
+        match self.accept_at(state) {
+            None => true,
+            Some(rule) => {
+                self.names_rule(self.depth_word(state), rule)
+                    && self.group_anchored(rule) == 0
+                    && self.accept_at_end_word(state) != 0
+            }
+        }
+    }
 }
 
 impl<'a> Headed<'a> {
     #[tactic(auto, unfolding(lists::specs::Decide::all_of, automaton::specs::Sound::sound_header))]
     fn new(words: Words<'a>) -> Option<Headed<'a>>
-        ensures { MatchOption result (sound_header words.entry.all.now ≡ false) (λ h. (sound_header words.entry.all.now ≡ true) × (h.words ≡ words.entry)) }
+        ensures { MatchOption result (sound_header words.entry.all.now ≡ false) (λ h. (sound_header words.entry.all.now ≡ true) × (expansion_word words.entry.all.now ≤ 8) × (h.words ≡ words.entry)) }
     {
         if !words.header_sound() {
             return None;
@@ -132,7 +173,7 @@ impl<'a> Headed<'a> {
     // K is at least 1 and at most `most`, anchored at most `anchored`, the output count at most E, the entries sound. Block 32 is the default's.
     #[tactic(auto, unfolding(lists::specs::Decide::all_of, automaton::specs::Sound::sound_block))]
     fn block_sound(self, rule: RuleNo, most: usize, anchored: usize) -> bool
-        requires { (rule.0 ≤ 32) × (most ≤ 8) }
+        requires { (rule.0 ≤ 32) × (most ≤ 8) × (expansion_word self.words.all.now ≤ 8) }
         ensures { result ≡ sound_block self.entry.words.all.now rule.0 most anchored }
     {
         let words = self.words;
@@ -147,21 +188,13 @@ impl<'a> Headed<'a> {
     }
 
     fn blocks_sound(self) -> bool
+        requires { expansion_word self.words.all.now ≤ 8 }
         ensures { result ≡ sound_blocks self.entry.words.all.now }
     {
         let words = self.words;
         let most = words.longest();
         (0..words.rule_count() as u16).all(|rule| self.block_sound(RuleNo(rule), most, 1))
             && (!words.has_default() || self.block_sound(DEFAULT_RULE, 1, 0))
-    }
-
-    // The rule is "below the count" and its "K is the depth".
-    #[tactic(auto, unfolding(lists::specs::Decide::all_of, automaton::specs::Sound::names_rule))]
-    fn names_rule(self, depth: u16, rule: RuleNo) -> bool
-        ensures { result ≡ names_rule self.entry.words.all.now depth (suc rule.0) }
-    {
-        usize::from(rule.0) < self.words.rule_count()
-            && self.words.group_size(rule) == usize::from(depth)
     }
 
     // "A target exceeds its state's number, is below the state count and lies one deeper."
@@ -186,40 +219,6 @@ impl<'a> Headed<'a> {
         match state.0 {
             0 => depth == 0,
             _ => (1..=self.words.longest()).contains(&depth),
-        }
-    }
-
-    // The state's "end", if it has one, names a rule. It is read as a word, since an option of it takes three steps more for each state.
-    pub(crate) fn accept_at_end_sound(self, state: StateNo) -> bool
-        requires { state.0 < 256 }
-        ensures { result ≡ implies (used (accept_at_end_word self.entry.words.all.now state.0))
-            (names_rule self.entry.words.all.now (depth_word self.entry.words.all.now state.0) (accept_at_end_word self.entry.words.all.now state.0)) }
-    {
-        match self.words.accept_at_end_word(state) {
-            0 => true,
-            word => self.names_rule(self.words.depth_word(state), RuleNo(word - 1)),
-        }
-    }
-
-    // The state's "go", if it has one, names an unanchored rule, and "a go comes with an end".
-    #[tactic(auto, using(automaton::proofs::Laws::Checking::names_small), unfolding(lists::specs::Decide::all_of))]
-    pub(crate) fn accept_sound(self, state: StateNo) -> bool
-        requires { state.0 < 256 }
-        ensures { result ≡ implies (used (accept_word self.entry.words.all.now state.0))
-            (all_of (names_rule self.entry.words.all.now (depth_word self.entry.words.all.now state.0) (accept_word self.entry.words.all.now state.0)
-            ∷ ((at (block_at self.entry.words.all.now (pred (accept_word self.entry.words.all.now state.0))) 1) == 0)
-            ∷ used (accept_at_end_word self.entry.words.all.now state.0)
-            ∷ [])) }
-    {
-        let words = self.words;
-        // by case, as the clause is an implication
-        match words.accept_at(state) {
-            None => true,
-            Some(rule) => {
-                self.names_rule(words.depth_word(state), rule)
-                    && words.group_anchored(rule) == 0
-                    && words.accept_at_end_word(state) != 0
-            }
         }
     }
 
@@ -259,8 +258,8 @@ impl<'a> Headed<'a> {
         ensures { result ≡ sound_state self.entry.words.all.now state.0 }
     {
         self.depth_sound(state)
-            && self.accept_at_end_sound(state)
-            && self.accept_sound(state)
+            && self.words.accept_at_end_sound(state)
+            && self.words.accept_sound(state)
             && self.targets_sound(state)
     }
 
