@@ -1,10 +1,10 @@
 // Sets of rules kept as numbers, rule r by bit r.
-ghost use Rattle.std.specs.Prelude.{Bool, ◌&&◌, not, ◌≡◌, ℕ, ◌+◌, ◌*◌, ◌^◌, ◌≤◌, ◌<◌, eqb, ltb};
+ghost use Rattle.std.specs.Prelude.{Bool, ◌&&◌, not, ◌≡◌, ℕ, ◌+◌, ◌*◌, ◌^◌, ◌≤◌, ◌<◌, eqb, ltb, length};
 ghost use Rattle.std.specs.Iterator.{YieldsFirstBy, item_count};
 ghost use Rattle.lists.specs.Lists.{filter, up_to};
-ghost use Rattle.meaning.specs.Table.{in_ranges};
-ghost use Rattle.meaning.specs.Block.{at, block_size};
-ghost use Rattle.meaning.specs.bridge.Flat.{ranges_at};
+ghost use Rattle.meaning.specs.Table.{Absent, in_ranges};
+ghost use Rattle.meaning.specs.Block.{at, block_size, blocks_size};
+ghost use Rattle.meaning.specs.bridge.Flat.{ranges_at, table_at};
 ghost use Rattle.automaton.specs.States.{first_number, longer_rules, accept_of, accept_at_end_of};
 ghost use Rattle.automaton.specs.bridge.Build.{members_from, state_of};
 ghost use Rattle.words.specs.bridge.Readings.{word_of};
@@ -85,41 +85,41 @@ fn lowest<F: Fn(RuleNo) -> bool>(set: u32, passes: F) -> Option<RuleNo>
 }
 
 // The rule ends at the depth.
-fn ends_at(table: &Loaded<'_>, rule: RuleNo, depth: usize) -> bool
-    requires { rule.0 < 32 }
-    ensures { result ≡ eqb (at table.now.words.now (block_size * rule.0)) depth }
+fn ends_at(loaded: &[u16], rule: RuleNo, depth: usize) -> bool
+    requires { (blocks_size ≤ length loaded.now) × (rule.0 < 32) }
+    ensures { result ≡ eqb (at loaded.now (block_size * rule.0)) depth }
 {
-    usize::from(table.words[BLOCK * rule.0 as usize]) == depth
+    usize::from(loaded[BLOCK * rule.0 as usize]) == depth
 }
 
 // The rule stands only at the end of the input.
-fn anchored(table: &Loaded<'_>, rule: RuleNo) -> bool
-    requires { rule.0 < 32 }
-    ensures { result ≡ eqb (at table.now.words.now (block_size * rule.0 + 1)) 1 }
+fn anchored(loaded: &[u16], rule: RuleNo) -> bool
+    requires { (blocks_size ≤ length loaded.now) × (rule.0 < 32) }
+    ensures { result ≡ eqb (at loaded.now (block_size * rule.0 + 1)) 1 }
 {
-    table.words[BLOCK * rule.0 as usize + 1] == 1
+    loaded[BLOCK * rule.0 as usize + 1] == 1
 }
 
-// The rule that a state accepts at once.
-pub fn accept_of(table: &Loaded<'_>, set: u32, depth: usize) -> Option<RuleNo>
-    requires { set < 2 ^ table.now.rules }
+// The rule that a state accepts at once, by the blocks alone.
+pub fn accept_of(loaded: &[u16], rules: usize, set: u32, depth: usize) -> Option<RuleNo>
+    requires { (blocks_size ≤ length loaded.now) × (rules ≤ 32) × (set < 2 ^ rules) }
     ensures word { word_of result
-        ≡ accept_of (bare_table table.now) (state_of table.now.rules depth set) }
+        ≡ accept_of (table_at loaded.now rules Absent) (state_of rules depth set) }
     ensures below { word_of result ≤ 32 }
 {
     lowest(set, |rule| {
-        ends_at(table, rule, depth) && !anchored(table, rule)
+        ends_at(loaded, rule, depth) && !anchored(loaded, rule)
     })
 }
 
-// The rule that a state accepts where the input ends.
-pub fn accept_at_end_of(table: &Loaded<'_>, set: u32, depth: usize) -> Option<RuleNo>
-    requires { set < 2 ^ table.now.rules }
+// The rule that a state accepts where the input ends, by the blocks alone.
+pub fn accept_at_end_of(loaded: &[u16], rules: usize, set: u32, depth: usize) -> Option<RuleNo>
+    requires { (blocks_size ≤ length loaded.now) × (rules ≤ 32) × (set < 2 ^ rules) }
     ensures word { word_of result
-        ≡ accept_at_end_of (bare_table table.now) (state_of table.now.rules depth set) }
+        ≡ accept_at_end_of (table_at loaded.now rules Absent) (state_of rules depth set) }
     ensures below { word_of result ≤ 32 }
 {
-    lowest(set, |rule| ends_at(table, rule, depth))
+    lowest(set, |rule| ends_at(loaded, rule, depth))
 }
 
 // The word of a state for a rule that it accepts: "end + 1, go + 1; 0 for none".

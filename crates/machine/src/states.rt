@@ -130,8 +130,9 @@ fn note_state(
     let s = state.0 as usize;
     let depth = words[STATES_FROM + 3 * s] as usize;
     let set = met.sets[s];
-    let end = accept_at_end_of(table, set, depth);
-    let accept = accept_of(table, set, depth);
+    let loaded = table.words;
+    let end = accept_at_end_of(loaded, table.rules, set, depth);
+    let accept = accept_of(loaded, table.rules, set, depth);
     words[AT_END_FROM + 3 * s] = accept_word(end);
     words[ACCEPT_FROM + 3 * s] = accept_word(accept);
     match accept {

@@ -10,6 +10,6 @@ use Rattle.machine.proofs.sets.accept_of.Goals as goal
 pub returns-clause-word : goal.returns-clause-word
 returns-clause-word c =
     let a = c.args in
-    c.lowest.ensures.first (free_at_lem a.table.now.words.now a.depth) (λ r b h q. search (rules, tests))
-    ∙ ap (λ xs. first_number (filter (free_at_lem a.table.now.words.now a.depth) xs)) (members_more a.table.now.rules 32 0 a.set a.table.now.few c.requires)
-    ∙ sym (accept_flat a.table.now.words.now a.table.now.rules Absent a.set a.depth)
+    c.lowest.ensures.first (free_at_lem a.loaded.now a.depth) (λ r b h q. search (rules, tests))
+    ∙ ap (λ xs. first_number (filter (free_at_lem a.loaded.now a.depth) xs)) (members_more a.rules 32 0 a.set c.requires.1 c.requires.2)
+    ∙ sym (accept_flat a.loaded.now a.rules Absent a.set a.depth)
