@@ -15,7 +15,9 @@ use rules::load::{Load, load_table};
 use rules::loaded::Loaded;
 use rules::mode::Mode;
 use rules::refusal::Refusal;
-use words::layout::{BLOCKS_FROM, CLASSES_FROM, WORDS};
+use words::layout::{
+    BLOCKS_FROM, CLASS_COUNT, DEFAULTED, EXPANSION, LONGEST, RULE_COUNT, STATE_COUNT, WORDS,
+};
 
 // The machine words become 0.
 fn clear(words: &mut [u16])
@@ -64,14 +66,12 @@ fn put_header(words: &mut [u16], table: &Loaded<'_>, states: usize, classes: usi
         ∷ expansion_at table.now.words.now table.now.rules (the_mode table.now.mode) ∷ table.now.rules ∷ mode_word (the_mode table.now.mode) ∷ [])
         ++ drop classes_from words.old }
 {
-    words[..CLASSES_FROM].copy_from_slice(&[
-        states as u16,
-        classes as u16,
-        longest_of(table),
-        table.expansion() as u16,
-        table.rules as u16,
-        mode_word(table.mode),
-    ]);
+    words[STATE_COUNT] = states as u16;
+    words[CLASS_COUNT] = classes as u16;
+    words[LONGEST] = longest_of(table);
+    words[EXPANSION] = table.expansion() as u16;
+    words[RULE_COUNT] = table.rules as u16;
+    words[DEFAULTED] = mode_word(table.mode);
 }
 
 // Refusals 8 and 9, then the words by the array of a table, into words that are 0.
