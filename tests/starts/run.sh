@@ -25,7 +25,8 @@ same 'what allocates, or is a static' "$(code crates/machine/src/*.rt | grep -v 
 same 'arrays that the compiler makes' "$(code crates/machine/src/*.rt | grep -oE '\[[^][;]+; [^]]+\]' | sort)" '[0u16; LOADED]
 [0u32; 256]
 [u32; 256]'
-same 'what the functions that gather starts are lent' "$(code crates/machine/src/gather.rt | grep -oE '[a-z_]+: &[^,)]*' | sort -u)" 'table: &Loaded<'\''_>
+same 'what the functions that gather starts are lent' "$(code crates/machine/src/gather.rt | grep -oE '[a-z_]+: &[^,)]*' | sort -u)" 'loaded: &[u16]
+table: &Loaded<'\''_>
 words: &[u16]
 words: &mut [u16]'
 echo "starts: no list beside the machine words"

@@ -46,12 +46,16 @@ pub fn put_in(words: &mut [u16], place: usize, end: usize, start: u16)
     }
 }
 
-// `start` is put among the `count` starts met so far, unless it is there; the number after it, where there is room.
+// `start` is put among the `count` starts met so far, unless it is there; the number after it, where there is room. A count of 65 stands for more
+// than fit.
 fn insert_start(words: &mut [u16], count: usize, start: u16) -> Option<usize>
-    requires { (word_count ≤ length words.old) × (count ≤ 64) }
+    requires { (word_count ≤ length words.old) × (count ≤ 65) }
     ensures met { holding words.new (counted result) ≡ meet start (holding words.old count) }
     ensures few { or_else 0 result ≤ 64 }
 {
+    if count > 64 {
+        return None;
+    }
     let place = place_of(words, count, start);
     if stands_at(words, CLASSES_FROM + place, CLASSES_FROM + count, start) {
         return Some(count);
@@ -65,15 +69,15 @@ fn insert_start(words: &mut [u16], count: usize, start: u16) -> Option<usize>
 
 // The range whose two numbers start at `i` is met. After it, whatever ranges were met before, the words from 6 are 0 and the starts met so far,
 // rising and without repeats, with zeros behind, until a 65th (request [3]).
-fn gather_range(table: &Loaded<'_>, i: usize, words: &mut [u16], count: usize) -> Option<usize>
-    requires { (i + 2 ≤ loaded_size) × (word_count ≤ length words.old) × (count ≤ 64) }
-    ensures met { holding words.new (counted result) ≡ meet_range (range_from table.now.words.now i) (holding words.old count) }
+fn gather_range(loaded: &[u16], i: usize, words: &mut [u16], count: usize) -> Option<usize>
+    requires { (i + 2 ≤ length loaded.now) × (word_count ≤ length words.old) × (count ≤ 65) }
+    ensures met { holding words.new (counted result) ≡ meet_range (range_from loaded.now i) (holding words.old count) }
     ensures few { or_else 0 result ≤ 64 }
     ensures in_place { (rs : List Range) → InPlace rs (holding words.old count) →
-        InPlace (rs ++ range_from table.now.words.now i ∷ []) (holding words.new (counted result)) }
+        InPlace (rs ++ range_from loaded.now i ∷ []) (holding words.new (counted result)) }
 {
-    let lowest = table.words[i];
-    let highest = table.words[i + 1];
+    let lowest = loaded[i];
+    let highest = loaded[i + 1];
     let met = insert_start(words, count, lowest)?;
     match highest.checked_add(1) {
         Some(next) => insert_start(words, met, next),
@@ -82,16 +86,19 @@ fn gather_range(table: &Loaded<'_>, i: usize, words: &mut [u16], count: usize) -
 }
 
 // The ranges of a place are met: position p of group g has place 8 g + p.
-fn gather_place(table: &Loaded<'_>, place: usize, words: &mut [u16], count: usize) -> Option<usize>
-    requires place_bound { place < 33 * 8 }
-    requires word_count_in_bounds { (word_count ≤ length words.old) × (count ≤ 64) }
-    ensures met { holding words.new (counted result) ≡ meet_ranges (ranges_at table.now.words.now place) (holding words.old count) }
+fn gather_place(loaded: &[u16], place: usize, words: &mut [u16], count: usize) -> Option<usize>
+    requires place_bound { (place < 33 * 8) × (length loaded.now ≡ loaded_size) × (at loaded.now (slots_from + place) ≤ 4) }
+    requires word_count_in_bounds { (word_count ≤ length words.old) × (count ≤ 65) }
+    ensures met { holding words.new (counted result) ≡ meet_ranges (ranges_at loaded.now place) (holding words.old count) }
     ensures few { or_else 0 result ≤ 64 }
 {
-    let number = table.words[SLOTS_FROM + place] as usize;
+    if count > 64 {
+        return None;
+    }
+    let number = loaded[SLOTS_FROM + place] as usize;
     let mut met = count;
     for k in 0..number {
-        met = gather_range(table, RANGES_FROM + 8 * place + 2 * k, words, met)?;
+        met = gather_range(loaded, RANGES_FROM + 8 * place + 2 * k, words, met)?;
     }
     Some(met)
 }
@@ -99,17 +106,21 @@ fn gather_place(table: &Loaded<'_>, place: usize, words: &mut [u16], count: usiz
 // A rule's ranges are met, position by position.
 fn gather_rule(table: &Loaded<'_>, rule: RuleNo, words: &mut [u16], count: usize) -> Option<usize>
     requires rule_bound { rule.0 < 32 }
-    requires word_count_in_bounds { (word_count ≤ length words.old) × (count ≤ 64) }
+    requires word_count_in_bounds { (word_count ≤ length words.old) × (count ≤ 65) }
     ensures met { holding words.new (counted result)
         ≡ meet_ranges (pattern_ranges (pattern_at table.now.words.now rule.0 (at table.now.words.now (block_size * rule.0))))
         (holding words.old count) }
     ensures few { or_else 0 result ≤ 64 }
 {
+    if count > 64 {
+        return None;
+    }
+    let loaded = table.words;
     let group = rule.0 as usize;
-    let size = table.words[BLOCK * group] as usize;
+    let size = loaded[BLOCK * group] as usize;
     let mut met = count;
     for p in 0..size {
-        met = gather_place(table, 8 * group + p, words, met)?;
+        met = gather_place(loaded, 8 * group + p, words, met)?;
     }
     Some(met)
 }

@@ -252,12 +252,15 @@ module _ (w : List ℕ) (room : states_from < length w) where
       let rest = cond (ltb r.highest 65535) (suc r.highest ∷ []) [] in
       sym (all_stay rest) ∙ ap (meet_all rest) e
 
+  pub ranges_stay : (rs : List Range) → holding w 65 ≡ meet_ranges rs (holding w 65)
+  ranges_stay rs = sym (ranges_in_turn rs (holding w 65) ∙ all_stay (flat_map edges rs))
+
   module _ {A : Type 0} (h : A → List Range) (f : ℕ → A) (g : Gathering) where
     full_on : (m d : ℕ) → holding w 65 ≡ meet_ranges (flat_map h (tab_from 0 m f)) g → holding w 65 ≡ meet_ranges (flat_map h (tab_from 0 (m + d) f)) g
     full_on m zero e = e ∙ ap (λ n. meet_ranges (flat_map h (tab_from 0 n f)) g) (sym (add-zero m))
     full_on m (suc d) e =
         let i : m + d + 1 ≡ m + suc d = omega arith in
-        ranges_next h f (m + d) g (full_on m d e) (sym (ranges_in_turn (h (f (m + d))) (holding w 65) ∙ all_stay (flat_map edges (h (f (m + d))))))
+        ranges_next h f (m + d) g (full_on m d e) (ranges_stay (h (f (m + d))))
         ∙ ap (λ n. meet_ranges (flat_map h (tab_from 0 n f)) g) i
 
     -- a walk over n elements ends where no more starts fit

@@ -9,4 +9,4 @@ use Rattle.automaton.specs.Starts.{holding, meet_ranges}
 use Rattle.machine.proofs.gather.gather_place.Given as goal
 
 abbrev pub invariant-loop-k : goal.invariant-loop-k
-invariant-loop-k l = (l.met ≤ 64) × (length l.words ≡ length l.initial.words) × (holding l.words l.met ≡ meet_ranges (tab_from 0 l.k (range_at l.table.words.now l.place)) (holding l.initial.words l.count))
+invariant-loop-k l = (l.met ≤ 64) × (length l.words ≡ length l.initial.words) × (holding l.words l.met ≡ meet_ranges (tab_from 0 l.k (range_at l.loaded l.place)) (holding l.initial.words l.count))

@@ -12,7 +12,7 @@ use Rattle.machine.proofs.gather.gather_range.Goals.{Start}
 
 -- the range met, and what the words held before
 abbrev range : Start → Range
-range s = range_from s.args.table.now.words.now s.args.i
+range s = range_from s.args.loaded.now s.args.i
 
 abbrev found : Start → Gathering
 found s = holding s.args.words.now s.args.count

@@ -4,11 +4,19 @@ use Rattle.std.proofs.Common.{rules, arith, ◌<◌, ◌≡◌, ◌*◌, length,
 use Rattle.meaning.specs.Block.{at, block_size}
 use Rattle.meaning.specs.bridge.Flat.{pattern_at}
 use Rattle.automaton.specs.Layout.{states_from}
-use Rattle.automaton.specs.Starts.{holding}
+use Rattle.automaton.specs.Starts.{pattern_ranges, holding}
 use Rattle.automaton.specs.bridge.Gathered.{counted}
-use Rattle.automaton.proofs.Laws.Gathering.{ranges_next, ranges_full}
+use Rattle.automaton.proofs.Laws.Gathering.{ranges_next, ranges_full, ranges_stay}
 use Rattle.machine.proofs.gather.gather_rule.Invariants.{ranges}
 use Rattle.machine.proofs.gather.gather_rule.Goals as goal
+
+pub returns-then-count-gt64-clause-met : goal.returns-then-count-gt64-clause-met
+returns-then-count-gt64-clause-met c =
+    let a = c.args in
+    let w = a.table.now.words.now in
+    let n : a.count ≡ 65 = omega (arith, c.requires.word_count_in_bounds.1, c.if-count-gt64.true) in
+    let room : states_from < length a.words.now = omega (arith, c.requires.word_count_in_bounds.0) in
+    rw n (ranges_stay a.words.now room (pattern_ranges (pattern_at w a.rule.0 (at w (block_size * a.rule.0)))))
 
 pub returns-in_err-met-clause-met : goal.returns-in_err-met-clause-met
 unfolding pattern_at
