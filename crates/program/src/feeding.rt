@@ -1,5 +1,5 @@
 // Standard input goes to the machine in pieces, and what each call came to is printed.
-ghost use Rattle.std.specs.Prelude.{◌≡◌, ◌≤◌, length, IfOk};
+ghost use Rattle.std.specs.Prelude.{◌≡◌, ◌≤◌, length, take, IfOk};
 ghost use Rattle.session.specs.Promised.{answer_of, outcome_of};
 ghost use Rattle.session.specs.Keeping.{session_of};
 ghost use Rattle.program.specs.Turns.{call_on, waits, TurnOn, Converted};
@@ -44,16 +44,14 @@ pub struct Ending {
     pub handed: u64,
 }
 
-// "one character a byte"
-fn widened(bytes: &[u8]) -> ArrayVec<u16, PIECE>
-    requires { length bytes.now ≤ 16384 }
-    ensures { result.items ≡ bytes.now }
+// "one character a byte", into the first places. The characters are lent and not returned, so that they are not copied.
+fn widen(bytes: &[u8], characters: &mut [u16])
+    requires { length bytes.now ≤ length characters.old }
+    ensures { take (length bytes.now) characters.new ≡ bytes.now }
 {
-    let mut characters = ArrayVec::new();
-    for byte in bytes {
-        characters.push(u16::from(*byte));
+    for (i, byte) in bytes.iter().enumerate() {
+        characters[i] = u16::from(*byte);
     }
-    characters
 }
 
 // A feed of the bytes that were read, or a finish at the input's end.
@@ -70,8 +68,9 @@ fn call_on(
     if bytes.is_empty() {
         return finish(words, session, output);
     }
-    let characters = widened(bytes);
-    feed(words, session, characters.as_slice(), output)
+    let mut characters = [0u16; PIECE];
+    widen(bytes, &mut characters);
+    feed(words, session, &characters[..bytes.len()], output)
 }
 
 // Whether the session waits for more after a call with this answer.
