@@ -90,13 +90,20 @@ pub fn status_line(status: Status, consumed: u64, steps: u64) -> Line
     }
 }
 
+// The line of a refusal with this number, whatever the number.
+pub fn number_line(number: u8) -> Line
+    ensures { RefusalLine number result.items }
+{
+    let mut line = Line::new();
+    put(b"refused", &mut line);
+    put_number(u64::from(number), &mut line);
+    line.push(b'\n');
+    line
+}
+
 // The line of a refusal.
 pub fn refusal_line(refusal: Refusal) -> Line
     ensures { RefusalLine (number_of refusal) result.items }
 {
-    let mut line = Line::new();
-    put(b"refused", &mut line);
-    put_number(u64::from(refusal.number()), &mut line);
-    line.push(b'\n');
-    line
+    number_line(refusal.number())
 }
