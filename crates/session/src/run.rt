@@ -1,6 +1,6 @@
 // The rollback machine's run over machine words. A run that is lent an output without places writes nothing and counts all the same, as a preview
 // wants it. Whether the input has ended, and whether the machine is stuck, are facts that the definitions take, and switch between no two runs.
-ghost use Rattle.std.specs.Prelude.{cond, ◌++◌, ◌≢◌, ◌≡◌, ◌+◌, ◌-◌, ◌≤◌, ◌<◌, T, eqb, length, take, drop};
+ghost use Rattle.std.specs.Prelude.{cond, [], ◌++◌, ◌≢◌, ◌≡◌, ◌+◌, ◌-◌, ◌≤◌, ◌<◌, T, eqb, length, take, drop};
 ghost use Rattle.meaning.specs.Table.{Single, Paired};
 ghost use Rattle.meaning.specs.Block.{at, block_output};
 ghost use Rattle.automaton.specs.Layout.{word_count};
@@ -10,7 +10,7 @@ ghost use Rattle.session.specs.Keeping.{meant_status};
 ghost use Rattle.words.specs.bridge.Readings.{word_of};
 ghost use Rattle.rules.specs.bridge.Modes.{the_mode};
 ghost use Rattle.session.specs.bridge.Counting.{Counted};
-ghost use Rattle.session.specs.bridge.Running.{Continue, left_by, Classed, whole, put, begun_at, SomewherePlaced, ReadsOn, lent, Passes, PassesByDefaults, Moves, MovesAt, Takes, LeavesUnit, less_steps, fall_of, Emit, Back, Between, Halted, Waits, Stands, accept_now, Fits, Placed, Advances, Beyond, Runnable, RunsTo};
+ghost use Rattle.session.specs.bridge.Running.{Continue, left_by, Classed, whole, put, begun_at, SomewherePlaced, ReadsOn, lent, Passes, PassesByDefaults, Moves, MovesAt, Takes, LeavesUnit, TakenAlone, Begins, less_steps, fall_of, Emit, Back, Between, Halted, Waits, Stands, accept_now, Fits, Placed, Advances, Beyond, Runnable, RunsTo};
 
 use crate::kept::Status;
 use crate::prepared::{Prepared, covered, fill_classes};
@@ -130,6 +130,45 @@ pub struct Ahead {
     pub state: StateNo,
     pub at: usize,
     pub stuck: bool,
+}
+
+// How many characters from a part's start on the default takes, each alone, and where the next one leads, if it begins a word, or else state 0. No
+// Option, since the compiler would work out its case anew for each character.
+#[derive(Clone, Copy)]
+struct Alone {
+    size: usize,
+    next: StateNo,
+}
+
+// How many characters from the part's start on the default takes, each alone: up to one that begins a word, or under the mark up to a first unit. What
+// they write is counted by the caller, once for all of them, so that for each character there is the search alone.
+fn taken_alone<const MARKED: bool>(machine: Machine<'_>, classes: &[u16], part: &[u16]) -> Alone
+    requires { Classed machine.words.all.now classes.now }
+    ensures taken { (result.size ≤ length part.now) × TakenAlone machine.entry.words.all.now MARKED part.now result.size }
+    ensures begins { Begins machine.entry.words.all.now part.now result.size result.next }
+{
+    let mode = machine.words.default_mode();
+    let prepared = Prepared {
+        machine,
+        classes,
+        mode,
+    };
+    for (size, c) in part.iter().enumerate() {
+        if MARKED && is_first(*c) {
+            return Alone {
+                size,
+                next: StateNo(0),
+            };
+        }
+        let class = prepared.class_between(*c);
+        if let Some(next) = machine.words.target(StateNo(0), class) {
+            return Alone { size, next };
+        }
+    }
+    Alone {
+        size: part.len(),
+        next: StateNo(0),
+    }
 }
 
 // What a roll-back leads to, in the definitions' four cases: nothing is taken, one unit is, a pair is, or a first unit waits.
@@ -254,6 +293,24 @@ impl<'a> Prepared<'a> {
         self.write_default(part, place, output, count)
     }
 
+    // Between two words the default takes each character that has no target; without an output these are only counted, all at once.
+    fn count_defaults<const MARKED: bool>(&self, text: &Text<'_>, run: Ran) -> Ran
+        requires mode { mode_at self.now.machine.words.all.now ≡ cond MARKED Paired Single }
+        requires placed { Placed self.now.machine.words.all.now (whole text.now) 0 run × (run.from ≡ run.at) }
+        ensures passes_by_defaults { PassesByDefaults self.now.machine.words.all.now (whole text.now) run [] result [] }
+        ensures beyond { Beyond run [] result [] }
+    {
+        let part = text.unread(run.at);
+        let alone = taken_alone::<MARKED>(self.machine, self.classes, part);
+        let place = run.at + alone.size;
+        let count = run.count + alone.size * self.machine.words.group_outputs(DEFAULT_RULE);
+        let steps = run.steps + 3 * alone.size as u64;
+        if alone.next.0 == 0 {
+            return between(place, count, steps);
+        }
+        begun(alone.next, place, count, steps)
+    }
+
     // Between two words the default is emitted for each character that has no target, in the part of the text where the run is; under the mark up to
     // a first unit, which may be one of a pair. A character that has a target is read, so that its target is looked up once.
     fn emit_defaults<const MARKED: bool>(
@@ -267,6 +324,9 @@ impl<'a> Prepared<'a> {
         ensures passes_by_defaults { PassesByDefaults self.now.machine.words.all.now (whole text.now) run output.old result output.new }
         ensures beyond { Beyond run output.old result output.new }
     {
+        if output.len() == 0 {
+            return self.count_defaults::<MARKED>(text, run);
+        }
         let part = text.unread(run.at);
         let from = run.at;
         let steps = run.steps;
@@ -279,7 +339,7 @@ impl<'a> Prepared<'a> {
             if let Some(state) = self.machine.words.target(StateNo(0), class) {
                 return begun(state, from + read, count, steps + 3 * read as u64);
             }
-            count = self.emit_default(part, read, output, count);
+            count = self.write_default(part, read, output, count);
         }
         let read = part.len();
         between(from + read, count, steps + 3 * read as u64)

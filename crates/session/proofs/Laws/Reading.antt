@@ -1,18 +1,19 @@
 -- What the machine reads of the text: classes worked out beforehand, the part of the text where it is, and how it reads on or writes defaults there.
 -- Each law is one turn of a loop; a state that a character leads on from accepts nothing at once, and state 0 is the one of depth 0.
-use mathlib.Core.Bool.{Bool, true, false, ◌&&◌}
+use mathlib.Core.Bool.{Bool, true, false, ◌&&◌, cond}
 use mathlib.Core.List.{List, [], ◌∷◌, ◌++◌, append-nil}
 use mathlib.Core.Logic.{◌≢◌}
 use mathlib.Core.Path.{◌≡◌, refl, sym, ap, subst, ◌∙◌}
-use Prim.Native.Nat.{ℕ, zero, suc, ◌+◌, ◌-◌, ◌≤◌, ◌<◌}
+use Prim.Native.Nat.{ℕ, zero, suc, ◌+◌, ◌*◌, ◌-◌, ◌≤◌, ◌<◌}
 use native.Mathlib.Omega.{arith}
+use native.Mathlib.Nat.{suc-mul}
 use lib.Dec.{T, eqb, leb, ltb, eqb→eq, ltb→lt, nltb→le}
 use lib.ListN.{length, get_or, take, drop, replicate, length-append, length-drop, length-replicate, get_or-replicate, get_or-append}
 use lib.Seq.{take_all, drop-nil, drop-cons, length-take-le, get_or-take, get_or-drop, get_or-append-add, drop-append-add}
 use Rattle.lists.specs.Lists.{pad}
 use Rattle.lists.proofs.Laws.Parts.{length_pad}
 use Rattle.lists.proofs.Laws.Tests.{holds, below, split, of_cond, of_between}
-use Rattle.meaning.specs.Table.{default_number}
+use Rattle.meaning.specs.Table.{default_number, is_first, Single, Paired}
 use Rattle.meaning.specs.Block.{at, block_output}
 use Rattle.automaton.specs.Sound.{longest_word, expansion_word, state_count, depth_word, accept_word, target_word, class_count, block_at, mode_at, sound_state, sound}
 use Rattle.automaton.specs.Classes.{class_of}
@@ -22,13 +23,13 @@ use Rattle.automaton.proofs.Laws.Words.{sound_state_lem, sound_class, sound_good
 use Rattle.reckoning.specs.Machine.{taking, fall}
 use Rattle.reckoning.specs.Uses.{use_counts}
 use Rattle.session.specs.bridge.Counting.{bumped}
-use Rattle.session.specs.bridge.Running.{Painted, put, first_of, Placed, Lent, lent, Proceeds, Beyond, Passes, PassesByDefaults, Between, ReadsOn, read_to, begun_at, Read, Back}
+use Rattle.session.specs.bridge.Running.{Painted, TakenAlone, put, first_of, Placed, Lent, lent, Proceeds, Beyond, Passes, PassesByDefaults, Between, ReadsOn, read_to, begun_at, Read, Back}
 use Rattle.session.specs.declared.kept.Status.TheVariants as Code
 use Rattle.session.specs.declared.run.Ran.{Ran}
 use Rattle.session.specs.declared.run.Ahead.{Ahead}
 use Rattle.session.proofs.Laws.Counting.{bumped_none, bumped_again}
-use Rattle.session.proofs.Laws.Falling.{default_there}
-use Rattle.session.proofs.Laws.Running.{first_at, character_backs, character_reads, decides_character, turn_room, turn_small, write_block, mode_words, advances_read, advances_one, beyond_on}
+use Rattle.session.proofs.Laws.Falling.{alone_fall, default_there}
+use Rattle.session.proofs.Laws.Running.{put_none, first_at, character_backs, character_reads, decides_character, turn_room, turn_small, write_block, mode_words, advances_read, advances_one, beyond_on}
 use Rattle.automaton.specs.Layout.{classes_from}
 
 -- a part of a table is painted with the number that belongs there
@@ -229,6 +230,23 @@ defaulted_placed : (w u : List ℕ) (room : ℕ) (old new : Ran) (before after :
     ((uses : List ℕ) → length uses ≡ use_counts → Passes w u room old (lent before uses) new (lent after (bumped uses default_number n))) → Placed w u room new
 defaulted_placed w u room old new before after n f = (f (pad use_counts []) (length_pad use_counts [])).0
 
+-- one more character that is taken alone
+pub taken_next : (w part : List ℕ) (marked : Bool) (n : ℕ) → TakenAlone w marked part n → target_word w 0 (class_in w (get_or part n 0)) ≡ 0 →
+    (marked && is_first (get_or part n 0)) ≡ false → TakenAlone w marked part (n + 1)
+taken_next w part marked n old none one i h =
+    split (ltb i n) (λ t. old i (ltb→lt i n t))
+    (λ t.
+    let e : n ≡ i = omega (arith, h, nltb→le i n t) in
+    subst (λ k. (target_word w 0 (class_in w (get_or part k 0)) ≡ 0) × (marked && is_first (get_or part k 0) ≡ false)) e (none, one))
+
+-- a character that is taken alone, without the mark or as no first unit, falls alone
+falls_alone : (w u : List ℕ) (m : ℕ) (marked ended : Bool) → mode_at w ≡ cond marked Paired Single → (marked && is_first (get_or u m 0)) ≡ false →
+    fall (mode_at w) ended (drop m u) ≡ taking default_number 1
+falls_alone w u m false ended e h = ap (λ d. fall d ended (drop m u)) e
+falls_alone w u m true ended e h =
+    let z : m + 0 ≡ m = omega arith in
+    ap (λ d. fall d ended (drop m u)) e ∙ alone_fall ended (drop m u) (ap is_first (get_or-drop m u 0 0 ∙ ap (λ k. get_or u k 0) z) ∙ h)
+
 module _ (w u : List ℕ) (n count made : ℕ) (before : List ℕ) where
   pub defaulted_none : (m more : ℕ) → m ≡ n → more ≡ made → Defaulted w u n count made before m count more before
   defaulted_none m more z y now e₁ e₂ e₃ e₄ P =
@@ -282,6 +300,32 @@ module _ (w u : List ℕ) (n count made : ℕ) (before : List ℕ) where
             (λ ended. subst (λ room. Proceeds w u ended room old (lent between (bumped uses default_number (m - n))) new (lent after (bumped uses default_number (m' - n)))) size (on uses e ended).0),
         (omega (arith, l.2.0, beyond.0), beyond_on old new before between after l.2.1 beyond),
       )
+
+  -- and so on, without an output, for each character of a part that the default takes alone
+  pub defaulted_alone : T (sound w) → length before ≡ 0 → (marked : Bool) → mode_at w ≡ cond marked Paired Single → (part : List ℕ) →
+      ((i : ℕ) → i < length part → get_or part i 0 ≡ get_or u (n + i) 0) → n + length part ≤ length u →
+      (k : ℕ) → k ≤ length part → TakenAlone w marked part k → Defaulted w u n count made before (n + k) (count + k * at (block_at w 32) 2) (made + 3 * k) before
+  defaulted_alone W none marked mode part each inside zero h taken =
+      let same : count ≡ count + 0 * at (block_at w 32) 2 = omega arith in
+      subst (λ x. Defaulted w u n count made before (n + 0) x (made + 3 * 0) before) same (defaulted_none (n + 0) (made + 3 * 0) (omega arith) (omega arith))
+  defaulted_alone W none marked mode part each inside (suc k) h taken =
+      let outputs = at (block_at w 32) 2 in
+      let there : k < length part = omega arith in
+      let next = taken k (omega arith) in
+      let alone : (marked && is_first (get_or u (n + k) 0)) ≡ false = ap (λ x. marked && is_first x) (sym (each k there)) ∙ next.1 in
+      let more = suc-mul k outputs in
+      defaulted_next W (n + k) (count + k * outputs) (made + 3 * k) (λ ended. falls_alone w u (n + k) marked ended mode alone) before refl
+      (defaulted_alone W none marked mode part each inside k (omega arith) (λ i l. taken i (omega arith)))
+      (omega (arith, there, inside)) (ap (λ x. target_word w 0 (class_in w x)) (sym (each k there)) ∙ next.0)
+      (n + suc k) (count + suc k * outputs) (made + 3 * suc k) before (omega arith) (ap (λ x. count + x) more ∙ omega arith) (omega arith)
+      (sym (put_none before (count + k * outputs) (block_output (block_at w 32) (take 1 (drop (n + k) u))) none))
+
+  -- the count stays small
+  pub defaulted_small : (now : Ran) → now.from ≡ n → now.at ≡ n → now.count ≡ count → now.steps ≡ made → Placed w u (length before) now → (m written more : ℕ) (after : List ℕ) →
+      Defaulted w u n count made before m written more after → T (sound w) → written + 8 < 18446744073709551616
+  defaulted_small now e₁ e₂ e₃ e₄ P m written more after f W =
+      let new = between_at now m written more in
+      turn_small w u (length before) new W (defaulted_placed w u (length before) now new before after (m - n) (f now e₁ e₂ e₃ e₄ P).1)
 
   -- the default has room
   pub defaulted_room : (now : Ran) → now.from ≡ n → now.at ≡ n → now.count ≡ count → now.steps ≡ made → Placed w u (length before) now → (m written more : ℕ) (after : List ℕ) →

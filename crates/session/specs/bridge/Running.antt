@@ -1,10 +1,10 @@
 -- The run over machine words as it is kept on the way: where the store lies in the text, and what the machine does next.
-use Rattle.std.specs.Prelude.{Bool, true, false, ◌&&◌, cond, List, [], ◌∷◌, ◌++◌, ◌≡◌, ℕ, suc, ◌+◌, ◌*◌, ◌-◌, ◌≤◌, ◌<◌, T, eqb, ltb, length, get_or, take, drop}
+use Rattle.std.specs.Prelude.{Bool, true, false, ◌&&◌, cond, List, [], ◌∷◌, ◌++◌, ◌≡◌, ◌≢◌, ℕ, suc, ◌+◌, ◌*◌, ◌-◌, ◌≤◌, ◌<◌, T, eqb, ltb, length, get_or, take, drop}
 use Rattle.meaning.specs.Meaning.{Emission, text_of, covered}
-use Rattle.meaning.specs.Table.{default_number, pair_number}
+use Rattle.meaning.specs.Table.{default_number, pair_number, is_first}
 use Rattle.meaning.specs.Block.{at}
 use Rattle.automaton.specs.Classes.{class_of}
-use Rattle.automaton.specs.Sound.{sound, expansion_word, class_count, state_count, depth_word, accept_word, accept_at_end_word, used, block_at}
+use Rattle.automaton.specs.Sound.{sound, expansion_word, class_count, state_count, depth_word, accept_word, accept_at_end_word, target_word, used, block_at}
 use Rattle.automaton.specs.Automaton.{from_words}
 use Rattle.reckoning.specs.Machine.{Configuration, Step, Status, Open, Closed, halt, emit, read, roll_back, end, Fall, nowhere, taking, keeping, step, Ended, steps, run, start}
 use Rattle.reckoning.specs.Session.{stands_at}
@@ -154,6 +154,16 @@ Classed w classes = (c : ℕ) → c < length classes → get_or classes c 0 ≡ 
 -- the places from `from` on and below `to` have the number, and those before are as they were
 abbrev pub Painted : List ℕ → ℕ → ℕ → ℕ → List ℕ → Type 0
 Painted before from to x after = (i : ℕ) → i < to → get_or after i 0 ≡ cond (ltb i from) (get_or before i 0) x
+
+-- the default takes each of a part's first n characters alone: none leads on from state 0, and under the mark none is a first unit
+abbrev pub TakenAlone : List ℕ → Bool → List ℕ → ℕ → Type 0
+TakenAlone w marked part n =
+    (i : ℕ) → i < n → (target_word w 0 (class_of (take (class_count w) (drop classes_from w)) (get_or part i 0)) ≡ 0) × (marked && is_first (get_or part i 0) ≡ false)
+
+-- the part's character at place n begins a word and leads to the state, if that is not state 0
+abbrev pub Begins : List ℕ → List ℕ → ℕ → StateNo → Type 0
+Begins w part n q =
+    q.0 ≢ 0 → (n < length part) × (q.0 ≡ target_word w 0 (class_of (take (class_count w) (drop classes_from w)) (get_or part n 0)))
 
 -- where a class ends among the first characters: at the next class's start, or past the last of them
 pub record ClassEnds (w : List ℕ) (class most end : ℕ) : Type 0 where

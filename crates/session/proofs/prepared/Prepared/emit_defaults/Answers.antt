@@ -2,20 +2,22 @@
 -- read, under the mark none of which is a first unit. Assumes nothing.
 use mathlib.Core.Bool.{Bool, false, cond, not}
 use mathlib.Core.Path.{◌≡◌, refl, sym, ap, subst, ◌∙◌}
-use mathlib.Core.List.{List}
+use mathlib.Core.List.{List, ◌++◌}
 use Prim.Native.Nat.{ℕ, ◌+◌, ◌*◌, ◌≤◌, ◌<◌}
 use native.Mathlib.Omega.{arith}
+use Rattle.std.proofs.lemmas.List.{nil_from_length}
 use borrow.Author.Tests.{ne_eqb}
 use lib.Dec.{eqb}
-use lib.ListN.{length, get_or, drop}
+use lib.ListN.{length, get_or, take, drop}
 use lib.Seq.{get_or-drop}
 use Rattle.meaning.specs.Table.{is_first, default_number, Single, Paired}
 use Rattle.meaning.specs.Block.{at, block_output}
 use Rattle.automaton.specs.Sound.{target_word, block_at, mode_at}
 use Rattle.words.specs.bridge.Readings.{Leads}
-use Rattle.session.specs.bridge.Running.{whole, put}
+use Rattle.session.specs.bridge.Running.{whole, put, Placed, PassesByDefaults, Beyond}
 use Rattle.automaton.proofs.Laws.Words.{sound_header_lem, sound_class, sound_default}
 use Rattle.reckoning.specs.Machine.{taking, fall}
+use Rattle.session.proofs.Laws.Running.{put_group}
 use Rattle.session.proofs.Laws.Falling.{alone_fall, default_there}
 use Rattle.session.proofs.Laws.Reading.{Defaulted, part_of, part_inside, part_at, part_one, class_in, defaulted_none, defaulted_next, defaulted_room, defaulted_begins, defaulted_end}
 use Rattle.session.proofs.prepared.Prepared.emit_defaults.Given.{Over}
@@ -28,6 +30,11 @@ marked w n e h = e ∙ ap (λ b. cond (not b) Paired Single) (ne_eqb n 0 h)
 
 unmarked : (w : List ℕ) (n : ℕ) → mode_at w ≡ cond (not (eqb n 0)) Paired Single → n ≡ 0 → mode_at w ≡ Single
 unmarked w n e z = e ∙ ap (λ k. cond (not (eqb k 0)) Paired Single) z
+
+-- what a block writes for a word, into an output with places
+put_word : (b word same output after : List ℕ) (n : ℕ) → 1 ≤ length output → after ≡ take n output ++ block_output b word ++ drop (n + at b 2) output → word ≡ same →
+    after ≡ put output n (block_output b same)
+put_word b word same output after n any wrote e = wrote ∙ put_group b word output n any ∙ ap (λ x. put output n (block_output b x)) e
 
 module _ (g : Over) where
   abbrev text : Start g → List ℕ
@@ -85,6 +92,23 @@ module _ (g : Over) where
         subst (λ k. Leads c.target.result (target_word w 0 k)) (c.class_between-class.ensures ∙ ap (class_in w) x) c.target.ensures,
       )
 
+pub count_defaults-requires : goal.count_defaults-requires
+count_defaults-requires g c =
+    let a = c.args in
+    let P = c.requires.placed in
+    record { mode = c.requires.mode; placed = (subst (λ room. Placed a.self.now.machine.words.all.now (whole a.text.now) room a.run) c.if-output-eq0.true P.0, P.1) }
+
+pub returns-then-output-eq0 : goal.returns-then-output-eq0
+returns-then-output-eq0 g c =
+    let a = c.args in
+    let w = a.self.now.machine.words.all.now in
+    let known = c.count_defaults.ensures in
+    let none = sym (nil_from_length a.output.now c.if-output-eq0.true) in
+    record {
+      passes_by_defaults = subst (λ o. PassesByDefaults w (whole a.text.now) a.run o c.count_defaults.result o) none known.passes_by_defaults;
+      beyond = subst (λ o. Beyond a.run o c.count_defaults.result o) none known.beyond;
+    }
+
 pub loop-read-init : goal.loop-read-init
 loop-read-init g c =
     let a = c.args in
@@ -123,22 +147,22 @@ returns-in-Some g c =
     c.begun.result c.begun.ensures in
     record { passes_by_defaults = both.0; beyond = both.1 }
 
-pub emit_default-count-requires : goal.emit_default-count-requires
-emit_default-count-requires g c =
+pub write_default-count-requires : goal.write_default-count-requires
+write_default-count-requires g c =
     let a = c.args in
     let w = a.self.now.machine.words.all.now in
     let W = a.self.now.machine.sound in
     let l = c.loop-read in
     let u = whole a.text.now in
-    let k = leads g (goal.at.emit_default-count-requires g c).After-target in
+    let k = leads g (goal.at.write_default-count-requires g c).After-target in
     let m = a.run.at + l.read in
-    let there = default_there w (drop m u) false _ _ (alone g (goal.at.emit_default-count-requires g c).Joined-else-this-ne0 false) in
+    let there = default_there w (drop m u) false _ _ (alone g (goal.at.write_default-count-requires g c).Joined-else-this-ne0 false) in
     let d = sound_default w W there in
     let room =
     defaulted_room w u a.run.at a.run.count a.run.steps a.output.now a.run c.requires.placed.1 refl refl refl c.requires.placed.0
     (a.run.at + l.read) l.count (a.run.steps + 3 * l.read) l.output l.invariant k.0 W (at (block_at w 32) 2) d.outputs in
-    let fits : 1 ≤ length l.output → l.count + at (block_at w 32) 2 ≤ length l.output = subst (λ n. 1 ≤ n → l.count + at (block_at w 32) 2 ≤ n) (sym l.auto.output) room.0 in
-    record { place_in_bounds = (c.loop-read-test.true, there); words_in_bounds = fits; count_bound = room.1 }
+    let fits : l.count + at (block_at w 32) 2 ≤ length l.output = subst (λ n. l.count + at (block_at w 32) 2 ≤ n) (sym l.auto.output) (room.0 (omega (arith, c.if-output-eq0.false))) in
+    record { place_in_bounds = (c.loop-read-test.true, there); words_in_bounds = fits }
 
 pub loop-read-preserved : goal.loop-read-preserved
 loop-read-preserved g c =
@@ -151,12 +175,13 @@ loop-read-preserved g c =
     let turn : l.read < length p.result.now = c.loop-read-test.true in
     let k = leads g (goal.at.loop-read-preserved g c).After-target in
     let none = subst (λ n. Leads n (word g (goal.at.loop-read-preserved g c).After-target)) c.in_default.is k.1 in
-    let known = c.emit_default-count.ensures in
+    let known = c.write_default-count.ensures in
+    let any : 1 ≤ length l.output = omega (arith, c.if-output-eq0.false, l.auto.output) in
     let one = part_one t.given.now t.piece.now p.result.now a.run.at p.ensures l.read turn c.requires.placed.0.inside in
     defaulted_next w (whole t) a.run.at a.run.count a.run.steps a.output.now a.self.now.machine.sound
     (a.run.at + l.read) l.count (a.run.steps + 3 * l.read) (alone g (goal.at.loop-read-preserved g c).Joined-else-this-ne0) l.output l.auto.output l.invariant k.0 none
-    (a.run.at + (l.read + 1)) c.emit_default-count.result (a.run.steps + 3 * (l.read + 1)) _ (omega arith) known.value (omega arith)
-    (known.output_after ∙ ap (λ x. put l.output l.count (block_output b x)) one)
+    (a.run.at + (l.read + 1)) c.write_default-count.result (a.run.steps + 3 * (l.read + 1)) _ (omega arith) known.value (omega arith)
+    (put_word b _ _ l.output _ l.count any known.output_after one)
 
 pub returns : goal.returns
 returns g c =
