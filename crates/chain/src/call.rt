@@ -1,10 +1,10 @@
 // Feed and finish of a chain: the tests of a call, the first machine's run over the piece into the middle buffer, and the second's over what the
 // first wrote. Each stands by its own name, lent, by value and with lent counts, as README has them, and is one call. Whether the piece is the last
 // is a fact that the machines take.
-ghost use Rattle.std.specs.Prelude.{◌≡◌, ◌-◌, ◌≤◌, length, OnErr, Ok};
+ghost use Rattle.std.specs.Prelude.{◌&&◌, ◌≡◌, ◌-◌, ◌≤◌, length, OnErr, Ok};
 ghost use Rattle.meaning.specs.Refusal.{accepted};
-ghost use Rattle.reckoning.specs.Chain.{admits_chain, chain_on};
-ghost use Rattle.session.specs.Keeping.{together, session_of};
+ghost use Rattle.reckoning.specs.Chain.{is_closed, admits_chain, chain_on};
+ghost use Rattle.session.specs.Keeping.{meant_status, together, session_of};
 ghost use Rattle.chain.specs.Promised.{outcome_of, written_of, first_of, second_of, Feeds, Finishes};
 ghost use Rattle.chain.specs.bridge.Both.{by_tests, joined};
 
@@ -28,6 +28,13 @@ pub struct Went<L> {
     pub written: Written,
     pub first: L,
     pub second: L,
+}
+
+// Whether the second has its end: at a finish, where the first has closed.
+fn closes(ended: bool, first: Status) -> bool
+    ensures { result ≡ (ended && is_closed (meant_status first)) }
+{
+    ended && first == Status::Closed
 }
 
 // How many characters a call wrote, by what was kept before it and after it.
@@ -61,7 +68,7 @@ fn go_on(
 {
     let of_first = resume(one, first, first_uses, piece, ended, middle);
     let passed = gained(first, of_first.left);
-    let end = ended && of_first.left.status == Status::Closed;
+    let end = closes(ended, of_first.left.status);
     let of_second = resume(other, second, second_uses, &middle[..passed], end, output);
     let first_left = of_first.left;
     Went {

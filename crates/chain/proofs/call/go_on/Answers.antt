@@ -1,22 +1,16 @@
 -- `call::go_on` meets its contract: the first's run is admitted over the piece, the second's over what the first wrote, and what they leave is the
 -- chain's outcome. What a machine has produced more is what it wrote.
 use mathlib.Core.List.{List}
-use mathlib.Core.Bool.{◌&&◌}
-use mathlib.Core.Path.{◌≡◌, refl, sym, ap, ◌∙◌}
-use denote.Enum.Bare.{sameb}
+use mathlib.Core.Path.{sym}
 use Prim.Native.Nat.{ℕ}
 use native.Mathlib.Nat.{le_refl}
 use native.Mathlib.Omega.{arith}
 use lib.Seq.{length-take-le}
 use Rattle.reckoning.specs.Session.{Session}
-use Rattle.reckoning.specs.Chain.{is_closed}
-use Rattle.session.specs.contracts.kept.Status.{the_type}
-use Rattle.session.specs.Keeping.{meant_status, together, session_of}
-use Rattle.session.specs.declared.kept.Status.{Status}
-use Rattle.session.specs.declared.kept.Status.TheVariants.{Open, Closed, Stopped}
+use Rattle.session.specs.Keeping.{together, session_of}
 use Rattle.chain.proofs.Laws.Going.{first_passes, first_counted, passed_fits, second_passes, second_counted, both_go}
 use Rattle.chain.proofs.call.go_on.Goals as goal
-use Rattle.chain.proofs.call.go_on.Goals.{After-resume-of_first, After-resume-of_second, After-gained-passed, Start, then-ended, else-ended}
+use Rattle.chain.proofs.call.go_on.Goals.{After-resume-of_first, After-resume-of_second, After-gained-passed, Start}
 
 abbrev words₁ : Start → List ℕ
 words₁ s = s.args.one.words.all.now
@@ -38,11 +32,6 @@ middle s = s.args.middle.now
 
 abbrev output : Start → List ℕ
 output s = s.args.output.now
-
-closing : (x : Status) → is_closed (meant_status x) ≡ sameb the_type x Closed
-closing Open = refl
-closing Closed = refl
-closing Stopped = refl
 
 pub resume-of_first-requires : goal.resume-of_first-requires
 resume-of_first-requires c = (_, first_passes (words₁ (goal.at.resume-of_first-requires c).Start) (words₂ (goal.at.resume-of_first-requires c).Start) (session₁ (goal.at.resume-of_first-requires c).Start) (session₂ (goal.at.resume-of_first-requires c).Start) (piece (goal.at.resume-of_first-requires c).Start) c.args.ended (middle (goal.at.resume-of_first-requires c).Start) (output (goal.at.resume-of_first-requires c).Start) c.requires, λ any. le_refl _)
@@ -78,16 +67,10 @@ gained-requires c =
     omega (
       arith,
       second_counted (words₁ (goal.at.gained-requires c).Start) (words₂ (goal.at.gained-requires c).Start) (session₁ (goal.at.gained-requires c).Start) (session₂ (goal.at.gained-requires c).Start) (piece (goal.at.gained-requires c).Start) c.args.ended (middle (goal.at.gained-requires c).Start) (output (goal.at.gained-requires c).Start) c.requires _ c.resume-of_first.ensures
-          c.gained-passed.result c.gained-passed.ensures _ (elim c.if-ended.branch [
-            | then-ended w ↦ w.end-is ∙ w.eq-end.ensures ∙ sym (closing c.resume-of_first.result.left.status) ∙ ap (λ e. e && is_closed (meant_status c.resume-of_first.result.left.status)) (sym w.if-ended.true)
-            | else-ended w ↦ w.end-is ∙ w.if-ended.false ∙ ap (λ e. e && is_closed (meant_status c.resume-of_first.result.left.status)) (sym w.if-ended.false)
-          ]) _ c.resume-of_second.ensures,
+          c.gained-passed.result c.gained-passed.ensures _ c.closes-end.ensures _ c.resume-of_second.ensures,
     )
 
 pub returns : goal.returns
 returns c =
     both_go (words₁ (goal.at.returns c).Start) (words₂ (goal.at.returns c).Start) (session₁ (goal.at.returns c).Start) (session₂ (goal.at.returns c).Start) (piece (goal.at.returns c).Start) c.args.ended (middle (goal.at.returns c).Start) (output (goal.at.returns c).Start) c.requires _ c.resume-of_first.ensures c.gained-passed.result
-    c.gained-passed.ensures _ (elim c.if-ended.branch [
-      | then-ended w ↦ w.end-is ∙ w.eq-end.ensures ∙ sym (closing c.resume-of_first.result.left.status) ∙ ap (λ e. e && is_closed (meant_status c.resume-of_first.result.left.status)) (sym w.if-ended.true)
-      | else-ended w ↦ w.end-is ∙ w.if-ended.false ∙ ap (λ e. e && is_closed (meant_status c.resume-of_first.result.left.status)) (sym w.if-ended.false)
-    ]) _ c.resume-of_second.ensures c.gained.result c.gained.ensures
+    c.gained-passed.ensures _ c.closes-end.ensures _ c.resume-of_second.ensures c.gained.result c.gained.ensures
