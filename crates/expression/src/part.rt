@@ -2,7 +2,7 @@
 ghost use Rattle.std.specs.Prelude.{◌≡◌, ℕ, ◌<◌, List, ℤ, Some, length};
 ghost use Rattle.expression.specs.bridge.Forms.{Small};
 
-pub mod operations;
+mod operations;
 
 pub use operations::{minus, plus, times};
 

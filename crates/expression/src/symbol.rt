@@ -17,7 +17,9 @@ fn blank(c: u16) -> bool
     matches!(c, 10 | 13 | 32)
 }
 
-// The place where the next symbol begins.
+// The place where the next symbol begins. It is not inlined: in some callers the compiler would keep the place in three counts, of which each blank
+// moves all.
+#[inline(never)]
 #[tactic(auto, using(crate::proofs::Laws::Symbols::skips))]
 pub fn skip(s: &[u16], at: usize) -> usize
     requires { at ≤ length s.now }

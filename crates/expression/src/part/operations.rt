@@ -5,6 +5,7 @@ ghost use Rattle.expression.specs.bridge.Answers.{kept};
 
 use crate::part::Part;
 
+// The sum.
 #[tactic(auto, unfolding(crate::specs::Parts::plus_part, crate::specs::Parts::both))]
 pub fn plus(a: Option<Part>, b: Option<Part>) -> Option<Part>
     ensures { kept result ≡ plus_part (kept a) (kept b) }
@@ -12,6 +13,7 @@ pub fn plus(a: Option<Part>, b: Option<Part>) -> Option<Part>
     a?.checked_add(&b?)
 }
 
+// The difference.
 #[tactic(auto, unfolding(crate::specs::Parts::minus_part, crate::specs::Parts::both))]
 pub fn minus(a: Option<Part>, b: Option<Part>) -> Option<Part>
     ensures { kept result ≡ minus_part (kept a) (kept b) }
@@ -19,6 +21,7 @@ pub fn minus(a: Option<Part>, b: Option<Part>) -> Option<Part>
     a?.checked_sub(&b?)
 }
 
+// The product, of which one factor is a number.
 #[tactic(auto, unfolding(crate::specs::Parts::times_part, crate::specs::Parts::both))]
 pub fn times(a: Option<Part>, b: Option<Part>) -> Option<Part>
     ensures { kept result ≡ times_part (kept a) (kept b) }
