@@ -140,37 +140,6 @@ struct Alone {
     next: StateNo,
 }
 
-// How many characters from the part's start on the default takes, each alone: up to one that begins a word, or under the mark up to a first unit. What
-// they write is counted by the caller, once for all of them, so that for each character there is the search alone.
-fn taken_alone<const MARKED: bool>(machine: Machine<'_>, classes: &[u16], part: &[u16]) -> Alone
-    requires { Classed machine.words.all.now classes.now }
-    ensures taken { (result.size ≤ length part.now) × TakenAlone machine.entry.words.all.now MARKED part.now result.size }
-    ensures begins { Begins machine.entry.words.all.now part.now result.size result.next }
-{
-    let mode = machine.words.default_mode();
-    let prepared = Prepared {
-        machine,
-        classes,
-        mode,
-    };
-    for (size, c) in part.iter().enumerate() {
-        if MARKED && is_first(*c) {
-            return Alone {
-                size,
-                next: StateNo(0),
-            };
-        }
-        let class = prepared.class_between(*c);
-        if let Some(next) = machine.words.target(StateNo(0), class) {
-            return Alone { size, next };
-        }
-    }
-    Alone {
-        size: part.len(),
-        next: StateNo(0),
-    }
-}
-
 // What a roll-back leads to, in the definitions' four cases: nothing is taken, one unit is, a pair is, or a first unit waits.
 #[derive(Clone, Copy, Debug, PartialEq, Eq)]
 pub enum Fall {
@@ -293,6 +262,30 @@ impl<'a> Prepared<'a> {
         self.write_default(part, place, output, count)
     }
 
+    // How many characters from the part's start on the default takes, each alone: up to one that begins a word, or under the mark up to a first unit.
+    // What they write is counted by the caller, once for all of them, so that for each character there is the search alone.
+    fn taken_alone<const MARKED: bool>(&self, part: &[u16]) -> Alone
+        ensures taken { (result.size ≤ length part.now) × TakenAlone self.now.machine.words.all.now MARKED part.now result.size }
+        ensures begins { Begins self.now.machine.words.all.now part.now result.size result.next }
+    {
+        for (size, c) in part.iter().enumerate() {
+            if MARKED && is_first(*c) {
+                return Alone {
+                    size,
+                    next: StateNo(0),
+                };
+            }
+            let class = self.class_between(*c);
+            if let Some(next) = self.machine.words.target(StateNo(0), class) {
+                return Alone { size, next };
+            }
+        }
+        Alone {
+            size: part.len(),
+            next: StateNo(0),
+        }
+    }
+
     // Between two words the default takes each character that has no target; without an output these are only counted, all at once.
     fn count_defaults<const MARKED: bool>(&self, text: &Text<'_>, run: Ran) -> Ran
         requires mode { mode_at self.now.machine.words.all.now ≡ cond MARKED Paired Single }
@@ -301,7 +294,7 @@ impl<'a> Prepared<'a> {
         ensures beyond { Beyond run [] result [] }
     {
         let part = text.unread(run.at);
-        let alone = taken_alone::<MARKED>(self.machine, self.classes, part);
+        let alone = self.taken_alone::<MARKED>(part);
         let place = run.at + alone.size;
         let count = run.count + alone.size * self.machine.words.group_outputs(DEFAULT_RULE);
         let steps = run.steps + 3 * alone.size as u64;

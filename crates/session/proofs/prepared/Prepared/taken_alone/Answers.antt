@@ -1,4 +1,4 @@
--- `run::taken_alone` meets its contract. The invariant: the default takes each of the characters read alone, since none has a target and, under the
+-- `prepared::Prepared::taken_alone` meets its contract. The invariant: the default takes each of the characters read alone, since none has a target and, under the
 -- mark, none is a first unit. Assumes nothing.
 use mathlib.Core.Bool.{false, not, ◌&&◌, and-false}
 use mathlib.Core.Path.{◌≡◌, refl, sym, ap, subst, ◌∙◌}
@@ -12,17 +12,17 @@ use Rattle.automaton.proofs.Laws.Words.{sound_header_lem, sound_class}
 use Rattle.words.specs.bridge.Readings.{Leads}
 use Rattle.session.specs.bridge.Running.{TakenAlone}
 use Rattle.session.proofs.Laws.Reading.{class_in, taken_next}
-use Rattle.session.proofs.run.taken_alone.Given.{Over}
-use Rattle.session.proofs.run.taken_alone.Goals as goal
-use Rattle.session.proofs.run.taken_alone.Goals.{After-target, Joined-else-this-ne0, else-this-ne0-via-then-this-ne0+else-is_first, else-this-ne0-via-else-this-ne0}
+use Rattle.session.proofs.prepared.Prepared.taken_alone.Given.{Over}
+use Rattle.session.proofs.prepared.Prepared.taken_alone.Goals as goal
+use Rattle.session.proofs.prepared.Prepared.taken_alone.Goals.{After-target, Joined-else-this-ne0, else-this-ne0-via-then-this-ne0+else-is_first, else-this-ne0-via-else-this-ne0}
 
 module _ (g : Over) where
   -- where the character leads from state 0
   abbrev word : After-target g → ℕ
-  word c = let a = c.args in target_word a.machine.words.all.now 0 (class_in a.machine.words.all.now (get_or a.part.now c.loop-size.size 0))
+  word c = let a = c.args in target_word a.self.now.machine.words.all.now 0 (class_in a.self.now.machine.words.all.now (get_or a.part.now c.loop-size.size 0))
 
   leads : (c : After-target g) → Leads c.target.result (word c)
-  leads c = subst (λ k. Leads c.target.result (target_word c.args.machine.words.all.now 0 k)) c.class_between-class.ensures c.target.ensures
+  leads c = subst (λ k. Leads c.target.result (target_word c.args.self.now.machine.words.all.now 0 k)) c.class_between-class.ensures c.target.ensures
 
   -- under the mark it is no first unit
   alone : (c : Joined-else-this-ne0 g) → (not (eqb g.row.MARKED 0) && is_first (get_or c.args.part.now c.loop-size.size 0)) ≡ false
@@ -42,7 +42,7 @@ returns-then-is_first g c = record { taken = (c.loop-size.auto.size-end, c.loop-
 
 pub target-requires : goal.target-requires
 target-requires g c =
-    let m = c.args.machine in
+    let m = c.args.self.now.machine in
     let w = m.words.all.now in
     let h = sound_header_lem w m.sound in
     let x = get_or c.args.part.now c.loop-size.size 0 in
@@ -60,11 +60,11 @@ loop-size-preserved g c =
     let a = c.args in
     let l = c.loop-size in
     let none = subst (λ n. Leads n (word g (goal.at.loop-size-preserved g c).After-target)) c.in_default.is (leads g (goal.at.loop-size-preserved g c).After-target) in
-    taken_next a.machine.words.all.now a.part.now (not (eqb g.row.MARKED 0)) l.size l.invariant none (alone g (goal.at.loop-size-preserved g c).Joined-else-this-ne0)
+    taken_next a.self.now.machine.words.all.now a.part.now (not (eqb g.row.MARKED 0)) l.size l.invariant none (alone g (goal.at.loop-size-preserved g c).Joined-else-this-ne0)
 
 pub returns : goal.returns
 returns g c =
     let a = c.args in
     let l = c.loop-size in
     let all : l.size ≡ length a.part.now = omega (arith, l.auto.size-end, c.loop-size-test.false) in
-    record { taken = (omega arith, subst (TakenAlone a.machine.words.all.now (not (eqb g.row.MARKED 0)) a.part.now) all l.invariant); begins = λ h. absurd (h refl) }
+    record { taken = (omega arith, subst (TakenAlone a.self.now.machine.words.all.now (not (eqb g.row.MARKED 0)) a.part.now) all l.invariant); begins = λ h. absurd (h refl) }
