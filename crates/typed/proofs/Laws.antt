@@ -28,4 +28,5 @@ pub mod Items
 pub mod Stages
 pub mod Streamed
 pub mod Surveyed
+pub mod Ended
 pub mod Passes

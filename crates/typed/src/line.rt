@@ -1,11 +1,12 @@
-// Lines of a text: what stands before `==>`, its outputs and a semicolon; any number of lines.
+// Lines of a text: what stands before `==>`, its outputs and a semicolon; any number of lines. A refusal 17 ends the table check, or it is noted and
+// the check goes on past it, as a text's refusals want it.
 ghost use Rattle.std.specs.Prelude.{◌≤◌, length, drop};
 ghost use Rattle.expression.specs.bridge.Text.{map_read};
 ghost use Rattle.typed.specs.bridge.Reader.{head_of, line_of, lines_of};
-ghost use Rattle.typed.specs.bridge.Stream.{feed_head, feed_line, feed_lines};
+ghost use Rattle.typed.specs.bridge.Stream.{feed_head, feed_line, feed_line_past17, feed_lines, feed_lines_past17};
 ghost use Rattle.typed.specs.bridge.Answers.{state_of, Streams, SameLoans};
 
-use crate::output::feed_outputs;
+use crate::output::{feed_outputs, feed_outputs_past17};
 use crate::pattern::feed_pattern;
 use crate::record::default_record;
 use crate::sink::Records;
@@ -47,6 +48,31 @@ pub fn feed_lines(s: &[u16], records: &mut Records<'_>) -> Option<usize>
     // no `for`, since what is left says whether there is one more
     while skip(s, at) < s.len() {
         at = feed_line(s, at, records)?;
+    }
+    Some(at)
+}
+
+// One line, past a 17.
+fn feed_line_past17(s: &[u16], at: usize, records: &mut Records<'_>) -> Option<usize>
+    requires { at ≤ length s.now }
+    ensures read { Streams s.now at result (map_read (λ l. feed_line_past17 l (state_of records.old)) (line_of (drop at s.now))) records.new }
+    ensures same_loans { SameLoans records.old records.new }
+{
+    let head = feed_head(s, at, records)?;
+    let arrow = word(s, head, b"==>")?;
+    let outputs = feed_outputs_past17(s, arrow, records)?;
+    behind(s, outputs, SEMICOLON)
+}
+
+// "A text is any number of lines.", past a 17
+pub fn feed_lines_past17(s: &[u16], records: &mut Records<'_>) -> Option<usize>
+    ensures read { Streams s.now 0 result (map_read (λ ls. feed_lines_past17 ls (state_of records.old)) (lines_of s.now)) records.new }
+    ensures same_loans { SameLoans records.old records.new }
+{
+    let mut at = 0;
+    // no `for`, since what is left says whether there is one more
+    while skip(s, at) < s.len() {
+        at = feed_line_past17(s, at, records)?;
     }
     Some(at)
 }

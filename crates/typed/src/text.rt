@@ -6,7 +6,7 @@ ghost use Rattle.typed.specs.Typed.{FromText};
 ghost use Rattle.typed.specs.bridge.Outcome.{text_records};
 ghost use Rattle.typed.specs.bridge.Answers.{Written};
 
-use crate::line::feed_lines;
+use crate::line::feed_lines_past17;
 use crate::sink::Records;
 use rules::layout::LOADED;
 use rules::load::finish_load;
@@ -19,7 +19,7 @@ fn survey(text: &[u16]) -> Result<usize, Refusal>
     let mut loaded = [0u16; LOADED];
     let mut nothing = [0u8; 1];
     let mut records = Records::new(&mut loaded, &mut nothing);
-    if feed_lines(text, &mut records).is_none() {
+    if feed_lines_past17(text, &mut records).is_none() {
         return Err(Refusal::Grammar);
     }
     let Records { sink, loaded, .. } = records;
@@ -36,7 +36,7 @@ fn write(text: &[u16], table: &mut [u8])
     ensures { Written text.now table.old table.new }
 {
     let mut loaded = [0u16; LOADED];
-    feed_lines(text, &mut Records::new(&mut loaded, table));
+    feed_lines_past17(text, &mut Records::new(&mut loaded, table));
 }
 
 // A text's table records at the start of the lent buffer, and their length in bytes; or the refusal, and nothing is written.

@@ -6,13 +6,14 @@ use mathlib.Core.List.{List, [], ◌∷◌, ◌++◌, append_assoc}
 use Prim.Native.Nat.{ℕ, zero, suc}
 use borrow.Author.Tests.{eq-eqb, ne_eqb}
 use lib.ListN.{length}
+use Rattle.lists.specs.Lists.{fold_left}
 use Rattle.expression.specs.Grammar.{Tree}
 use Rattle.expression.specs.bridge.Text.{Read, refused, got, map_read, is_comma, skip, first, behind, closed_by, joined, chain, chained, expression_of, one, behind_comma, one_item, items, bracketed}
 use Rattle.expression.proofs.Laws.Chains.{chained_step, chained_stop}
 use Rattle.expression.proofs.Laws.Folds.{through, cond_both, map_map, map_closed}
 use Rattle.expression.proofs.Laws.Listed.{item_shrinks}
 use Rattle.typed.specs.bridge.Reader.{then_read}
-use Rattle.typed.specs.bridge.Stream.{State, feed_tree, feed_outputs}
+use Rattle.typed.specs.bridge.Stream.{State}
 
 -- a list read behind others is put behind them
 module _ {A : Type 0} (p : ℕ → Bool) (item : List ℕ → Read (List A)) where
@@ -59,38 +60,40 @@ more_none : (t : List ℕ) → is_comma (first (skip t)) ≡ false → more t �
 unfolding more
 more_none t e = chained_stop behind_comma is_comma (one_item expression_of) item_shrinks [] t e
 
--- the expressions behind one that was fed, fed too
-abbrev pub left_more : State → List ℕ → Read State
-left_more st t = map_read (λ ts. feed_outputs ts st) (more t)
+-- how one expression is fed is any function of the state
+module _ (each : Tree → State → State) where
+  -- the expressions behind one that was fed, fed too
+  abbrev pub left_more : State → List ℕ → Read State
+  left_more st t = map_read (λ ts. fold_left each ts st) (more t)
 
--- the first expression fed, and then the others
-pub first_fed : (st : State) (t : List ℕ) → map_read (λ ts. feed_outputs ts st) (items expression_of t) ≡ then_read (map_read (λ a. feed_tree a st) (expression_of t)) left_more
-unfolding then_read map_read
-first_fed st t = ap (map_read (λ ts. feed_outputs ts st)) (items_first t) ∙ by (expression_of t)
-  where
-    by : (r : Read Tree) → map_read (λ ts. feed_outputs ts st) (then_read r (λ a r. map_read (λ x. a ∷ x) (more r))) ≡ then_read (map_read (λ a. feed_tree a st) r) left_more
-    by refused = refl
-    by (got a r) = map_map (λ ts. feed_outputs ts st) (λ x. a ∷ x) (more r)
+  -- the first expression fed, and then the others
+  pub first_fed : (st : State) (t : List ℕ) → map_read (λ ts. fold_left each ts st) (items expression_of t) ≡ then_read (map_read (λ a. each a st) (expression_of t)) left_more
+  unfolding then_read map_read
+  first_fed st t = ap (map_read (λ ts. fold_left each ts st)) (items_first t) ∙ by (expression_of t)
+    where
+      by : (r : Read Tree) → map_read (λ ts. fold_left each ts st) (then_read r (λ a r. map_read (λ x. a ∷ x) (more r))) ≡ then_read (map_read (λ a. each a st) r) left_more
+      by refused = refl
+      by (got a r) = map_map (λ ts. fold_left each ts st) (λ x. a ∷ x) (more r)
 
--- where a comma comes, and where none does
-pub comma_fed : (st : State) (t : List ℕ) → is_comma (first (skip t)) ≡ true → left_more st t ≡ then_read (map_read (λ a. feed_tree a st) (expression_of (behind (skip t)))) left_more
-comma_fed st t e = ap (map_read (λ ts. feed_outputs ts st)) (more_comma t e) ∙ first_fed st (behind (skip t))
+  -- where a comma comes, and where none does
+  pub comma_fed : (st : State) (t : List ℕ) → is_comma (first (skip t)) ≡ true → left_more st t ≡ then_read (map_read (λ a. each a st) (expression_of (behind (skip t)))) left_more
+  comma_fed st t e = ap (map_read (λ ts. fold_left each ts st)) (more_comma t e) ∙ first_fed st (behind (skip t))
 
-pub comma_none : (st : State) (t : List ℕ) → is_comma (first (skip t)) ≡ false → left_more st t ≡ got st t
-unfolding map_read
-comma_none st t e = ap (map_read (λ ts. feed_outputs ts st)) (more_none t e)
+  pub comma_none : (st : State) (t : List ℕ) → is_comma (first (skip t)) ≡ false → left_more st t ≡ got st t
+  unfolding map_read
+  comma_none st t e = ap (map_read (λ ts. fold_left each ts st)) (more_none t e)
 
--- the ways through brackets
-module _ (st : State) (t u : List ℕ) (e : skip t ≡ u) where
-  pub brackets_not : (first u ≡ 91 → ⊥) → map_read (λ ts. feed_outputs ts st) (bracketed expression_of t) ≡ refused
-  unfolding bracketed map_read
-  brackets_not n = rw (e, ne_eqb (first u) 91 n)
-
-  module _ (v : List ℕ) (y : first u ≡ 91) (f : skip (behind u) ≡ v) where
-    pub brackets_none : first v ≡ 93 → map_read (λ ts. feed_outputs ts st) (bracketed expression_of t) ≡ got st (behind v)
+  -- the ways through brackets
+  module _ (st : State) (t u : List ℕ) (e : skip t ≡ u) where
+    pub brackets_not : (first u ≡ 91 → ⊥) → map_read (λ ts. fold_left each ts st) (bracketed expression_of t) ≡ refused
     unfolding bracketed map_read
-    brackets_none z = rw (e, eq-eqb (first u) 91 y, f, eq-eqb (first v) 93 z)
+    brackets_not n = rw (e, ne_eqb (first u) 91 n)
 
-    pub brackets_some : (first v ≡ 93 → ⊥) → map_read (λ ts. feed_outputs ts st) (bracketed expression_of t) ≡ closed_by 93 (map_read (λ ts. feed_outputs ts st) (items expression_of (behind u)))
-    unfolding bracketed
-    brackets_some z = rw (e, eq-eqb (first u) 91 y, f, ne_eqb (first v) 93 z) (map_closed (λ ts. feed_outputs ts st) 93 (items expression_of (behind u)))
+    module _ (v : List ℕ) (y : first u ≡ 91) (f : skip (behind u) ≡ v) where
+      pub brackets_none : first v ≡ 93 → map_read (λ ts. fold_left each ts st) (bracketed expression_of t) ≡ got st (behind v)
+      unfolding bracketed map_read
+      brackets_none z = rw (e, eq-eqb (first u) 91 y, f, eq-eqb (first v) 93 z)
+
+      pub brackets_some : (first v ≡ 93 → ⊥) → map_read (λ ts. fold_left each ts st) (bracketed expression_of t) ≡ closed_by 93 (map_read (λ ts. fold_left each ts st) (items expression_of (behind u)))
+      unfolding bracketed
+      brackets_some z = rw (e, eq-eqb (first u) 91 y, f, ne_eqb (first v) 93 z) (map_closed (λ ts. fold_left each ts st) 93 (items expression_of (behind u)))

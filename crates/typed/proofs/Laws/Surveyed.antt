@@ -32,7 +32,7 @@ use Rattle.typed.specs.Records.{lines_within17, records}
 use Rattle.typed.specs.declared.sink.Records.{Records}
 use Rattle.typed.specs.bridge.Reader.{lines_of}
 use Rattle.typed.specs.bridge.Outcome.{checked_records, text_records}
-use Rattle.typed.specs.bridge.Stream.{State, feed_lines, beginning, nothing_read, weight, Held}
+use Rattle.typed.specs.bridge.Stream.{State, feed_lines_past17, beginning, nothing_read, weight, Held}
 use Rattle.typed.specs.bridge.Answers.{state_of, Streams, Written}
 use Rattle.typed.proofs.Laws.Bytes.{records_whole, records_bytes}
 use Rattle.typed.proofs.Laws.Lines.{lines_sound}
@@ -40,7 +40,7 @@ use Rattle.typed.proofs.Laws.Decided.{text_checked}
 use Rattle.typed.proofs.Laws.Proper.{text_proper}
 use Rattle.typed.proofs.Laws.Readings.{place_none, place_some}
 use Rattle.typed.proofs.Laws.Checked.{fed_all, check_of, checked_answer, checked_loaded, checked_count, checked_buffer, fold_lent}
-use Rattle.typed.proofs.Laws.Streamed.{Feeds, lines_note, lines_feed}
+use Rattle.typed.proofs.Laws.Streamed.{Feeds, lines_note, lines_feed_past17}
 
 -- what holds of every state on the way holds at the start
 pub start_ready : Held (accepted started) 0
@@ -55,32 +55,36 @@ pub record Surveyed (text buffer : List ℕ) (lent : ℕ) (s : State) : Type 0 w
   pub lines : List Line
   pub rest : List ℕ
   pub read : lines_of text ≡ Text.got lines rest
-  pub state : s ≡ feed_lines lines (nothing_read buffer lent)
+  pub state : s ≡ feed_lines_past17 lines (nothing_read buffer lent)
 
 -- an answer that is none, and one that is not
-none_is : {A : Type 0} (o : Option A) → is_some o ≡ false → o ≡ None
+pub none_is : {A : Type 0} (o : Option A) → is_some o ≡ false → o ≡ None
 none_is None e = refl
 none_is (Some x) e = let z : ◌≡◌ {A = ℕ} 1 0 = ap (λ b. cond b 1 0) e in absurd (omega arith)
 
-some_is : {A : Type 0} (o : Option A) → is_some o ≡ true → (x : A) × (o ≡ Some x)
+pub some_is : {A : Type 0} (o : Option A) → is_some o ≡ true → (x : A) × (o ≡ Some x)
 some_is None e = let z : ◌≡◌ {A = ℕ} 0 1 = ap (λ b. cond b 1 0) e in absurd (omega arith)
 some_is (Some x) e = (x, refl)
 
+-- a text whose lines are not read, whatever is made of them
+pub unread : (text : List ℕ) (f : List Line → State) → map_read f (lines_of text) ≡ Text.refused → text_records text ≡ refused 16
+unfolding text_records and_then map_read
+unread text f n = by (lines_of text) refl n
+  where
+    by : (d : Read (List Line)) → lines_of text ≡ d → map_read f d ≡ Text.refused → text_records text ≡ refused 16
+    by Text.refused q n = rw q
+    by (Text.got ls rest) q n = let z : ◌≡◌ {A = ℕ} 0 1 = cc in absurd (omega arith)
+
 module _ {text before : List ℕ} {lent at : ℕ} {first : State} {r : Option ℕ} (k : Records) (begins : first ≡ nothing_read before lent)
-    (x : Streams text at r (map_read (λ ls. feed_lines ls first) (lines_of text)) k) where
+    (x : Streams text at r (map_read (λ ls. feed_lines_past17 ls first) (lines_of text)) k) where
   -- "16: text outside this grammar"
   pub outside : is_some r ≡ false → text_records text ≡ refused 16
-  unfolding text_records and_then map_read
-  outside e = by (lines_of text) refl (place_none x (none_is r e))
-    where
-      by : (d : Read (List Line)) → lines_of text ≡ d → map_read (λ ls. feed_lines ls first) d ≡ Text.refused → text_records text ≡ refused 16
-      by Text.refused q n = rw q
-      by (Text.got ls rest) q n = let z : ◌≡◌ {A = ℕ} 0 1 = cc in absurd (omega arith)
+  outside e = unread text (λ ls. feed_lines_past17 ls first) (place_none x (none_is r e))
 
   pub surveyed : is_some r ≡ true → Surveyed text before lent (state_of k)
   surveyed e =
-      let m = map_got (λ ls. feed_lines ls first) (lines_of text) _ _ (place_some x (some_is r e).1).is in
-      record { lines = m.0; rest = _; read = m.1; state = sym m.2 ∙ ap (feed_lines m.0) begins }
+      let m = map_got (λ ls. feed_lines_past17 ls first) (lines_of text) _ _ (place_some x (some_is r e).1).is in
+      record { lines = m.0; rest = _; read = m.1; state = sym m.2 ∙ ap (feed_lines_past17 m.0) begins }
 
 module _ {text buffer : List ℕ} {lent : ℕ} {s : State} (x : Surveyed text buffer lent s) where
   abbrev bytes_of : List ℕ
@@ -110,8 +114,8 @@ module _ {text buffer : List ℕ} {lent : ℕ} {s : State} (x : Surveyed text bu
         by (refused n) p = absurd (accepted_not b n p)
         by (accepted t) p = accepted_same b bytes_of p
 
-    feeds : Feeds (feed_lines x.lines) bytes_of
-    feeds = lines_feed x.lines (sym noted ∙ e)
+    feeds : Feeds (feed_lines_past17 x.lines) bytes_of
+    feeds = lines_feed_past17 x.lines (sym noted ∙ e)
 
     held : s ≡ fed_all feeds.chunks buffer lent
     held = x.state ∙ feeds.fed (nothing_read buffer lent)
@@ -122,7 +126,7 @@ module _ {text buffer : List ℕ} {lent : ℕ} {s : State} (x : Surveyed text bu
     array : s.loaded ≡ (check_of bytes_of).loaded
     array = ap (λ t. t.loaded) held ∙ checked_loaded feeds.chunks feeds.eights buffer lent ∙ ap (λ b. (check_of b).loaded) feeds.joined
 
-    still_lent : s.lent ≡ lent
+    pub still_lent : s.lent ≡ lent
     still_lent = ap (λ t. t.lent) held ∙ fold_lent feeds.chunks (nothing_read buffer lent)
 
     module _ (reader : Reader) (a : s.check ≡ accepted reader) where
@@ -171,7 +175,7 @@ module _ {text buffer : List ℕ} {lent : ℕ} {s : State} (x : Surveyed text bu
               (bytes_of, records_checked ∙ e, counted reader a)
 
     -- the records of a text that is accepted
-    left : Characters text → (b : List ℕ) → text_records text ≡ accepted b → length b ≤ length buffer → s.buffer ≡ over b buffer
+    pub left : Characters text → (b : List ℕ) → text_records text ≡ accepted b → length b ≤ length buffer → s.buffer ≡ over b buffer
     left characters b q fits = by s.check refl
       where
         same : b ≡ bytes_of
@@ -183,7 +187,7 @@ module _ {text buffer : List ℕ} {lent : ℕ} {s : State} (x : Surveyed text bu
 
 -- what the second pass leaves: what is behind the loan, if that is the one that was lent
 pub written : {text before after : List ℕ} {lent at : ℕ} {first : State} {r : Option ℕ} (k : Records) → first ≡ nothing_read before lent →
-    Streams text at r (map_read (λ ls. feed_lines ls first) (lines_of text)) k → (k.buffer.ghost_name ≡ lent → after ≡ k.buffer.now) → Characters text → Written text before after
+    Streams text at r (map_read (λ ls. feed_lines_past17 ls first) (lines_of text)) k → (k.buffer.ghost_name ≡ lent → after ≡ k.buffer.now) → Characters text → Written text before after
 written {text} {before} {after} {lent} {at} {first} {r} k begins x back characters b q fits = by (is_some r) refl
   where
     on : (y : Surveyed text before lent (state_of k)) → (f : Bool) → k.sink.fine ≡ f → after ≡ over b before

@@ -14,8 +14,8 @@ use Rattle.expression.specs.Grammar.{Tree, fold}
 use Rattle.expression.specs.Parts.{Part, parts, is_zero}
 use Rattle.expression.specs.bridge.Text.{Read, refused, got, map_read}
 use Rattle.expression.proofs.Laws.Folds.{map_map, map_refused}
-use Rattle.typed.specs.Records.{constant, coefficients, within17}
-use Rattle.typed.specs.bridge.Stream.{State, feed, beyond17, feed_terms, feed_part, feed_tree}
+use Rattle.typed.specs.Records.{part_of, constant, coefficients, within17}
+use Rattle.typed.specs.bridge.Stream.{State, feed, beyond17, noted17, feed_terms, feed_part, feed_part_past17}
 
 pub no_term : (p : ℕ) (k : ℤ) (st : State) → k ≡ pos 0 → st ≡ feed_terms p (k ∷ []) st
 no_term p k st e = ap (λ z. feed_terms p (z ∷ []) st) (sym e)
@@ -50,19 +50,29 @@ module _ (p : Part) (st : State) where
   unfolding feed_part
   part_beyond e = rw e
 
-  part_within : within17 p ≡ true → feed_terms 0 (coefficients p) (feed (output_record (constant p)) st) ≡ feed_part p st
-  unfolding feed_part
-  part_within e = rw e
+  pub part_noted : within17 p ≡ false → noted17 st ≡ feed_part_past17 p st
+  unfolding feed_part_past17
+  part_noted e = rw e
+
+  part_within : {z : ℤ} {b : List ℕ} {begun end : State} → z ≡ constant p → b ≡ output_record z → begun ≡ feed b st → end ≡ feed_terms 0 (coefficients p) begun
+      → end ≡ feed_terms 0 (coefficients p) (feed (output_record (constant p)) st)
+  part_within e f g h = h ∙ ap (feed_terms 0 (coefficients p)) (g ∙ ap (λ b. feed b st) (f ∙ ap output_record e))
 
   pub part_fed : {z : ℤ} {b : List ℕ} {begun end : State} → within17 p ≡ true → z ≡ constant p → b ≡ output_record z → begun ≡ feed b st → end ≡ feed_terms 0 (coefficients p) begun
       → end ≡ feed_part p st
-  part_fed w e f g h = h ∙ ap (feed_terms 0 (coefficients p)) (g ∙ ap (λ b. feed b st) (f ∙ ap output_record e)) ∙ part_within w
+  unfolding feed_part
+  part_fed w e f g h = rw w (part_within e f g h)
 
--- a tree, by the part that was read
-module _ (st : State) (d : Read Tree) where
-  pub tree_refused : map_read (fold parts) d ≡ refused → refused ≡ map_read (λ t. feed_tree t st) d
-  tree_refused e = sym (map_refused (λ p. feed_part p st)) ∙ ap (map_read (λ p. feed_part p st)) (sym e) ∙ map_map (λ p. feed_part p st) (fold parts) d
+  pub part_fed_past17 : {z : ℤ} {b : List ℕ} {begun end : State} → within17 p ≡ true → z ≡ constant p → b ≡ output_record z → begun ≡ feed b st → end ≡ feed_terms 0 (coefficients p) begun
+      → end ≡ feed_part_past17 p st
+  unfolding feed_part_past17
+  part_fed_past17 w e f g h = rw w (part_within e f g h)
 
-  pub tree_fed : {p : Part} {rest : List ℕ} {end : State} → map_read (fold parts) d ≡ got p rest → end ≡ feed_part p st → got end rest ≡ map_read (λ t. feed_tree t st) d
+-- a tree, by the part that was read, however a part is fed
+module _ (feed_it : Part → State → State) (st : State) (d : Read Tree) where
+  pub tree_refused : map_read (fold parts) d ≡ refused → refused ≡ map_read (λ t. feed_it (part_of t) st) d
+  tree_refused e = sym (map_refused (λ p. feed_it p st)) ∙ ap (map_read (λ p. feed_it p st)) (sym e) ∙ map_map (λ p. feed_it p st) (fold parts) d
+
+  pub tree_fed : {p : Part} {rest : List ℕ} {end : State} → map_read (fold parts) d ≡ got p rest → end ≡ feed_it p st → got end rest ≡ map_read (λ t. feed_it (part_of t) st) d
   unfolding map_read
-  tree_fed {rest = rest} e f = ap (λ x. got x rest) f ∙ ap (map_read (λ p. feed_part p st)) (sym e) ∙ map_map (λ p. feed_part p st) (fold parts) d
+  tree_fed {rest = rest} e f = ap (λ x. got x rest) f ∙ ap (map_read (λ p. feed_it p st)) (sym e) ∙ map_map (λ p. feed_it p st) (fold parts) d

@@ -43,9 +43,12 @@ feed_to (accepted r) c s = let x = decode c in tested (admitted r x) c (if_taken
 unfoldable pub feed : List ℕ → State → State
 feed c s = feed_to s.check c s
 
--- an expression that 17 refuses
+-- an expression that 17 refuses: it ends the check, whatever that says, or it is noted, and the check goes on past it
 abbrev pub beyond17 : State → State
-beyond17 s = record { fine = false; check = s.check; loaded = s.loaded; count = s.count; buffer = s.buffer; lent = s.lent }
+beyond17 s = record { fine = s.fine; check = refused 17; loaded = s.loaded; count = s.count; buffer = s.buffer; lent = s.lent }
+
+abbrev pub noted17 : State → State
+noted17 s = record { fine = false; check = s.check; loaded = s.loaded; count = s.count; buffer = s.buffer; lent = s.lent }
 
 -- the terms of coefficients from a position on
 abbrev pub feed_terms : ℕ → List ℤ → State → State
@@ -59,6 +62,15 @@ feed_tree t s = feed_part (part_of t) s
 
 abbrev pub feed_outputs : List Tree → State → State
 feed_outputs ts s = fold_left feed_tree ts s
+
+unfoldable pub feed_part_past17 : Part → State → State
+feed_part_past17 p s = cond (within17 p) (feed_terms 0 (coefficients p) (feed (output_record (constant p)) s)) (noted17 s)
+
+abbrev pub feed_tree_past17 : Tree → State → State
+feed_tree_past17 t s = feed_part_past17 (part_of t) s
+
+abbrev pub feed_outputs_past17 : List Tree → State → State
+feed_outputs_past17 ts s = fold_left feed_tree_past17 ts s
 
 -- the ranges of position p, and those of the positions from p on
 abbrev pub feed_range : ℕ → Range → State → State
@@ -83,6 +95,12 @@ feed_line l s = feed_outputs l.outputs (feed_head l.head s)
 
 abbrev pub feed_lines : List Line → State → State
 feed_lines ls s = fold_left feed_line ls s
+
+abbrev pub feed_line_past17 : Line → State → State
+feed_line_past17 l s = feed_outputs_past17 l.outputs (feed_head l.head s)
+
+abbrev pub feed_lines_past17 : List Line → State → State
+feed_lines_past17 ls s = fold_left feed_line_past17 ls s
 
 -- nothing read yet, into an array that is lent, and into one of zeros
 abbrev pub beginning : List ℕ → List ℕ → ℕ → State

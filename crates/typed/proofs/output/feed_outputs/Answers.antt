@@ -5,7 +5,7 @@ use native.Mathlib.Omega.{arith}
 use lib.ListN.{drop}
 use Rattle.expression.specs.bridge.Text.{got, map_read, skip, closed_by, expression_of, items, bracketed}
 use Rattle.expression.proofs.Laws.Places.{closed_refused}
-use Rattle.typed.specs.bridge.Stream.{feed_outputs}
+use Rattle.typed.specs.bridge.Stream.{feed_tree, feed_outputs}
 use Rattle.typed.specs.bridge.Answers.{state_of}
 use Rattle.typed.proofs.Laws.Readings.{place_none, place_some, no_place, place, placed_as}
 use Rattle.typed.proofs.Laws.Commas.{brackets_not, brackets_none, brackets_some}
@@ -16,7 +16,7 @@ use Rattle.typed.proofs.output.feed_outputs.Goals.{After-feed_list}
 pub returns-in_err-inside-clause-read : goal.returns-in_err-inside-clause-read
 returns-in_err-inside-clause-read c =
     let a = c.args in
-    rw c.from_residual.ensures (no_place (brackets_not (state_of a.records.now) (drop a.at a.s.now) _ refl c.in_err-inside.ensures))
+    rw c.from_residual.ensures (no_place (brackets_not feed_tree (state_of a.records.now) (drop a.at a.s.now) _ refl c.in_err-inside.ensures))
 
 pub returns-in-Some-clause-read : goal.returns-in-Some-clause-read
 returns-in-Some-clause-read c =
@@ -28,7 +28,7 @@ returns-in-Some-clause-read c =
     place (record {
       from = omega arith;
       to = q.1.to;
-      is = brackets_none (state_of a.records.now) (drop a.at a.s.now) _ refl _ p.0 (ap skip (sym p.1.same)) q.0 ∙ ap (got (state_of a.records.now)) (sym q.1.same);
+      is = brackets_none feed_tree (state_of a.records.now) (drop a.at a.s.now) _ refl _ p.0 (ap skip (sym p.1.same)) q.0 ∙ ap (got (state_of a.records.now)) (sym q.1.same);
     })
 
 -- there is an expression, and what closes the list behind them
@@ -39,7 +39,7 @@ listed c =
     let a = c.args in
     let st = state_of a.records.now in
     let p = c.in_ok-inside.ensures in
-    brackets_some st (drop a.at a.s.now) _ refl _ p.0 (ap skip (sym p.1.same)) c.in_default.ensures
+    brackets_some feed_tree st (drop a.at a.s.now) _ refl _ p.0 (ap skip (sym p.1.same)) c.in_default.ensures
     ∙ ap (λ u. closed_by 93 (map_read (λ ts. feed_outputs ts st) (items expression_of u))) (sym p.1.same)
 
 pub returns-in_err-listed-clause-read : goal.returns-in_err-listed-clause-read

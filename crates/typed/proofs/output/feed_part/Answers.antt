@@ -1,4 +1,4 @@
--- The records of an output character are fed: its constant, then its terms; or refusal 17 is noted.
+-- The records of an output character are fed: its constant, then its terms; or refusal 17 ends the check.
 -- The part is within refusal 17's limits or not. Assumes nothing.
 use mathlib.Core.Path.{sym, ap, ◌∙◌}
 use lib.IntN.{pos}

@@ -15,33 +15,33 @@ use Rattle.typed.specs.bridge.Answers.{state_of}
 use Rattle.typed.proofs.Laws.Surveyed.{zeros_lent, Surveyed, outside, surveyed, beyond, unfit, end_fits, unfit_end, fit_end}
 use Rattle.typed.proofs.Laws.Passes.{size_refused, size_accepted}
 use Rattle.typed.proofs.text.survey.Goals as goal
-use Rattle.typed.proofs.text.survey.Goals.{After-feed_lines, Else-is_none, Else-not-sink}
+use Rattle.typed.proofs.text.survey.Goals.{After-feed_lines_past17, Else-is_none, Else-not-sink}
 
 -- where the lines have been fed: the text, and what is held
-abbrev text : After-feed_lines → List ℕ
+abbrev text : After-feed_lines_past17 → List ℕ
 text l = l.args.text.now
 
-abbrev held : After-feed_lines → State
-held l = state_of l.feed_lines.new.records
+abbrev held : After-feed_lines_past17 → State
+held l = state_of l.feed_lines_past17.new.records
 
-characters : (l : After-feed_lines) → Characters (text l)
+characters : (l : After-feed_lines_past17) → Characters (text l)
 characters l = each_known 65536 (text l) (λ i. omega (arith, l.shared_slice_known-1.given i))
 
 -- where 16 does not refuse them, and where 17 does not either
-lines : (e : Else-is_none) → (lent : ℕ) × Surveyed (text (goal.at.Else-is_none e).After-feed_lines) (0 ∷ []) lent (held (goal.at.Else-is_none e).After-feed_lines)
-lines e = (_, surveyed e.feed_lines.new.records (zeros_lent e.new-records.ensures.state) e.feed_lines.ensures.read (e.is_none.ensures ∙ ap not e.if-is_none.false))
+lines : (e : Else-is_none) → (lent : ℕ) × Surveyed (text (goal.at.Else-is_none e).After-feed_lines_past17) (0 ∷ []) lent (held (goal.at.Else-is_none e).After-feed_lines_past17)
+lines e = (_, surveyed e.feed_lines_past17.new.records (zeros_lent e.new-records.ensures.state) e.feed_lines_past17.ensures.read (e.is_none.ensures ∙ ap not e.if-is_none.false))
 
 abbrev read : Else-not-sink → Else-is_none
 read d = (goal.at.Else-not-sink d).Else-is_none
 
-abbrev fed : Else-not-sink → After-feed_lines
-fed d = (goal.at.Else-not-sink d).After-feed_lines
+abbrev fed : Else-not-sink → After-feed_lines_past17
+fed d = (goal.at.Else-not-sink d).After-feed_lines_past17
 
 fine : (d : Else-not-sink) → (held (fed d)).fine ≡ true
 fine d = not-false (held (fed d)).fine d.if-not-sink.false
 
 pub returns-then-is_none : goal.returns-then-is_none
-returns-then-is_none c = size_refused (outside c.feed_lines.new.records (zeros_lent c.new-records.ensures.state) c.feed_lines.ensures.read (c.is_none.ensures ∙ ap not c.if-is_none.true))
+returns-then-is_none c = size_refused (outside c.feed_lines_past17.new.records (zeros_lent c.new-records.ensures.state) c.feed_lines_past17.ensures.read (c.is_none.ensures ∙ ap not c.if-is_none.true))
 
 pub returns-then-not-sink : goal.returns-then-not-sink
 returns-then-not-sink c =

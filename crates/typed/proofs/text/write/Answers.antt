@@ -9,4 +9,4 @@ use Rattle.typed.proofs.text.write.Goals as goal
 pub returns : goal.returns
 returns c =
     let a = c.args in
-    written c.feed_lines.new.records (zeros_lent c.new.ensures.state) c.feed_lines.ensures.read (search rules) (each_known 65536 a.text.now (λ i. omega (arith, c.type_inv.text i)))
+    written c.feed_lines_past17.new.records (zeros_lent c.new.ensures.state) c.feed_lines_past17.ensures.read (search rules) (each_known 65536 a.text.now (λ i. omega (arith, c.type_inv.text i)))
