@@ -11,7 +11,8 @@ use Rattle.std.specs.Prelude.{Option, Some, None}
 use Rattle.lists.proofs.Laws.Options.{none_not}
 use Rattle.expression.specs.declared.part.Part as Code
 use Rattle.expression.specs.declared.symbol.Operation.{Operation}
-use Rattle.expression.specs.Parts.{Part, parts}
+use Rattle.expression.specs.declared.symbol.Operation.TheVariants.{Plus, Minus, Times}
+use Rattle.expression.specs.Parts.{Part, parts, plus_part, minus_part, times_part, both}
 use Rattle.expression.specs.bridge.Text.{Read, refused, got, map_read, skip, behind, closed, join, joined, chained, factor, sum, within}
 use Rattle.expression.specs.bridge.Answers.{kept, character, Follows, Operates, Answers}
 use Rattle.expression.proofs.Laws.Chains.{Shrinks, chained_step, chained_stop, chained_refused}
@@ -26,6 +27,25 @@ refuses {r = Some x} none e = absurd (none_not x (sym none))
 pub further : {T A : Type 0} {view : T → A} {s : List ℕ} {at j : ℕ} {d e : Read A} {r : Option (T × ℕ)} → at ≤ j → Answers view s j d r → d ≡ e → Answers view s at e r
 further {r = None} l a q = record { place = tt; same = a.same ∙ q }
 further {r = Some x} l a q = record { place = (le_trans l a.place.0, a.place.1); same = a.same ∙ q }
+
+-- refusal 17 in one of two parts
+pub join_left : (o : Operation) (b : Part) → None ≡ join parts (character o) None b
+unfolding plus_part minus_part times_part both
+join_left Plus b = refl
+join_left Minus b = refl
+join_left Times b = refl
+
+pub join_right : (o : Operation) (a : Part) → None ≡ join parts (character o) a None
+unfolding plus_part minus_part times_part both
+join_right Plus None = refl
+join_right Plus (Some x) = refl
+join_right Minus None = refl
+join_right Minus (Some x) = refl
+join_right Times None = refl
+join_right Times (Some x) = refl
+
+-- what two parts with an operator between them use
+pub ruleset joins = (join_left, join_right)
 
 -- what holds at the head of the readers' loops: the chain from what is read so far is the whole reading
 pub record Going (s : List ℕ) (at : ℕ) (p : ℕ → Bool) (item : List ℕ → Read Part) (whole : Read Part) (a : Option Code.Part) (next : ℕ) : Type 0 where
