@@ -1,5 +1,5 @@
-// Lines of a text: what stands before `==>`, its outputs and a semicolon; any number of lines. A refusal 17 ends the table check, or it is noted and
-// the check goes on past it, as a text's refusals want it.
+// Lines of a text: what stands before `==>`, its outputs and a semicolon; any number of lines. An expression that 17 refuses ends the table check;
+// the readers past 17 note it and go on.
 ghost use Rattle.std.specs.Prelude.{◌≤◌, length, drop};
 ghost use Rattle.expression.specs.bridge.Text.{map_read};
 ghost use Rattle.typed.specs.bridge.Reader.{head_of, line_of, lines_of};
@@ -52,7 +52,7 @@ pub fn feed_lines(s: &[u16], records: &mut Records<'_>) -> Option<usize>
     Some(at)
 }
 
-// One line, past a 17.
+// One line, past 17.
 fn feed_line_past17(s: &[u16], at: usize, records: &mut Records<'_>) -> Option<usize>
     requires { at ≤ length s.now }
     ensures read { Streams s.now at result (map_read (λ l. feed_line_past17 l (state_of records.old)) (line_of (drop at s.now))) records.new }
@@ -64,7 +64,7 @@ fn feed_line_past17(s: &[u16], at: usize, records: &mut Records<'_>) -> Option<u
     behind(s, outputs, SEMICOLON)
 }
 
-// "A text is any number of lines.", past a 17
+// "A text is any number of lines.", past 17.
 pub fn feed_lines_past17(s: &[u16], records: &mut Records<'_>) -> Option<usize>
     ensures read { Streams s.now 0 result (map_read (λ ls. feed_lines_past17 ls (state_of records.old)) (lines_of s.now)) records.new }
     ensures same_loans { SameLoans records.old records.new }

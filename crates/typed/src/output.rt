@@ -1,5 +1,5 @@
-// Output expressions in square brackets: each is read, brought to constant and coefficients, and its records are fed. Where refusal 17 is met, the
-// functions of the one name end the table check by it, and those past 17 note it and go on.
+// Output expressions in square brackets: each is read, brought to constant and coefficients, and its records are fed. An expression that 17 refuses
+// ends the table check; the readers past 17 note it and go on, so that what the lent array holds is the check of all records.
 ghost use Rattle.std.specs.Prelude.{true, ◌≡◌, ◌≤◌, Some, length, drop};
 ghost use Rattle.expression.specs.bridge.Text.{map_read, expression_of, items, bracketed};
 ghost use Rattle.expression.specs.bridge.Answers.{kept};
@@ -43,7 +43,7 @@ fn feed_terms(part: &Part, records: &mut Records<'_>)
     }
 }
 
-// The records of an output character: its constant, then its terms; or refusal 17 ends the check, whatever that says.
+// The records of an output character: its constant, then its terms; or refusal 17, by which the check ends, whatever it said.
 fn feed_part(part: &Option<Part>, records: &mut Records<'_>)
     ensures state { state_of records.new ≡ feed_part (kept part.now) (state_of records.old) }
     ensures same_loans { SameLoans records.old records.new }
@@ -110,7 +110,7 @@ fn feed_part_past17(part: &Option<Part>, records: &mut Records<'_>)
     }
 }
 
-// One expression, past a 17.
+// One expression, past 17.
 fn feed_expression_past17(s: &[u16], at: usize, records: &mut Records<'_>) -> Option<usize>
     requires { at ≤ length s.now }
     ensures read { Streams s.now at result (map_read (λ t. feed_tree_past17 t (state_of records.old)) (expression_of (drop at s.now))) records.new }
@@ -121,7 +121,7 @@ fn feed_expression_past17(s: &[u16], at: usize, records: &mut Records<'_>) -> Op
     Some(next)
 }
 
-// Expressions with commas between, past a 17.
+// Expressions with commas between, past 17.
 fn feed_list_past17(s: &[u16], at: usize, records: &mut Records<'_>) -> Option<usize>
     requires { at ≤ length s.now }
     ensures read { Streams s.now at result (map_read (λ ts. feed_outputs_past17 ts (state_of records.old)) (items expression_of (drop at s.now))) records.new }
@@ -135,7 +135,7 @@ fn feed_list_past17(s: &[u16], at: usize, records: &mut Records<'_>) -> Option<u
     Some(next)
 }
 
-// "output expressions in square brackets with commas between (or none, as `[]`)", past a 17
+// "output expressions in square brackets with commas between (or none, as `[]`)", past 17.
 pub fn feed_outputs_past17(s: &[u16], at: usize, records: &mut Records<'_>) -> Option<usize>
     requires { at ≤ length s.now }
     ensures read { Streams s.now at result (map_read (λ ts. feed_outputs_past17 ts (state_of records.old)) (bracketed expression_of (drop at s.now))) records.new }

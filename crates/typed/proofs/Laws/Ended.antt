@@ -33,7 +33,7 @@ use Rattle.typed.specs.bridge.Answers.{state_of, Streams, Written}
 use Rattle.typed.proofs.Laws.Lines.{lines_sound}
 use Rattle.typed.proofs.Laws.Decided.{text_checked}
 use Rattle.typed.proofs.Laws.Readings.{place_none, place_some}
-use Rattle.typed.proofs.Laws.Streamed.{lines_meet, lines_note}
+use Rattle.typed.proofs.Laws.Streamed.{lines_meet}
 use Rattle.typed.proofs.Laws.Surveyed as Past
 use Rattle.typed.proofs.Laws.Surveyed.{unread, none_is, some_is}
 
@@ -96,7 +96,7 @@ module _ {text buffer : List ℕ} {lent : ℕ} {s : State} (x : Surveyed text bu
     past = record { lines = x.lines; rest = x.rest; read = x.read; state = x.state ∙ lines_same x.lines e (nothing_read buffer lent) }
 
     unnoted : s.fine ≡ true
-    unnoted = ap (λ t. t.fine) past.state ∙ lines_note x.lines (nothing_read buffer lent) ∙ e
+    unnoted = Past.noted past ∙ e
 
     module _ (characters : Characters text) (reader : Reader) (a : s.check ≡ accepted reader) where
       pub end_fits : (reader.rules ≤ 32) × (gap reader ≡ false → 1 ≤ reader.rules → Flat s.loaded)

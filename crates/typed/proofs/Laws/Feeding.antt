@@ -76,13 +76,11 @@ module _ (s : State) (r : Reader) (h : Ready s) (e : s.check ≡ accepted r) whe
       let w = weight_small r t.0 in
       omega arith
 
-  -- what the check made of the record by itself, by its answer o
-  module _ (c : List ℕ) (long : length c ≡ 8) (bytes : Each (λ b. b < 256) c) {after : List ℕ} (o : Result Reader Refusal)
-      (p : outcome_of o ≡ (take_records (length c / 8) c r s.loaded).answer) (l : after ≡ (take_records (length c / 8) c r s.loaded).loaded) where
+  -- what the check made of the record x, by its answer o
+  module _ (c : List ℕ) (bytes : Each (λ b. b < 256) c) {x : Option Record} {after : List ℕ} (o : Result Reader Refusal)
+      (q : x ≡ decode c) (p : outcome_of o ≡ admitted r x) (l : after ≡ if_taken r x s.loaded) where
     same : tested (outcome_of o) c after s ≡ feed c s
-    same =
-        let one = one_record c r s.loaded long in
-        ap₂ (λ a l. tested a c l s) (p ∙ one.0) (l ∙ one.1) ∙ sym (feed_tested c s r e)
+    same = ap₂ (λ a l. tested a c l s) (p ∙ ap (admitted r) q) (l ∙ ap (λ y. if_taken r y s.loaded) q) ∙ sym (feed_tested c s r e)
 
     still : Ready (tested (outcome_of o) c after s)
     still = subst Ready (sym same) (feed_ready c s bytes h)
@@ -119,3 +117,24 @@ module _ (s : State) (r : Reader) (h : Ready s) (e : s.check ≡ accepted r) whe
         by : (o : Result Reader Refusal) → Ready (tested (outcome_of o) c after s) → Held (outcome_of o) s.count
         by (Ok r') k = record { reading = λ r'' z. let t = k.reading r'' z in let m = t.1 in (t.0, omega arith) }
         by (Err n) k = record { reading = λ r' z. absurd (accepted_not r' (number_of n) (sym z)) }
+
+  -- and of the record by itself
+  module _ (c : List ℕ) (long : length c ≡ 8) (bytes : Each (λ b. b < 256) c) {after : List ℕ} (o : Result Reader Refusal)
+      (p : outcome_of o ≡ (take_records (length c / 8) c r s.loaded).answer) (l : after ≡ (take_records (length c / 8) c r s.loaded).loaded) where
+    answer : outcome_of o ≡ admitted r (decode c)
+    answer = p ∙ (one_record c r s.loaded long).0
+
+    array : after ≡ if_taken r (decode c) s.loaded
+    array = l ∙ (one_record c r s.loaded long).1
+
+    pub one_taken_in : is_ok o ≡ true → record { fine = s.fine; check = outcome_of o; loaded = after; count = s.count + 8; buffer = put s.count c s.buffer; lent = s.lent } ≡ feed c s
+    one_taken_in = taken_in c bytes o refl answer array
+
+    pub one_taken_held : is_ok o ≡ true → Held (outcome_of o) (s.count + 8)
+    one_taken_held = taken_held c bytes o refl answer array
+
+    pub one_left_out : is_ok o ≡ false → record { fine = s.fine; check = outcome_of o; loaded = after; count = s.count; buffer = s.buffer; lent = s.lent } ≡ feed c s
+    one_left_out = left_out c bytes o refl answer array
+
+    pub one_held_still : Held (outcome_of o) s.count
+    one_held_still = held_still c bytes o refl answer array

@@ -93,7 +93,7 @@ module _ {text buffer : List ℕ} {lent : ℕ} {s : State} (x : Surveyed text bu
   typed : TypedText text x.lines
   typed = lines_sound text x.lines x.rest x.read
 
-  noted : s.fine ≡ lines_within17 x.lines
+  pub noted : s.fine ≡ lines_within17 x.lines
   noted = ap (λ t. t.fine) x.state ∙ lines_note x.lines (nothing_read buffer lent)
 
   -- an expression that 17 refuses

@@ -7,7 +7,7 @@ use Rattle.lists.specs.Lists.{Each}
 use Rattle.rules.specs.Answers.{outcome_of}
 use Rattle.rules.proofs.Laws.Loading.{each_known}
 use Rattle.typed.specs.bridge.Answers.{state_of}
-use Rattle.typed.proofs.Laws.Feeding.{feed_idle, count_small, taken_in, taken_held, left_out, held_still}
+use Rattle.typed.proofs.Laws.Feeding.{feed_idle, count_small, one_taken_in, one_taken_held, one_left_out, one_held_still}
 use Rattle.typed.proofs.sink.Records.feed.Goals as goal
 use Rattle.typed.proofs.sink.Records.feed.Goals.{In-Ok, After-load_records-self}
 
@@ -27,7 +27,7 @@ pub invariant_of-self : goal.invariant_of-self
 invariant_of-self c =
     let done = c.load_records-self.ensures in
     record {
-      ready = held_still (state_of c.args.self.now) c.in-Ok.reader c.args.self.now.sink.ready (ap outcome_of c.in-Ok.is)
+      ready = one_held_still (state_of c.args.self.now) c.in-Ok.reader c.args.self.now.sink.ready (ap outcome_of c.in-Ok.is)
           c.args.bytes.now c.told-bytes (bytes (goal.at.invariant_of-self c).In-Ok) c.load_records-self.result done.answer done.array;
     }
 
@@ -41,7 +41,7 @@ pub invariant_of-self-then-is_ok : goal.invariant_of-self-then-is_ok
 invariant_of-self-then-is_ok c =
     let done = c.load_records-self.ensures in
     record {
-      ready = taken_held (state_of c.args.self.now) c.in-Ok.reader c.args.self.now.sink.ready (ap outcome_of c.in-Ok.is)
+      ready = one_taken_held (state_of c.args.self.now) c.in-Ok.reader c.args.self.now.sink.ready (ap outcome_of c.in-Ok.is)
           c.args.bytes.now c.told-bytes (bytes (goal.at.invariant_of-self-then-is_ok c).In-Ok) c.load_records-self.result done.answer done.array
           (sym c.is_ok.ensures.value ∙ c.if-is_ok.true);
     }
@@ -49,13 +49,13 @@ invariant_of-self-then-is_ok c =
 pub returns-then-is_ok-clause-state : goal.returns-then-is_ok-clause-state
 returns-then-is_ok-clause-state c =
     let done = c.load_records-self.ensures in
-    rw c.put.ensures (taken_in (state_of c.args.self.now) c.in-Ok.reader c.args.self.now.sink.ready (ap outcome_of c.in-Ok.is)
+    rw c.put.ensures (one_taken_in (state_of c.args.self.now) c.in-Ok.reader c.args.self.now.sink.ready (ap outcome_of c.in-Ok.is)
     c.args.bytes.now c.told-bytes (bytes (goal.at.returns-then-is_ok-clause-state c).In-Ok) c.load_records-self.result done.answer done.array
     (sym c.is_ok.ensures.value ∙ c.if-is_ok.true))
 
 pub returns-else-is_ok-clause-state : goal.returns-else-is_ok-clause-state
 returns-else-is_ok-clause-state c =
     let done = c.load_records-self.ensures in
-    left_out (state_of c.args.self.now) c.in-Ok.reader c.args.self.now.sink.ready (ap outcome_of c.in-Ok.is)
+    one_left_out (state_of c.args.self.now) c.in-Ok.reader c.args.self.now.sink.ready (ap outcome_of c.in-Ok.is)
     c.args.bytes.now c.told-bytes (bytes (goal.at.returns-else-is_ok-clause-state c).In-Ok) c.load_records-self.result done.answer done.array
     (sym c.is_ok.ensures.value ∙ c.if-is_ok.false)
