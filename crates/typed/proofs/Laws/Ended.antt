@@ -1,6 +1,6 @@
 -- A text read through by a check that refusal 17 ends: what is then held says what is answered of the text, and which records it has.
 -- Where 17 meets no expression it is what a check that goes on past it holds, and else the check is refused by 17. Assumes nothing.
-use mathlib.Core.Bool.{Bool, true, false, ◌&&◌, cond}
+use mathlib.Core.Bool.{Bool, true, false, ◌&&◌}
 use mathlib.Core.List.{List, [], ◌∷◌}
 use Rattle.std.specs.Prelude.{Option, is_some}
 use mathlib.Core.Path.{◌≡◌, refl, sym, ap, ◌∙◌}
