@@ -13,7 +13,7 @@ use words::read::Machine;
 
 // The machine, the classes of the first characters, as many as there are places, and the default's mode.
 #[derive(Clone, Copy)]
-pub(crate) struct Prepared<'a> {
+pub struct Prepared<'a> {
     pub machine: Machine<'a>,
     pub classes: &'a [u16],
     pub mode: Mode,
@@ -23,7 +23,7 @@ pub(crate) struct Prepared<'a> {
 
 impl<'a> Prepared<'a> {
     // The class of a character, looked up where it is one of the first.
-    pub(crate) fn class_in(&self, c: u16) -> ClassNo
+    pub fn class_in(&self, c: u16) -> ClassNo
         ensures { result.0
             ≡ class_of (take (class_count self.now.machine.words.all.now) (drop classes_from self.now.machine.words.all.now)) c }
     {
@@ -36,7 +36,7 @@ impl<'a> Prepared<'a> {
 
     // The class of a character between two words. Most characters of a text lie in the last class, beyond every range, so where the class has to be
     // worked out, that one is tried first.
-    pub(crate) fn class_between(&self, c: u16) -> ClassNo
+    pub fn class_between(&self, c: u16) -> ClassNo
         ensures { result.0
             ≡ class_of (take (class_count self.now.machine.words.all.now) (drop classes_from self.now.machine.words.all.now)) c }
     {
@@ -84,7 +84,7 @@ fn paint_range(classes: &mut [u16], from: usize, to: usize, class: u16)
 }
 
 // The classes of the first `most` characters, class by class, since each is a range. The table has sixteen places more.
-pub(crate) fn fill_classes(machine: Machine<'_>, most: usize, classes: &mut [u16])
+pub fn fill_classes(machine: Machine<'_>, most: usize, classes: &mut [u16])
     requires { most + 16 ≤ length classes.old }
     ensures { (length classes.new ≡ length classes.old) × Classed machine.entry.words.all.now (take most classes.new) }
 {

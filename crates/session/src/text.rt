@@ -19,7 +19,7 @@ impl<'a> Text<'a> {
     }
 
     // "Unread characters come first from those given back, then from the piece": the unread part of those given back if not empty, else of the piece.
-    pub(crate) fn unread(&self, at: usize) -> &'a [u16]
+    pub fn unread(&self, at: usize) -> &'a [u16]
         requires { at ≤ length (whole self.now) }
         ensures { result.now ≡ unread self.now at }
     {
@@ -30,7 +30,7 @@ impl<'a> Text<'a> {
     }
 
     // Character `i` of the text.
-    pub(crate) fn character(&self, i: usize) -> u16
+    pub fn character(&self, i: usize) -> u16
         requires { i < length (whole self.now) }
         ensures { result ≡ get_or (whole self.now) i 0 }
     {
