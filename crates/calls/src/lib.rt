@@ -1,0 +1,5 @@
+// Tests alone: public functions that another crate can call, called once each, with values worked out by hand.
+#![tactic(auto)]
+
+#[cfg(test)]
+mod sessions;
