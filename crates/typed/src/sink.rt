@@ -8,8 +8,8 @@ use rules::load::load_records;
 use rules::reader::Reader;
 use rules::refusal::Refusal;
 
-// What is kept by value while a text is read: whether refusal 17 met nothing so far, the table check's summary or refusal, and the bytes of the
-// records that the check took (counted where they don't fit, too, so this is no length of the buffer).
+// What is kept by value while a text is read: whether no refusal 17 was noted so far; the table check's summary or refusal, 17 where that ended it;
+// and the bytes of the records that the check took (counted where they don't fit, too, so this is no length of the buffer).
 #[derive(Clone, Copy)]
 pub struct Sink {
     pub fine: bool,
@@ -56,7 +56,7 @@ impl<'a> Records<'a> {
         }
     }
 
-    // One record. A check that has refused takes no more. It stands by itself, since six readers call it, and each would take the stack for it.
+    // One record. A check that has refused takes no more. It stands by itself, since each reader that calls it would take the stack for it.
     #[inline(never)]
     pub fn feed(&mut self, bytes: &[u8; 8])
         ensures state { state_of self.new ≡ fed bytes.now (state_of self.old) }

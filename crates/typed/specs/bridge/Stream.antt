@@ -16,7 +16,7 @@ use Rattle.expression.specs.Parts.{Part}
 use Rattle.typed.specs.Grammar.{Pattern, Head, pattern, otherwise, Line}
 use Rattle.typed.specs.Records.{part_of, constant, coefficients, within17}
 
--- whether 17 met nothing so far; the table check of the records so far, and its array; the bytes of those that it took in, the buffer, and which loan
+-- whether no 17 was noted so far; the table check of the records so far, and its array; the bytes of those that it took in, the buffer, and which loan
 -- it is (no reader changes that)
 pub record State : Type 0 where
   pub fine : Bool
