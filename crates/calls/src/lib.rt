@@ -1,4 +1,4 @@
-// Tests alone: public functions that another crate can call, called once each, with values worked out by hand.
+// Tests alone: public functions that another crate can call, called here with values worked out by hand.
 #![tactic(auto)]
 
 #[cfg(test)]

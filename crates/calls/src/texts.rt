@@ -1,4 +1,5 @@
-// Typed texts: the readers that an expression which 17 refuses ends. What stood before it is in the buffer, what stands behind it is not.
+// Typed texts: an expression that 17 refuses ends the check, so that what stood before it is in the buffer and what stands behind it is not; past 17
+// that is there, too.
 use rules::layout::LOADED;
 use rules::refusal::Refusal;
 use typed::line::{feed_lines, feed_lines_past17};
